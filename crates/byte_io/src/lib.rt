@@ -1,0 +1,33 @@
+//! Sources and sinks of bytes.
+//!
+//! A device is seen as its bytes left or taken, where it tells them, and as a mark that
+//! `has_failed` answers, which is not set at first. `Ok(n)` moves the first `n` bytes, and at least
+//! one where a source has bytes left and the buffer has room. `Err` moves none and alone sets the
+//! mark, after which each read or write answers `Err`.
+//!
+//! The devices over memory say exactly what each call does, and can be told to fail at one call.
+//! The devices over a reader or a writer of the standard library tell no bytes, since no contract
+//! can say what a file or a terminal gives or takes.
+#![tactic(auto)]
+
+mod fault;
+mod mem_sink;
+mod mem_source;
+mod sink;
+mod source;
+mod std_sink;
+mod std_source;
+mod transfer;
+
+pub use fault::{DeviceFault, WriteFault};
+pub use mem_sink::MemSink;
+pub use mem_source::MemSource;
+pub use memory::OutOfMemory;
+pub use sink::Sink;
+pub use source::Source;
+pub use std_sink::StdSink;
+pub use std_source::StdSource;
+pub use transfer::{read_to, write_all};
+
+#[cfg(test)]
+mod tests;

@@ -1,0 +1,62 @@
+//! Moving many bytes from a source or to a sink.
+
+ghost use Rattle.std.specs.Prelude.{◌≡◌, ◌≤◌, ◌++◌, length, take, drop, true, false, IfOk, IfErr, OnOk, OnErr, IsErrOf};
+ghost use Rattle.byte_io.specs.Moved.{GivesBytes, GainsBytes, marks};
+
+use crate::fault::{DeviceFault, WriteFault};
+use crate::sink::Sink;
+use crate::source::Source;
+use std::alloc::Global;
+
+/// How many bytes are read at once.
+const CHUNK: usize = 8192;
+
+/// Reads until the device gives no more, or `most` bytes are there.
+///
+/// `Err(Broken)` says that the device failed in this call. `Err(OutOfMemory)` comes where memory
+/// for the bytes was refused, and from a device that found none, which is marked then. What was
+/// read before an error is lost.
+pub fn read_to<R: Source>(alloc: Global, input: &mut R, most: usize) -> Result<Vec<u8>, DeviceFault>
+    requires sound { R.failed input.old ≡ false }
+    ensures within { IfOk result (λ read. length read.items ≤ most) }
+    ensures bytes { R.tells input.old ≡ true → IfOk result (λ read. read.items ≡ take most (R.left input.old)) }
+    ensures rest { R.tells input.old ≡ true → OnOk result (R.left input.new ≡ drop most (R.left input.old)) }
+    ensures lost { R.tells input.old ≡ true → OnErr result (GivesBytes (R.left input.old) (R.left input.new) most) }
+    ensures telling { R.tells input.new ≡ R.tells input.old }
+    ensures unmarked { OnOk result (R.failed input.new ≡ false) }
+    ensures broken { IsErrOf result DeviceFault.Broken → R.failed input.new ≡ true }
+{
+    let mut all = Vec::new(alloc);
+    let mut chunk = [0u8; CHUNK];
+    while all.len() < most {
+        let window = (most - all.len()).min(CHUNK);
+        let n = input.read(&mut chunk[..window])?;
+        if n == 0 {
+            break;
+        }
+        all.extend_from_slice(&chunk[..n])?;
+    }
+    Ok(all)
+}
+
+/// Writes all of the bytes. On an error the device has taken the first of them, and not all.
+pub fn write_all<W: Sink>(out: &mut W, bytes: &[u8]) -> Result<(), WriteFault>
+    requires sound { W.failed out.old ≡ false }
+    ensures written { W.tells out.old ≡ true → OnOk result (W.taken out.new ≡ W.taken out.old ++ bytes.now) }
+    ensures part { W.tells out.old ≡ true → OnErr result (GainsBytes (W.taken out.old) (W.taken out.new) bytes.now) }
+    ensures telling { W.tells out.new ≡ W.tells out.old }
+    ensures unmarked { OnOk result (W.failed out.new ≡ false) }
+    ensures eager { W.takes_some out.new ≡ W.takes_some out.old }
+    ensures fault { IfErr result (λ e. W.failed out.new ≡ marks e) }
+    ensures took_nothing { IsErrOf result WriteFault.TookNothing → W.takes_some out.old ≡ false }
+{
+    let mut at = 0;
+    while at < bytes.len() {
+        let n = out.write(&bytes[at..])?;
+        if n == 0 {
+            return Err(WriteFault::TookNothing);
+        }
+        at += n;
+    }
+    Ok(())
+}

@@ -1,0 +1,53 @@
+//! Lists in the fields of commands, replies and logs.
+
+ghost use Rattle.std.specs.Prelude.{◌≡◌, ◌==◌, length};
+
+use std::marker::Model;
+
+/// A vector that contracts see as the list of its elements.
+///
+/// In a contract a `Vec` also has a capacity and an address; two values of this type are equal where their elements are.
+#[derive(Debug, Drop)]
+pub struct Items<T>(Vec<T>);
+
+impl<T> Model for Items<T> {
+    ghost use Rattle.std.specs.Prelude.{List};
+
+    ghost Value = { List T };
+
+    ghost view = { λ n. n.0.items };
+}
+
+impl<T> Items<T> {
+    /// Takes the vector over, without a copy.
+    pub fn new(items: Vec<T>) -> Items<T>
+        ensures { result ≡ items.items }
+    {
+        Items(items)
+    }
+
+    /// Gives the vector back, without a copy.
+    pub fn into_vec(self) -> Vec<T>
+        ensures { result.items ≡ self }
+    {
+        self.0
+    }
+
+    pub fn as_slice(&self) -> &[T]
+        ensures { result.now ≡ self.now }
+    {
+        self.0.as_slice()
+    }
+
+    pub fn len(&self) -> usize
+        ensures { result ≡ length self.now }
+    {
+        self.0.len()
+    }
+
+    pub fn is_empty(&self) -> bool
+        ensures { result ≡ (length self.now == 0) }
+    {
+        self.0.is_empty()
+    }
+}

@@ -1,0 +1,16 @@
+pub mod Blocks
+pub mod Steps
+pub mod Table
+pub mod Halves
+pub mod Settled
+pub mod Machine
+pub mod Calls
+pub mod EndOthers
+pub mod Outcomes
+pub mod Written
+pub mod WrittenNext
+pub mod MessageTests
+pub mod AllRead
+pub mod Pieces
+pub mod WrittenInTwo
+pub mod Makers

@@ -1,0 +1,302 @@
+//! One message.
+
+ghost use Rattle.std.specs.Prelude.{◌≡◌, ◌<◌, ℕ, [], ◌∷◌, ◌++◌, ◌+◌, length, vec_len, vec_capacity, slice_get, if◌then◌else◌, IfOk, OnOk, OnErr, IsTrue};
+ghost use Rattle.midi_wire.specs.Messages.{One, Two, IsMessage, is_message};
+ghost use Rattle.midi_wire.specs.Kinds.{kind_of, channel_number, is_base, with_one_data, with_two_data, channel_message};
+ghost use Rattle.midi_wire.specs.Writings.{status_of, tail_of};
+
+use crate::kind::{Kind, kind_of_status};
+use crate::status::is_message;
+use memory::OutOfMemory;
+use std::alloc::Global;
+use std::marker::Model;
+use std::rc::RcSlice;
+
+/// How a message is kept.
+#[derive(Drop)]
+enum Form {
+    Alone(u8),
+    WithOne { status: u8, first: u8 },
+    WithTwo { status: u8, first: u8, second: u8 },
+    Exclusive(RcSlice<u8>),
+}
+
+/// One message, seen as its full bytes: its status, its data, and F7 at the end of an exclusive message.
+///
+/// Each value is a whole message of the MIDI 1.0 Detailed Specification ("Messages"), with no more than 65,536 data bytes.
+#[derive(Drop)]
+pub struct Message {
+    form: Form,
+}
+
+impl Model for Message {
+    ghost use Rattle.std.specs.Prelude.{List, ℕ};
+
+    ghost Value = { List ℕ };
+
+    ghost use Rattle.midi_wire.specs.Parsing.{full_bytes};
+    ghost use Rattle.std.specs.Prelude.{IsTrue};
+    ghost use Rattle.midi_wire.specs.Messages.{is_message};
+
+    ghost view = { λ m. full_bytes m.form };
+
+    ghost invariant = { λ m. IsTrue (is_message (full_bytes m.form)) };
+}
+
+impl Message {
+    #[inline]
+    pub(crate) fn alone(status: u8) -> Message
+        requires { IsTrue (is_message (status ∷ [])) }
+        ensures { result ≡ status ∷ [] }
+    {
+        Message {
+            form: Form::Alone(status),
+        }
+    }
+
+    #[inline]
+    pub(crate) fn with_one(status: u8, first: u8) -> Message
+        requires { IsTrue (is_message (status ∷ first ∷ [])) }
+        ensures { result ≡ status ∷ first ∷ [] }
+    {
+        Message {
+            form: Form::WithOne { status, first },
+        }
+    }
+
+    #[inline]
+    pub(crate) fn with_two(status: u8, first: u8, second: u8) -> Message
+        requires { IsTrue (is_message (status ∷ first ∷ second ∷ [])) }
+        ensures { result ≡ status ∷ first ∷ second ∷ [] }
+    {
+        Message {
+            form: Form::WithTwo {
+                status,
+                first,
+                second,
+            },
+        }
+    }
+
+    pub(crate) fn exclusive(alloc: Global, payload: &[u8]) -> Result<Message, OutOfMemory>
+        requires { IsTrue (is_message (240 ∷ payload.now ++ 247 ∷ [])) }
+        ensures { IfOk result (λ m. m ≡ 240 ∷ payload.now ++ 247 ∷ []) }
+    {
+        Ok(Message {
+            form: Form::Exclusive(RcSlice::from_slice(alloc, payload)?),
+        })
+    }
+
+    /// The message of a channel with this kind, channel (0 to 15) and data (0 to 127), if there is one.
+    ///
+    /// A program change and a channel pressure have one data byte: `second` must be 0. The kinds of the system
+    /// messages have no channel, and give none (MIDI 1.0 Detailed Specification, "Channel Voice Messages").
+    pub fn channel(kind: Kind, channel: u8, first: u8, second: u8) -> Option<Message>
+        ensures { result ≡ channel_message kind channel first second }
+    {
+        match kind {
+            Kind::NoteOff => Message::voice_of_two(0x80, channel, first, second),
+            Kind::NoteOn => Message::voice_of_two(0x90, channel, first, second),
+            Kind::PolyPressure => Message::voice_of_two(0xA0, channel, first, second),
+            Kind::ControlChange => Message::voice_of_two(0xB0, channel, first, second),
+            Kind::ProgramChange => Message::voice_of_one(0xC0, channel, first, second),
+            Kind::ChannelPressure => Message::voice_of_one(0xD0, channel, first, second),
+            Kind::PitchBend => Message::voice_of_two(0xE0, channel, first, second),
+            Kind::SystemCommon | Kind::RealTime | Kind::Exclusive => None,
+        }
+    }
+
+    /// A channel message with one data byte.
+    fn voice_of_one(base: u8, channel: u8, first: u8, second: u8) -> Option<Message>
+        requires { IsTrue (is_base One base) }
+        ensures { result ≡ with_one_data base channel first second }
+    {
+        if channel < 16 && first < 0x80 && second == 0 {
+            return Some(Message::with_one(base + channel, first));
+        }
+        None
+    }
+
+    /// A channel message with two data bytes.
+    fn voice_of_two(base: u8, channel: u8, first: u8, second: u8) -> Option<Message>
+        requires { IsTrue (is_base Two base) }
+        ensures { result ≡ with_two_data base channel first second }
+    {
+        if channel < 16 && first < 0x80 && second < 0x80 {
+            return Some(Message::with_two(base + channel, first, second));
+        }
+        None
+    }
+
+    /// The message with these full bytes, where they are those of one message, from its status to its last byte.
+    ///
+    /// Memory is taken only for the data of an exclusive message.
+    pub fn from_bytes(alloc: Global, bytes: &[u8]) -> Result<Option<Message>, OutOfMemory>
+        ensures ok { IfOk result (λ found. found ≡ (if is_message bytes.now then Some bytes.now else None)) }
+        ensures err { OnErr result (IsTrue (is_message bytes.now)) }
+        ensures exclusive { OnErr result (kind_of bytes.now ≡ Kind.Exclusive) }
+    {
+        if !is_message(bytes) {
+            return Ok(None);
+        }
+        let status = bytes[0];
+        if status == 0xF0 {
+            let payload = &bytes[1..bytes.len() - 1];
+            return Ok(Some(Message::exclusive(alloc, payload)?));
+        }
+        Ok(Some(match bytes.len() {
+            1 => Message::alone(status),
+            2 => Message::with_one(status, bytes[1]),
+            _ => Message::with_two(status, bytes[1], bytes[2]),
+        }))
+    }
+
+    /// The same message once more. The data of an exclusive message is shared, not copied.
+    pub fn duplicate(&self) -> Result<Message, OutOfMemory>
+        ensures ok { IfOk result (λ m. m ≡ self.now) }
+        ensures exclusive { OnErr result (kind_of self.now ≡ Kind.Exclusive) }
+    {
+        let form = match &self.form {
+            Form::Alone(status) => Form::Alone(*status),
+            Form::WithOne { status, first } => Form::WithOne {
+                status: *status,
+                first: *first,
+            },
+            Form::WithTwo {
+                status,
+                first,
+                second,
+            } => Form::WithTwo {
+                status: *status,
+                first: *first,
+                second: *second,
+            },
+            Form::Exclusive(payload) => Form::Exclusive(payload.clone()?),
+        };
+        Ok(Message { form })
+    }
+
+    /// The kind, by the status.
+    pub fn kind(&self) -> Kind
+        ensures { result ≡ kind_of self.now }
+    {
+        kind_of_status(self.status())
+    }
+
+    /// The channel, 0 to 15, of a channel message; none of a system message.
+    pub fn channel_of(&self) -> Option<u8>
+        ensures { result ≡ channel_number self.now }
+    {
+        let status = self.status();
+        if status < 0xF0 {
+            Some(status % 16)
+        } else {
+            None
+        }
+    }
+
+    /// How many bytes it has, its status among them.
+    pub fn len(&self) -> usize
+        ensures { result ≡ length self.now }
+    {
+        match &self.form {
+            Form::Alone(_) => 1,
+            Form::WithOne { .. } => 2,
+            Form::WithTwo { .. } => 3,
+            Form::Exclusive(payload) => payload.len() + 2,
+        }
+    }
+
+    /// One of its full bytes: 0 is the status.
+    pub fn byte_at(&self, i: usize) -> Option<u8>
+        ensures { result ≡ slice_get self.now i }
+    {
+        match &self.form {
+            Form::Alone(status) => [*status].get(i).copied(),
+            Form::WithOne { status, first } => [*status, *first].get(i).copied(),
+            Form::WithTwo {
+                status,
+                first,
+                second,
+            } => [*status, *first, *second].get(i).copied(),
+            Form::Exclusive(payload) => exclusive_byte(payload.as_slice(), i),
+        }
+    }
+
+    /// The status, the first byte.
+    #[inline]
+    pub fn status(&self) -> u8
+        ensures value { result ≡ status_of self.now }
+        ensures message { IsMessage self.now }
+    {
+        match &self.form {
+            Form::Alone(status) => *status,
+            Form::WithOne { status, .. } => *status,
+            Form::WithTwo { status, .. } => *status,
+            Form::Exclusive(_) => 0xF0,
+        }
+    }
+
+    /// Appends the full bytes, status and all. Where there is no memory, nothing changes.
+    pub fn append_to(&self, out: &mut Vec<u8>) -> Result<(), OutOfMemory>
+        ensures ok { OnOk result (out.new.items ≡ out.old.items ++ self.now) }
+        ensures err { OnErr result (out.new.items ≡ out.old.items) }
+        ensures full { OnErr result (vec_capacity out.old < vec_len out.old + length self.now) }
+    {
+        match &self.form {
+            Form::Alone(status) => {
+                out.extend_from_slice(&[*status])?;
+            }
+            Form::WithOne { status, first } => {
+                out.extend_from_slice(&[*status, *first])?;
+            }
+            Form::WithTwo {
+                status,
+                first,
+                second,
+            } => {
+                out.extend_from_slice(&[*status, *first, *second])?;
+            }
+            Form::Exclusive(payload) => {
+                let data = payload.as_slice();
+                out.reserve(data.len() + 2)?;
+                out.push(0xF0).ok().unwrap();
+                out.extend_from_slice(data).ok().unwrap();
+                out.push(0xF7).ok().unwrap();
+            }
+        }
+        Ok(())
+    }
+
+    /// Appends what follows the status of a message that is not exclusive.
+    pub(crate) fn append_tail(&self, out: &mut Vec<u8>) -> Result<(), OutOfMemory>
+        requires { status_of self.now < 240 }
+        ensures ok { OnOk result (out.new.items ≡ out.old.items ++ tail_of self.now) }
+        ensures err { OnErr result (out.new.items ≡ out.old.items) }
+        ensures full { OnErr result (vec_capacity out.old < vec_len out.old + length (tail_of self.now)) }
+    {
+        match &self.form {
+            Form::Alone(_) | Form::Exclusive(_) => {}
+            Form::WithOne { first, .. } => {
+                out.extend_from_slice(&[*first])?;
+            }
+            Form::WithTwo { first, second, .. } => {
+                out.extend_from_slice(&[*first, *second])?;
+            }
+        }
+        Ok(())
+    }
+}
+
+/// One of the full bytes of an exclusive message with this data.
+fn exclusive_byte(payload: &[u8], i: usize) -> Option<u8>
+    ensures { result ≡ slice_get (240 ∷ payload.now ++ 247 ∷ []) i }
+{
+    if i == 0 {
+        return Some(0xF0);
+    }
+    if i == payload.len() + 1 {
+        return Some(0xF7);
+    }
+    payload.get(i - 1).copied()
+}

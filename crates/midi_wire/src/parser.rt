@@ -1,0 +1,225 @@
+//! A stream of bytes, read in any pieces.
+
+ghost use Rattle.std.specs.Prelude.{◌≡◌, ◌≤◌, ◌<◌, ℕ, [], ◌∷◌, ◌++◌, length, take, Bool, true, false, IsTrue, ◌↔◌, IfOk, OnOk, OnErr, IsErrOf};
+ghost use Rattle.midi_wire.specs.Messages.{begins};
+ghost use Rattle.midi_wire.specs.Readings.{reading, rest};
+ghost use Rattle.midi_wire.specs.Parsing.{waits, waits_for_two, GainsPrefix};
+
+use crate::fault::WireFault;
+use crate::message::Message;
+use crate::status::{MOST_DATA, wants_two};
+use memory::OutOfMemory;
+use std::alloc::Global;
+use std::marker::Model;
+
+/// What the last block of the stream waits for. A block is a status with the data up to the next status.
+#[derive(Clone, Copy, Drop)]
+enum LastBlock {
+    /// Nothing: data is passed over.
+    Idle,
+    /// One data byte or two, of which none has come.
+    Waiting { status: u8 },
+    /// The second of two data bytes.
+    Half { status: u8, first: u8 },
+    /// The status that ends an exclusive message, whose data stands in `payload`.
+    Collecting,
+    /// The same, but the message has too much data and is not given.
+    Overlong,
+}
+
+/// What of the stream so far still matters.
+#[derive(Drop)]
+struct Pending {
+    alloc: Global,
+    block: LastBlock,
+    payload: Vec<u8>,
+}
+
+impl Model for Pending {
+    ghost use Rattle.std.specs.Prelude.{List, ℕ};
+
+    ghost Value = { List ℕ };
+
+    ghost use Rattle.std.specs.Prelude.{IsTrue, ◌≤◌, length};
+    ghost use Rattle.midi_wire.specs.Messages.{most_data};
+    ghost use Rattle.midi_wire.specs.Parsing.{pending_bytes, is_sound};
+
+    ghost view = { λ p. pending_bytes p.block p.payload.items };
+
+    ghost invariant = { λ p. IsTrue (is_sound p.block p.payload.items) × (length p.payload.items ≤ most_data) };
+}
+
+impl Pending {
+    fn new(alloc: Global) -> Pending
+        ensures { result ≡ [] }
+    {
+        Pending {
+            alloc,
+            block: LastBlock::Idle,
+            payload: Vec::new(alloc),
+        }
+    }
+
+    /// Ends the last block, since a status is about to come.
+    #[inline]
+    fn end(&mut self, out: &mut Vec<Message>) -> Result<(), OutOfMemory>
+        requires { rest self.old ≡ self.old }
+        ensures told { OnOk result (out.new.items ≡ out.old.items ++ reading (self.old ++ 247 ∷ [])) }
+        ensures nothing { OnOk result (self.new ≡ []) }
+        ensures err { OnErr result (out.new.items ≡ out.old.items) }
+    {
+        if let LastBlock::Collecting = self.block {
+            let message = Message::exclusive(self.alloc, self.payload.as_slice())?;
+            out.push(message)?;
+        }
+        self.block = LastBlock::Idle;
+        Ok(())
+    }
+
+    /// Begins a block with this status.
+    #[inline]
+    fn begin(&mut self, status: u8, out: &mut Vec<Message>) -> Result<(), OutOfMemory>
+        requires idle { self.old ≡ [] }
+        requires high { 128 ≤ status }
+        requires low { status < 248 }
+        ensures told { OnOk result (out.new.items ≡ out.old.items ++ reading (status ∷ [])) }
+        ensures leaves { OnOk result (self.new ≡ rest (status ∷ [])) }
+        ensures err { OnErr result (out.new.items ≡ out.old.items) }
+    {
+        if status < 0xF0 {
+            self.block = LastBlock::Waiting { status };
+        } else if status == 0xF0 {
+            self.payload.clear();
+            self.block = LastBlock::Collecting;
+        } else if status < 0xF4 {
+            self.block = LastBlock::Waiting { status };
+        } else if status == 0xF6 {
+            out.push(Message::alone(status))?;
+        }
+        Ok(())
+    }
+
+    /// Takes a data byte, which joins the last block.
+    #[inline]
+    fn data(&mut self, byte: u8, out: &mut Vec<Message>) -> Result<(), OutOfMemory>
+        requires settled { rest self.old ≡ self.old }
+        requires low { byte < 128 }
+        ensures told { OnOk result (out.new.items ≡ out.old.items ++ reading (self.old ++ byte ∷ [])) }
+        ensures leaves { OnOk result (self.new ≡ rest (self.old ++ byte ∷ [])) }
+        ensures err { OnErr result (out.new.items ≡ out.old.items) }
+    {
+        match self.block {
+            LastBlock::Idle | LastBlock::Overlong => {}
+            LastBlock::Waiting { status } => {
+                if wants_two(status) {
+                    self.block = LastBlock::Half {
+                        status,
+                        first: byte,
+                    };
+                } else {
+                    out.push(Message::with_one(status, byte))?;
+                    if status >= 0xF0 {
+                        self.block = LastBlock::Idle;
+                    }
+                }
+            }
+            LastBlock::Half { status, first } => {
+                out.push(Message::with_two(status, first, byte))?;
+                if status >= 0xF0 {
+                    self.block = LastBlock::Idle;
+                } else {
+                    self.block = LastBlock::Waiting { status };
+                }
+            }
+            LastBlock::Collecting => {
+                if self.payload.len() < MOST_DATA {
+                    self.payload.push(byte)?;
+                } else {
+                    self.payload.clear();
+                    self.block = LastBlock::Overlong;
+                }
+            }
+        }
+        Ok(())
+    }
+
+    /// Takes the next byte.
+    #[inline]
+    fn take(&mut self, byte: u8, out: &mut Vec<Message>) -> Result<(), OutOfMemory>
+        requires { rest self.old ≡ self.old }
+        ensures told { OnOk result (out.new.items ≡ out.old.items ++ reading (self.old ++ byte ∷ [])) }
+        ensures leaves { OnOk result (self.new ≡ rest (self.old ++ byte ∷ [])) }
+        ensures err { OnErr result (GainsPrefix out.old.items out.new.items (reading (self.old ++ byte ∷ []))) }
+    {
+        if byte >= 0xF8 {
+            if byte != 0xF9 && byte != 0xFD {
+                out.push(Message::alone(byte))?;
+            }
+            return Ok(());
+        }
+        if byte >= 0x80 {
+            self.end(out)?;
+            return self.begin(byte, out);
+        }
+        self.data(byte, out)
+    }
+}
+
+/// Reads a stream of bytes in any pieces, seen as what of the stream so far still matters, and whether memory was refused.
+///
+/// It keeps running status ("Running Status"), gives real time messages where they stand, also inside other messages
+/// ("System Real Time Messages"), and ends an exclusive message at any other status ("System Exclusive Messages"). It
+/// holds the data of one exclusive message at most: data past 65,536 bytes takes no memory, and that message is not given.
+#[derive(Drop)]
+pub struct StreamParser {
+    pending: Pending,
+    failed: bool,
+}
+
+impl Model for StreamParser {
+    ghost use Rattle.std.specs.Prelude.{◌≡◌, false};
+    ghost use Rattle.midi_wire.specs.Parsing.{Parsing};
+    ghost use Rattle.midi_wire.specs.Readings.{rest};
+
+    ghost Value = { Parsing };
+
+    ghost view = { λ p. record { rest = p.pending; failed = p.failed } };
+
+    ghost invariant = { λ p. p.failed ≡ false → rest p.pending ≡ p.pending };
+}
+
+impl StreamParser {
+    /// A parser at the beginning of a stream.
+    pub fn new(alloc: Global) -> StreamParser
+        ensures { result ≡ record { rest = []; failed = false } }
+    {
+        StreamParser {
+            pending: Pending::new(alloc),
+            failed: false,
+        }
+    }
+
+    /// Takes the next piece of the stream, adds each message that is whole now to `out`, and answers their number.
+    ///
+    /// Memory is taken for the room in `out` and for exclusive messages. After `OutOfMemory` the first of the messages,
+    /// maybe none, have been added, and each later call answers `Failed`.
+    pub fn feed(&mut self, piece: &[u8], out: &mut Vec<Message>) -> Result<usize, WireFault>
+        ensures refused { IsErrOf result WireFault.Failed ↔ IsTrue self.old.failed }
+        ensures told { OnOk result (out.new.items ≡ out.old.items ++ reading (self.old.rest ++ piece.now)) }
+        ensures number { IfOk result (λ n. n ≡ length (reading (self.old.rest ++ piece.now))) }
+        ensures state { OnOk result (self.new ≡ record { rest = rest (self.old.rest ++ piece.now); failed = false }) }
+        ensures fails { OnErr result (self.new.failed ≡ true) }
+        ensures prefix { OnErr result (GainsPrefix out.old.items out.new.items (reading (self.old.rest ++ piece.now))) }
+    {
+        if self.failed {
+            return Err(WireFault::Failed);
+        }
+        let before = out.len();
+        self.failed = true;
+        for &byte in piece {
+            self.pending.take(byte, out)?;
+        }
+        self.failed = false;
+        Ok(out.len() - before)
+    }
+}

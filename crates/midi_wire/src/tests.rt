@@ -1,0 +1,197 @@
+//! Worked streams, each in one piece, byte by byte, and in every cut into two pieces.
+
+ghost use Rattle.std.specs.Prelude.{◌<◌};
+
+use crate::{Kind, Message, StreamParser, StreamWriter, WireFault};
+use memory::OutOfMemory;
+use std::alloc::Global;
+use std::process::Abort;
+use std::test::Fail;
+
+/// The full bytes of the messages. Each begins with a status, so the bytes tell where each begins.
+fn full_bytes(alloc: Global, messages: &[Message]) -> Result<Vec<u8>, OutOfMemory> {
+    let mut bytes = Vec::new(alloc);
+    for message in messages {
+        message.append_to(&mut bytes)?;
+    }
+    Ok(bytes)
+}
+
+/// The messages of pieces of this length, but for the last, which may be shorter.
+fn read_pieces(alloc: Global, stream: &[u8], length: usize) -> Result<Vec<Message>, WireFault>
+    requires { 0 < length }
+{
+    let mut parser = StreamParser::new(alloc);
+    let mut messages = Vec::new(alloc);
+    for piece in stream.chunks(length) {
+        parser.feed(piece, &mut messages)?;
+    }
+    Ok(messages)
+}
+
+/// The messages of two pieces.
+fn read_two(alloc: Global, front: &[u8], back: &[u8]) -> Result<Vec<Message>, WireFault> {
+    let mut parser = StreamParser::new(alloc);
+    let mut messages = Vec::new(alloc);
+    parser.feed(front, &mut messages)?;
+    parser.feed(back, &mut messages)?;
+    Ok(messages)
+}
+
+/// A stream has so many messages, with these full bytes, however it is cut.
+fn check_reading(
+    rt: &impl Abort,
+    alloc: Global,
+    stream: &[u8],
+    count: usize,
+    expected: &[u8],
+) -> Result<(), Fail> {
+    let single = read_pieces(alloc, stream, 1)?;
+    assert_eq!(rt; single.len(), count);
+    assert_eq!(rt; full_bytes(alloc, single.as_slice())?.as_slice(), expected);
+    for cut in 0..=stream.len() {
+        let (front, back) = stream.split_at(cut);
+        let messages = read_two(alloc, front, back)?;
+        assert_eq!(rt; messages.len(), count);
+        assert_eq!(rt;
+            full_bytes(alloc, messages.as_slice())?.as_slice(),
+            expected
+        );
+    }
+    Ok(())
+}
+
+/// The messages of a stream are written as these bytes.
+fn check_writing(
+    rt: &impl Abort,
+    alloc: Global,
+    stream: &[u8],
+    expected: &[u8],
+) -> Result<(), Fail> {
+    let messages = read_two(alloc, stream, &[])?;
+    let mut writer = StreamWriter::new();
+    let mut bytes = Vec::new(alloc);
+    for message in messages.as_slice() {
+        writer.write(message, &mut bytes)?;
+    }
+    assert_eq!(rt; bytes.as_slice(), expected);
+    Ok(())
+}
+
+#[test]
+fn running_status_with_real_time(rt: HostRuntime) -> Result<(), Fail> {
+    let stream = [0x90, 0x3C, 0x40, 0xF8, 0x3E, 0xF8, 0x40];
+    let expected = [0x90, 0x3C, 0x40, 0xF8, 0xF8, 0x90, 0x3E, 0x40];
+    check_reading(&rt, rt.alloc(), &stream, 4, &expected)?;
+    let written = [0x90, 0x3C, 0x40, 0xF8, 0xF8, 0x3E, 0x40];
+    check_writing(&rt, rt.alloc(), &stream, &written)
+}
+
+#[test]
+fn real_time_inside_exclusive(rt: HostRuntime) -> Result<(), Fail> {
+    let stream = [0xF0, 0x7D, 0x01, 0xFE, 0x02, 0xF7];
+    let expected = [0xFE, 0xF0, 0x7D, 0x01, 0x02, 0xF7];
+    check_reading(&rt, rt.alloc(), &stream, 2, &expected)
+}
+
+#[test]
+fn status_ends_exclusive(rt: HostRuntime) -> Result<(), Fail> {
+    let stream = [0xF0, 0x7D, 0x01, 0x90, 0x3C, 0x40];
+    let expected = [0xF0, 0x7D, 0x01, 0xF7, 0x90, 0x3C, 0x40];
+    check_reading(&rt, rt.alloc(), &stream, 2, &expected)
+}
+
+#[test]
+fn tune_request_ends_running_status(rt: HostRuntime) -> Result<(), Fail> {
+    let stream = [0x90, 0x3C, 0x40, 0xF6, 0x3C, 0x40];
+    check_reading(&rt, rt.alloc(), &stream, 2, &[0x90, 0x3C, 0x40, 0xF6])?;
+    let repeated = [0x90, 0x3C, 0x40, 0xF6, 0x90, 0x3C, 0x40];
+    check_writing(&rt, rt.alloc(), &repeated, &repeated)
+}
+
+#[test]
+fn undefined_status_ends_running_status(rt: HostRuntime) -> Result<(), Fail> {
+    let stream = [0x90, 0x3C, 0x40, 0xF4, 0x3C, 0x40];
+    check_reading(&rt, rt.alloc(), &stream, 1, &[0x90, 0x3C, 0x40])
+}
+
+#[test]
+fn two_statuses_are_written(rt: HostRuntime) -> Result<(), Fail> {
+    let stream = [0xB0, 0x07, 0x7F, 0x90, 0x3C, 0x40];
+    check_writing(&rt, rt.alloc(), &stream, &stream)
+}
+
+#[test]
+fn exclusive_bound(rt: HostRuntime) -> Result<(), Fail> {
+    let mut parser = StreamParser::new(rt.alloc());
+    let mut messages = Vec::new(rt.alloc());
+    let data = [0x01; 4096];
+    parser.feed(&[0xF0], &mut messages)?;
+    for _part in 0..16 {
+        parser.feed(&data, &mut messages)?;
+    }
+    parser.feed(&[0xF7], &mut messages)?;
+    assert_eq!(rt; messages.len(), 1);
+    assert_eq!(rt; full_bytes(rt.alloc(), messages.as_slice())?.len(), 65538);
+    parser.feed(&[0xF0, 0x01], &mut messages)?;
+    for _part in 0..16 {
+        parser.feed(&data, &mut messages)?;
+    }
+    parser.feed(&[0xF7], &mut messages)?;
+    assert_eq!(rt; messages.len(), 1);
+    Ok(())
+}
+
+#[test]
+fn channel_messages(rt: HostRuntime) -> Result<(), Fail> {
+    let bend = Message::channel(Kind::PitchBend, 5, 0x00, 0x40).ok_or("a message")?;
+    assert_eq!(rt; bend.kind(), Kind::PitchBend);
+    assert_eq!(rt; bend.status(), 0xE5);
+    assert_eq!(rt; bend.channel_of(), Some(5));
+    assert_eq!(rt; bend.len(), 3);
+    assert_eq!(rt; bend.byte_at(2), Some(0x40));
+    assert_eq!(rt; bend.byte_at(3), None);
+    let program = Message::channel(Kind::ProgramChange, 15, 0x7F, 0).ok_or("a message")?;
+    assert_eq!(rt; program.status(), 0xCF);
+    assert_eq!(rt; program.len(), 2);
+    assert!(rt; Message::channel(Kind::ProgramChange, 0, 1, 1).is_none());
+    assert!(rt; Message::channel(Kind::NoteOn, 16, 0x3C, 0x40).is_none());
+    assert!(rt; Message::channel(Kind::NoteOn, 0, 0x80, 0x40).is_none());
+    assert!(rt; Message::channel(Kind::RealTime, 0, 0, 0).is_none());
+    Ok(())
+}
+
+#[test]
+fn messages_from_bytes(rt: HostRuntime) -> Result<(), Fail> {
+    let song = Message::from_bytes(rt.alloc(), &[0xF2, 0x10, 0x01])?.ok_or("a message")?;
+    assert_eq!(rt; song.kind(), Kind::SystemCommon);
+    assert_eq!(rt; song.channel_of(), None);
+    let bytes = [0xF0, 0x7E, 0x7F, 0x06, 0x01, 0xF7];
+    let inquiry = Message::from_bytes(rt.alloc(), &bytes)?.ok_or("a message")?;
+    let copy = inquiry.duplicate()?;
+    assert_eq!(rt; copy.kind(), Kind::Exclusive);
+    assert_eq!(rt; copy.byte_at(5), Some(0xF7));
+    assert_eq!(rt;
+        full_bytes(rt.alloc(), &[copy])?.as_slice(),
+        bytes.as_slice()
+    );
+    assert!(rt; Message::from_bytes(rt.alloc(), &[0x90, 0x3C])?.is_none());
+    assert!(rt; Message::from_bytes(rt.alloc(), &[0xF6, 0x00])?.is_none());
+    assert!(rt; Message::from_bytes(rt.alloc(), &[0xF4])?.is_none());
+    assert!(rt; Message::from_bytes(rt.alloc(), &[0xF0, 0x7E])?.is_none());
+    Ok(())
+}
+
+/// Where memory is refused, the parser answers that it has failed from then on.
+#[test]
+fn refused_growth(rt: HostRuntime) {
+    let mut parser = StreamParser::new(rt.alloc());
+    let mut messages = Vec::new(rt.alloc());
+    match parser.feed(&[0xF0, 0x7D, 0xF7, 0xFE], &mut messages) {
+        Ok(count) => assert_eq!(rt; count, 2),
+        Err(fault) => {
+            assert_eq!(rt; fault, WireFault::OutOfMemory);
+            assert_eq!(rt; parser.feed(&[], &mut messages), Err(WireFault::Failed));
+        }
+    }
+}

@@ -1,0 +1,6 @@
+pub mod Trees
+pub mod Outcomes
+pub mod Ports
+pub mod Arms
+pub mod Sending
+pub mod Logs

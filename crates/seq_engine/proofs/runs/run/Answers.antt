@@ -1,0 +1,67 @@
+use Rattle.std.proofs.Common.{◌≡◌, ℕ, ◌+◌, ◌≤◌, ◌++◌, List, map, false, take, drop, get_or, [], ◌∷◌, ap, sym, ◌∙◌, arith}
+use Rattle.seq_state.specs.declared.input.Input.{Input}
+use Rattle.seq_state.specs.declared.log.Delivery.{Delivery}
+use Rattle.seq_state.specs.declared.log.LogEntry.{LogEntry}
+use Rattle.seq_state.specs.declared.log.LogEntry.TheVariants.{Delivered, Replied}
+use Rattle.seq_state.specs.State.{State, start}
+use Rattle.seq_state.specs.Step.{step, settle, state_after, log_from, plain}
+use Rattle.seq_state.specs.Circle.{view}
+use Rattle.seq_state.proofs.Kin.{isolation_law}
+use Rattle.seq_engine.specs.Seen.{Seen}
+use Rattle.seq_engine.proofs.Logs.{moment_after, moment_more, next_in_time, end_in_time, state_more, told_more, told_all}
+use Rattle.seq_engine.proofs.runs.run.Goals as goal
+
+pub step-requires-clause-in_time : goal.step-requires-clause-in_time
+step-requires-clause-in_time c =
+    let inputs = c.args.inputs.now in
+    let i = c.loop-index.index in
+    let x = c.index-inputs-index.result in
+    let stands : c.loop-index.engine.moment ≡ moment_after 0 (take i inputs) = ap (λ (e : Seen). e.moment) c.loop-index.invariant.stands in
+    let is : x.moment ≡ (get_or inputs i x).moment = ap (λ (y : Input). y.moment) c.index-inputs-index.is in
+    let in_time : moment_after 0 (take i inputs) ≤ (get_or inputs i x).moment = next_in_time inputs c.args.until i x c.requires c.loop-index-test.true in
+    omega arith
+
+pub loop-index-preserved : goal.loop-index-preserved
+loop-index-preserved c =
+    let inputs = c.args.inputs.now in
+    let i = c.loop-index.index in
+    let x = c.index-inputs-index.result in
+    let y : Input = get_or inputs i x in
+    let was = c.loop-index.invariant.stands in
+    let s : State = state_after start (take i inputs) in
+    let more : state_after start (take (i + 1) inputs) ≡ (step s y).state = state_more inputs i x c.loop-index-test.true in
+    let seen : State → ℕ → Seen = λ t m. record { state = t; moment = m; steps = i + 1; failed = false } in
+    let entry : Input → List LogEntry = λ z. c.loop-index.entries.items ++ map Delivered c.in_ok-out.out.delivered ++ Replied i z.moment z.actor c.in_ok-out.out.reply ∷ [] in
+    record {
+      stands =
+          c.in_ok-out.ensures.state
+          ∙ ap (λ (e : Seen). record { state = (step e.state x).state; moment = x.moment; steps = e.steps + 1; failed = false }) was
+          ∙ ap (λ (z : Input). seen (step s z).state z.moment) c.index-inputs-index.is
+          ∙ ap (λ t. seen t y.moment) (sym more)
+          ∙ ap (seen (state_after start (take (i + 1) inputs))) (sym (moment_more inputs i x c.loop-index-test.true));
+      told =
+          ap (λ (t : State). c.add_step.new.entries.items ++ log_from t (i + 1) (drop (i + 1) inputs) c.args.until) more
+          ∙ told_more s inputs c.args.until i x c.loop-index-test.true c.loop-index.entries.items c.add_step.new.entries.items c.in_ok-out.out.delivered c.in_ok-out.out.reply c.loop-index.invariant.told
+          (c.in_ok-out.ensures.delivered ∙ ap (λ (e : Seen). (step e.state x).delivered) was ∙ ap (λ (z : Input). (step s z).delivered) c.index-inputs-index.is)
+          (c.in_ok-out.ensures.reply ∙ ap (λ (e : Seen). (step e.state x).reply) was ∙ ap (λ (z : Input). (step s z).reply) c.index-inputs-index.is)
+          (c.in_ok-add_step.ensures ∙ ap entry c.index-inputs-index.is);
+    }
+
+pub settle-requires : goal.settle-requires
+settle-requires c =
+    let inputs = c.args.inputs.now in
+    let i = c.loop-index.index in
+    let stands : c.loop-index.engine.moment ≡ moment_after 0 (take i inputs) = ap (λ (e : Seen). e.moment) c.loop-index.invariant.stands in
+    let in_time : moment_after 0 (take i inputs) ≤ c.args.until = end_in_time inputs c.args.until i c.requires c.loop-index-test.false in
+    omega arith
+
+pub returns-clause-isolated : goal.returns-clause-isolated
+returns-clause-isolated c = λ owner member closed.
+    let inputs = c.args.inputs.now in
+    let i = c.loop-index in
+    let s : State = state_after start (take i.index inputs) in
+    let whole : c.new.result ≡ plain inputs c.args.until =
+    c.new.ensures ∙ c.in_ok-add_deliveries.ensures
+    ∙ ap (λ (ds : List Delivery). i.entries.items ++ map Delivered ds) (c.in_ok-delivered.ensures.delivered ∙ ap (λ (e : Seen). (settle e.state c.args.until).delivered) i.invariant.stands)
+    ∙ told_all s inputs c.args.until i.index i.entries.items c.loop-index-test.false i.invariant.told in
+    ap (view owner member inputs) whole ∙ isolation_law owner member inputs c.args.until c.requires closed

@@ -1,0 +1,20 @@
+//! The sequencer: one step for each input, and the run of a whole list.
+//!
+//! Every contract here is an equation with the definitions of `seq_state`.
+#![tactic(auto)]
+
+mod clients;
+mod engine;
+mod fault;
+mod patchbay;
+mod port;
+mod refusals;
+mod runs;
+
+pub use engine::Engine;
+pub use fault::EngineFault;
+pub use memory::{Items, OutOfMemory};
+pub use patchbay::StepOut;
+pub use node_table::{Addr, Caps, ClientId, FilterNo, Node, PortAddr, PortNo};
+pub use runs::{RunLog, run};
+pub use seq_state::{Command, Delivery, Edge, Input, LogEntry, Refusal, Reply};

@@ -1,0 +1,230 @@
+//! The commands, each on the clients and their subscriptions.
+
+ghost use Rattle.std.specs.Prelude.{◌≡◌, [], ◌++◌, map, None, OnOk, IfOk, option_to_list};
+ghost use Rattle.seq_state.specs.State.{start};
+ghost use Rattle.seq_state.specs.Step.{port_addr, delivery, copies, sent, refusal_of, command_step};
+
+use crate::clients::Clients;
+use crate::refusals::{refusal, same};
+use memory::{Items, OutOfMemory};
+use midi_wire::Message;
+use node_table::{Addr, Caps, ClientId, Node, PortAddr, PortNo};
+use seq_state::{Command, Delivery, Edge, Reply};
+use std::alloc::Global;
+use std::marker::Model;
+
+/// What one input gives.
+#[derive(Drop)]
+pub struct StepOut {
+    pub reply: Reply,
+    /// What came to ports on the way to the moment of the input, and then what the command sent.
+    pub delivered: Items<Delivery>,
+}
+
+/// Whose turn it is, and when.
+#[derive(Clone, Copy)]
+pub(crate) struct Turn {
+    pub(crate) moment: u64,
+    pub(crate) actor: ClientId,
+}
+
+/// The clients and the subscriptions, oldest first.
+#[derive(Drop)]
+pub(crate) struct Patchbay {
+    alloc: Global,
+    clients: Clients,
+    edges: Vec<Edge>,
+}
+
+impl Model for Patchbay {
+    ghost use Rattle.seq_state.specs.State.{State, coded_state};
+
+    ghost Value = { State };
+
+    ghost coded = { coded_state };
+
+    ghost view = { λ p. record { clients = p.clients; edges = p.edges.items } };
+}
+
+impl Patchbay {
+    ghost use Rattle.seq_engine.specs.Turns.{Gives, IsAnswer};
+
+    pub(crate) fn new(alloc: Global) -> Patchbay
+        ensures { result ≡ start }
+    {
+        Patchbay {
+            alloc,
+            clients: Clients::new(alloc),
+            edges: Vec::new(alloc),
+        }
+    }
+
+    /// Carries a command out, or refuses it.
+    pub(crate) fn command(&mut self, turn: Turn, command: &Command) -> Result<StepOut, OutOfMemory>
+        ensures { Gives result self.new (command_step self.old turn.moment turn.actor command.now) }
+    {
+        if let Some(refusal) = refusal(&self.clients, self.edges.as_slice(), turn.actor, command) {
+            return Ok(self.answer(Reply::Refused(refusal.number())));
+        }
+        self.carry_out(turn, command)
+    }
+
+    fn carry_out(&mut self, turn: Turn, command: &Command) -> Result<StepOut, OutOfMemory>
+        requires { refusal_of self.old turn.actor command.now ≡ None }
+        ensures { IfOk result (λ out. IsAnswer out self.new (command_step self.old turn.moment turn.actor command.now)) }
+    {
+        match command {
+            Command::Open {
+                name,
+                in_size,
+                out_size,
+            } => self.open(turn, name.as_slice(), *in_size, *out_size),
+            Command::CreatePort { port, name, caps } => {
+                self.create_port(turn, *port, name.as_slice(), *caps)
+            }
+            Command::Connect { source, target } => self.connect(turn, *source, *target),
+            Command::Bytes { port, bytes } => self.bytes(turn, *port, bytes.as_slice()),
+            Command::Send { port, message } => self.send(turn, *port, message),
+        }
+    }
+
+    fn open(
+        &mut self,
+        turn: Turn,
+        name: &[u8],
+        in_size: u32,
+        out_size: u32,
+    ) -> Result<StepOut, OutOfMemory>
+        requires { refusal_of self.old turn.actor (Command.Open name.now in_size out_size) ≡ None }
+        ensures { IfOk result (λ out. IsAnswer out self.new (command_step self.old turn.moment turn.actor (Command.Open name.now in_size out_size))) }
+    {
+        self.clients.open(turn.actor, name, in_size, out_size)?;
+        Ok(self.answer(Reply::Done))
+    }
+
+    fn create_port(
+        &mut self,
+        turn: Turn,
+        port: PortNo,
+        name: &[u8],
+        caps: Caps,
+    ) -> Result<StepOut, OutOfMemory>
+        requires { refusal_of self.old turn.actor (Command.CreatePort port name.now caps) ≡ None }
+        ensures { IfOk result (λ out. IsAnswer out self.new (command_step self.old turn.moment turn.actor (Command.CreatePort port name.now caps))) }
+    {
+        self.clients.create_port(turn.actor, port, name, caps)?;
+        Ok(self.answer(Reply::Done))
+    }
+
+    fn connect(&mut self, turn: Turn, source: Addr, target: Addr) -> Result<StepOut, OutOfMemory>
+        requires { refusal_of self.old turn.actor (Command.Connect source target) ≡ None }
+        ensures { IfOk result (λ out. IsAnswer out self.new (command_step self.old turn.moment turn.actor (Command.Connect source target))) }
+    {
+        self.edges.push(Edge { source, target })?;
+        Ok(self.answer(Reply::Done))
+    }
+
+    fn bytes(&mut self, turn: Turn, port: PortNo, bytes: &[u8]) -> Result<StepOut, OutOfMemory>
+        requires { refusal_of self.old turn.actor (Command.Bytes port bytes.now) ≡ None }
+        ensures { IfOk result (λ out. IsAnswer out self.new (command_step self.old turn.moment turn.actor (Command.Bytes port bytes.now))) }
+    {
+        let mut messages = Vec::new(self.alloc);
+        let count = self.clients.feed(turn.actor, port, bytes, &mut messages)?;
+        let delivered = self.sent(turn, port, messages.as_slice())?;
+        Ok(StepOut {
+            reply: Reply::Messages(count as u64),
+            delivered,
+        })
+    }
+
+    fn send(&mut self, turn: Turn, port: PortNo, message: &Message) -> Result<StepOut, OutOfMemory>
+        requires { refusal_of self.old turn.actor (Command.Send port message.now) ≡ None }
+        ensures { IfOk result (λ out. IsAnswer out self.new (command_step self.old turn.moment turn.actor (Command.Send port message.now))) }
+    {
+        let mut delivered = Vec::new(self.alloc);
+        let source = port_addr(turn.actor, port);
+        let edges = self.edges.as_slice();
+        send_copies(edges, turn.moment, &source, message, &mut delivered)?;
+        Ok(StepOut {
+            reply: Reply::Done,
+            delivered: Items::new(delivered),
+        })
+    }
+
+    /// What comes of messages that are sent from a port.
+    fn sent(
+        &self,
+        turn: Turn,
+        port: PortNo,
+        messages: &[Message],
+    ) -> Result<Items<Delivery>, OutOfMemory>
+        ensures { IfOk result (λ ds. ds ≡ sent self.now.edges turn.moment turn.actor (map (λ m. (port, m)) messages.now)) }
+    {
+        let mut delivered = Vec::new(self.alloc);
+        let source = port_addr(turn.actor, port);
+        let edges = self.edges.as_slice();
+        for message in messages {
+            send_copies(edges, turn.moment, &source, message, &mut delivered)?;
+        }
+        Ok(Items::new(delivered))
+    }
+
+    fn answer(&self, reply: Reply) -> StepOut
+        ensures reply { result.reply ≡ reply }
+        ensures delivered { result.delivered ≡ [] }
+    {
+        StepOut {
+            reply,
+            delivered: Items::new(Vec::new(self.alloc)),
+        }
+    }
+}
+
+fn port_addr(client: ClientId, port: PortNo) -> Addr
+    ensures { result ≡ port_addr client port }
+{
+    Addr {
+        client,
+        node: Node::Port(port),
+    }
+}
+
+/// Adds a copy of a message for each subscription of its source.
+fn send_copies(
+    edges: &[Edge],
+    moment: u64,
+    source: &Addr,
+    message: &Message,
+    out: &mut Vec<Delivery>,
+) -> Result<(), OutOfMemory>
+    ensures { OnOk result (out.new.items ≡ out.old.items ++ copies edges.now moment source.now message.now) }
+{
+    for edge in edges {
+        if same(source, &edge.source) {
+            deliver(moment, &edge.target, message, out)?;
+        }
+    }
+    Ok(())
+}
+
+/// Adds a copy of a message for a node, where that is a port.
+fn deliver(
+    moment: u64,
+    target: &Addr,
+    message: &Message,
+    out: &mut Vec<Delivery>,
+) -> Result<(), OutOfMemory>
+    ensures { OnOk result (out.new.items ≡ out.old.items ++ option_to_list (delivery moment message.now target.now.client target.now.node)) }
+{
+    if let Some(port) = target.node.port() {
+        out.push(Delivery {
+            moment,
+            target: PortAddr {
+                client: target.client,
+                port,
+            },
+            message: message.duplicate()?,
+        })?;
+    }
+    Ok(())
+}

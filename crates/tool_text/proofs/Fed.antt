@@ -1,0 +1,86 @@
+-- What a piece of the stream gives and leaves.
+use Rattle.std.proofs.Common.{◌≡◌, ℕ, ◌+◌, Bool, true, false, not, cond, List, [], ◌∷◌, ◌++◌, map, Option, Some, None, refl, sym, ap, subst, ◌∙◌, append_assoc, append-nil}
+use Rattle.std.specs.Prelude.{is_some}
+use Rattle.std.specs.List.{flat_map}
+use Rattle.std.specs.Ordering.{nat_cmp}
+use Rattle.std.specs.Cmp.{nat_cmp_total}
+use Rattle.std.specs.FinMap
+use Rattle.std.specs.FinMap.{FinMap}
+use Rattle.std.proofs.lemmas.Bool.{false≢true}
+use Rattle.midi_wire.specs.Readings.{reading, rest}
+use Rattle.seq_state.specs.declared.input.Command.TheVariants.{Bytes}
+use Rattle.seq_state.specs.declared.input.Edge.{Edge}
+use Rattle.seq_state.specs.declared.log.Delivery.{Delivery}
+use Rattle.seq_state.specs.Rows.{at}
+use Rattle.seq_state.specs.State.{Client, PortInfo, State}
+use Rattle.seq_state.specs.Own.{Own, own_command, first_refusal, port_of, has_port, fed_of, changed, feed_port}
+use Rattle.seq_state.specs.Step.{edge, port_addr, sent, put, unless, after_own, with_own, refusal_of, step}
+use Rattle.seq_state.proofs.Kin.{get-put}
+use Rattle.seq_engine.proofs.Arms.{none_lost}
+use Rattle.tool_text.specs.Thru.{thru_line, thru_text, stream_of, IsJoined}
+
+-- who has a port is open
+open_with_port : (c : Option Client) → has_port c 0 ≡ true → is_some c ≡ true
+open_with_port None h = absurd (false≢true (sym (ap is_some (FinMap.get-empty {X = PortInfo} nat_cmp 0)) ∙ h))
+open_with_port (Some x) h = refl
+
+accepted : (s : State) (bytes : List ℕ) → IsJoined s → refusal_of s 128 (Bytes 0 bytes) ≡ None
+unfolding own_command
+accepted s bytes j =
+    let c : Option Client = FinMap.get s.clients 128 in
+    ap (λ b. first_refusal ((1, not b) ∷ (7, not (has_port c 0)) ∷ [])) (open_with_port c j.port)
+    ∙ ap (λ b. first_refusal ((1, false) ∷ (7, not b) ∷ [])) j.port
+
+fed_port : (x : Client) (bytes : List ℕ) (o : Option PortInfo) → is_some o ≡ true →
+    (is_some (FinMap.get (feed_port bytes o 0 x).ports 0) ≡ true) × (fed_of (FinMap.get (feed_port bytes o 0 x).ports 0) ≡ rest (fed_of o ++ bytes))
+fed_port x bytes None h = absurd (false≢true h)
+fed_port x bytes (Some p) h =
+    let next : PortInfo = record p { fed = rest (p.fed ++ bytes) } in
+    let found : FinMap.get (FinMap.insert x.ports 0 next) 0 ≡ Some next = FinMap.get-insert nat_cmp_total x.ports 0 next 0 in
+    (ap is_some found, ap fed_of found)
+
+fed_client : (c : Option Client) (bytes : List ℕ) → has_port c 0 ≡ true →
+    (let next : Option Client = changed c (feed_port bytes (port_of c 0) 0) in (has_port next 0 ≡ true) × (fed_of (port_of next 0) ≡ rest (fed_of (port_of c 0) ++ bytes)))
+fed_client None bytes h = absurd (false≢true (sym (ap is_some (FinMap.get-empty {X = PortInfo} nat_cmp 0)) ∙ h))
+fed_client (Some x) bytes h = fed_port x bytes (FinMap.get x.ports 0) h
+
+-- the copies along the one subscription
+one_each : (messages : List (List ℕ)) → sent (edge (port_addr 128 0) (port_addr 129 0) ∷ []) 0 128 (map (λ m. (0, m)) messages) ≡ map (λ m. record { moment = 0; target = record { client = 129; port = 0 }; message = m }) messages
+one_each [] = refl
+one_each (m ∷ messages) = ap (λ ds. record { moment = 0; target = record { client = 129; port = 0 }; message = m } ∷ ds) (one_each messages)
+
+lines : (messages : List (List ℕ)) → flat_map (λ d. thru_line d.message) (map (λ m. let d : Delivery = record { moment = 0; target = record { client = 129; port = 0 }; message = m } in d) messages) ≡ flat_map thru_line messages
+lines [] = refl
+lines (m ∷ messages) = ap (λ text. thru_line m ++ text) (lines messages)
+
+module _ (s : State) (bytes : List ℕ) (j : IsJoined s) where
+  abbrev own : Own
+  own = (own_command (FinMap.get s.clients 128) (Bytes 0 bytes)).own
+
+  pub fed_delivers : flat_map (λ d. thru_line d.message) (step s (at 0 128 (Bytes 0 bytes))).delivered ≡ thru_text (stream_of s ++ bytes)
+  unfolding own_command
+  fed_delivers =
+      let messages : List (List ℕ) = reading (stream_of s ++ bytes) in
+      ap (λ o. flat_map (λ d. thru_line d.message) (unless o s (after_own s 0 128 own)).delivered) (accepted s bytes j)
+      ∙ ap (λ (es : List Edge). flat_map (λ d. thru_line d.message) (sent es 0 128 (map (λ m. (0, m)) messages))) j.edges
+      ∙ ap (flat_map (λ d. thru_line d.message)) (one_each messages) ∙ lines messages
+
+  fed_state : (step s (at 0 128 (Bytes 0 bytes))).state ≡ with_own s 128 own
+  fed_state = ap (λ o. (unless o s (after_own s 0 128 own)).state) (accepted s bytes j)
+
+  fed_here : FinMap.get (with_own s 128 own).clients 128 ≡ changed (FinMap.get s.clients 128) (feed_port bytes (port_of (FinMap.get s.clients 128) 0) 0)
+  unfolding own_command
+  fed_here = get-put s.clients 128 (changed (FinMap.get s.clients 128) (feed_port bytes (port_of (FinMap.get s.clients 128) 0) 0)) 128
+
+  fed_edges : (with_own s 128 own).edges ≡ s.edges
+  unfolding own_command
+  fed_edges = none_lost 128 s.edges
+
+  pub fed_joined : IsJoined (step s (at 0 128 (Bytes 0 bytes))).state
+  fed_joined = subst IsJoined (sym fed_state) joined
+    where
+      joined : IsJoined (with_own s 128 own)
+      joined = record { port = ap (λ c. has_port c 0) fed_here ∙ (fed_client (FinMap.get s.clients 128) bytes j.port).0; edges = fed_edges ∙ j.edges }
+
+  pub fed_stream : stream_of (step s (at 0 128 (Bytes 0 bytes))).state ≡ rest (stream_of s ++ bytes)
+  fed_stream = ap stream_of fed_state ∙ ap (λ c. fed_of (port_of c 0)) fed_here ∙ (fed_client (FinMap.get s.clients 128) bytes j.port).1

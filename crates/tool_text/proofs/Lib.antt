@@ -1,0 +1,3 @@
+pub mod Joined
+pub mod Fed
+pub mod Passed

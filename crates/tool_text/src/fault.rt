@@ -1,0 +1,53 @@
+//! Why a tool stops.
+
+use memory::OutOfMemory;
+use seq_engine::EngineFault;
+use std::alloc::AllocError;
+use thiserror::Error;
+
+#[derive(Clone, Copy, Debug, Drop, PartialEq, Eq, Error)]
+pub enum ToolFault {
+    /// A growth was refused.
+    #[error("out of memory")]
+    OutOfMemory,
+    /// A read failed, or there were more than 16,777,216 bytes.
+    #[error("a read failed")]
+    Read,
+    /// A write failed, or took no byte.
+    #[error("a write failed")]
+    Write,
+}
+
+impl From<OutOfMemory> for ToolFault {
+    ghost use Rattle.std.specs.Prelude.{◌≡◌};
+    ghost use Rattle.tool_text.specs.declared.fault.ToolFault.TheVariants.{OutOfMemory};
+
+    ghost from_gives = { λ _ e. e ≡ OutOfMemory };
+
+    fn from(_error: OutOfMemory) -> ToolFault {
+        ToolFault::OutOfMemory
+    }
+}
+
+impl From<AllocError> for ToolFault {
+    ghost use Rattle.std.specs.Prelude.{◌≡◌};
+    ghost use Rattle.tool_text.specs.declared.fault.ToolFault.TheVariants.{OutOfMemory};
+
+    ghost from_gives = { λ _ e. e ≡ OutOfMemory };
+
+    fn from(_error: AllocError) -> ToolFault {
+        ToolFault::OutOfMemory
+    }
+}
+
+/// An engine fails only where it found no memory.
+impl From<EngineFault> for ToolFault {
+    ghost use Rattle.std.specs.Prelude.{◌≡◌};
+    ghost use Rattle.tool_text.specs.declared.fault.ToolFault.TheVariants.{OutOfMemory};
+
+    ghost from_gives = { λ _ e. e ≡ OutOfMemory };
+
+    fn from(_error: EngineFault) -> ToolFault {
+        ToolFault::OutOfMemory
+    }
+}

@@ -1,0 +1,23 @@
+//! Bytes in hexadecimal.
+
+ghost use Rattle.std.specs.Prelude.{◌≡◌, ◌++◌, ◌<◌, OnOk};
+ghost use Rattle.tool_text.specs.Hex.{digit, spaced};
+
+use memory::OutOfMemory;
+
+/// Adds a space and two upper-case digits for each byte.
+pub(crate) fn push_spaced(text: &mut Vec<u8>, bytes: &[u8]) -> Result<(), OutOfMemory>
+    ensures { OnOk result (text.new.items ≡ text.old.items ++ spaced bytes.now) }
+{
+    for byte in bytes {
+        text.extend_from_slice(&[b' ', digit(*byte / 16), digit(*byte % 16)])?;
+    }
+    Ok(())
+}
+
+fn digit(n: u8) -> u8
+    requires { n < 16 }
+    ensures { result ≡ digit n }
+{
+    if n < 10 { b'0' + n } else { b'A' + (n - 10) }
+}

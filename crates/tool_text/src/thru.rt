@@ -1,0 +1,206 @@
+//! A stream passed from one client of a sequencer to another.
+
+ghost use Rattle.std.specs.Prelude.{◌≡◌, ◌≤◌, ◌<◌, ◌+◌, ◌++◌, ◌⊎◌, ◌^◌, [], true, false, length, IfOk, IfErr, OnOk, OnErr, IsErrOf};
+ghost use Rattle.std.specs.List.{flat_map};
+ghost use Rattle.midi_wire.specs.Readings.{rest};
+ghost use Rattle.seq_state.specs.State.{start};
+ghost use Rattle.seq_state.specs.Step.{port_addr, step, state_after};
+ghost use Rattle.seq_state.specs.Rows.{at};
+ghost use Rattle.tool_text.specs.declared.thru.TheConstants.{MOST};
+ghost use Rattle.tool_text.specs.Thru.{thru_line, thru_text, stream_of, joining, IsJoined, StopsShort};
+
+use crate::fault::ToolFault;
+use crate::hex::push_spaced;
+use byte_io::{Sink, Source, write_all};
+use memory::{Items, OutOfMemory};
+use node_table::{Addr, Caps, ClientId, Node, PortNo};
+use seq_engine::{Command, Delivery, Engine, Input, StepOut};
+use std::alloc::Global;
+
+/// How many bytes are read at once.
+const CHUNK: usize = 4096;
+
+/// How many bytes a stream has at most.
+const MOST: usize = 16_777_216;
+
+/// Prints, for each message of the MIDI stream that `input` gives, how it came to the second of two clients.
+///
+/// At a fault the sink has taken a front of the text.
+pub fn thru_text<R: Source, W: Sink>(
+    alloc: Global,
+    input: &mut R,
+    out: &mut W,
+) -> Result<(), ToolFault>
+    requires input_sound { R.failed input.old ≡ false }
+    requires out_sound { W.failed out.old ≡ false }
+
+    ensures text { R.tells input.old ≡ true → W.tells out.old ≡ true → OnOk result (W.taken out.new ≡ W.taken out.old ++ thru_text (R.left input.old)) }
+    ensures all { R.tells input.old ≡ true → OnOk result (R.left input.new ≡ []) }
+    ensures short { R.tells input.old ≡ true → W.tells out.old ≡ true → OnErr result (StopsShort thru_text (R.left input.old) (W.taken out.old) (W.taken out.new)) }
+
+    // `Read` comes where a read failed or there were too many bytes, `Write` where the sink failed or is one that may
+    // take no byte.
+    ensures read { IsErrOf result ToolFault.Read → (R.failed input.new ≡ true) ⊎ (R.tells input.old ≡ true → MOST < length (R.left input.old)) }
+    ensures write { IsErrOf result ToolFault.Write → (W.failed out.new ≡ true) ⊎ (W.takes_some out.old ≡ false) }
+{
+    let mut engine = joined(alloc)?;
+    let mut text = Vec::new(alloc);
+    let mut chunk = [0u8; CHUNK];
+    let mut count = 0;
+    while count <= MOST {
+        let window = (MOST - count).min(CHUNK - 1) + 1;
+        let n = match input.read(&mut chunk[..window]) {
+            Ok(n) => n,
+            Err(_) => return Err(ToolFault::Read),
+        };
+        if n == 0 {
+            return Ok(());
+        }
+        count += n;
+        text.clear();
+        pass_on(alloc, &mut engine, &chunk[..n], &mut text)?;
+        if write_all(out, text.as_slice()).is_err() {
+            return Err(ToolFault::Write);
+        }
+    }
+    Err(ToolFault::Read)
+}
+
+/// A sequencer with two clients, the second of which has subscribed its port to the first's.
+fn joined(alloc: Global) -> Result<Engine, ToolFault>
+    ensures joined { IfOk result (λ e. e ≡ record { state = state_after start joining; moment = 0; steps = 5; failed = false }) }
+    ensures only { IfErr result (λ e. e ≡ ToolFault.OutOfMemory) }
+{
+    let source = ClientId::new(128).unwrap();
+    let sink = ClientId::new(129).unwrap();
+    let port = PortNo::new(0).unwrap();
+    let mut engine = Engine::new(alloc);
+    say(&mut engine, source, opening(alloc, b"source")?)?;
+    let out = Caps::new(33).unwrap();
+    say(&mut engine, source, creation(alloc, port, b"out", out)?)?;
+    say(&mut engine, sink, opening(alloc, b"sink")?)?;
+    let into = Caps::new(66).unwrap();
+    say(&mut engine, sink, creation(alloc, port, b"in", into)?)?;
+    say(&mut engine, sink, connection(source, sink, port))?;
+    Ok(engine)
+}
+
+/// Takes a command at moment 0, of which nothing comes to a port.
+fn say(engine: &mut Engine, actor: ClientId, command: Command) -> Result<(), ToolFault>
+    requires early { engine.old.moment ≡ 0 }
+    requires counted { engine.old.steps < 2 ^ 63 }
+    requires sound { engine.old.failed ≡ false }
+    ensures state { OnOk result (engine.new ≡ record { state = (step engine.old.state (at 0 actor command)).state; moment = 0; steps = engine.old.steps + 1; failed = false }) }
+    ensures only { IfErr result (λ e. e ≡ ToolFault.OutOfMemory) }
+{
+    take(engine, actor, command)?;
+    Ok(())
+}
+
+/// Takes a command at moment 0, and gives what comes to ports.
+fn take(
+    engine: &mut Engine,
+    actor: ClientId,
+    command: Command,
+) -> Result<Items<Delivery>, ToolFault>
+    requires early { engine.old.moment ≡ 0 }
+    requires counted { engine.old.steps < 2 ^ 63 }
+    requires sound { engine.old.failed ≡ false }
+    ensures state { OnOk result (engine.new ≡ record { state = (step engine.old.state (at 0 actor command)).state; moment = 0; steps = engine.old.steps + 1; failed = false }) }
+    ensures delivered { IfOk result (λ ds. ds ≡ (step engine.old.state (at 0 actor command)).delivered) }
+    ensures only { IfErr result (λ e. e ≡ ToolFault.OutOfMemory) }
+{
+    let input = Input {
+        moment: 0,
+        actor,
+        command,
+    };
+    let StepOut {
+        reply: _,
+        delivered,
+    } = engine.step(&input)?;
+    Ok(delivered)
+}
+
+fn opening(alloc: Global, name: &[u8]) -> Result<Command, OutOfMemory>
+    ensures { IfOk result (λ command. command ≡ Command.Open name.now 1 1) }
+{
+    Ok(Command::Open {
+        name: Items::new(Vec::from_slice(alloc, name)?),
+        in_size: 1,
+        out_size: 1,
+    })
+}
+
+fn creation(alloc: Global, port: PortNo, name: &[u8], caps: Caps) -> Result<Command, OutOfMemory>
+    ensures { IfOk result (λ command. command ≡ Command.CreatePort port name.now caps) }
+{
+    Ok(Command::CreatePort {
+        port,
+        name: Items::new(Vec::from_slice(alloc, name)?),
+        caps,
+    })
+}
+
+fn connection(source: ClientId, target: ClientId, port: PortNo) -> Command
+    ensures { result ≡ Command.Connect (port_addr source port) (port_addr target port) }
+{
+    Command::Connect {
+        source: Addr {
+            client: source,
+            node: Node::Port(port),
+        },
+        target: Addr {
+            client: target,
+            node: Node::Port(port),
+        },
+    }
+}
+
+fn piece_of(alloc: Global, piece: &[u8]) -> Result<Command, OutOfMemory>
+    ensures { IfOk result (λ command. command ≡ Command.Bytes 0 piece.now) }
+{
+    Ok(Command::Bytes {
+        port: PortNo::new(0).unwrap(),
+        bytes: Items::new(Vec::from_slice(alloc, piece)?),
+    })
+}
+
+/// Feeds the first client's port, and adds a line for each message that comes to the second's.
+fn pass_on(
+    alloc: Global,
+    engine: &mut Engine,
+    piece: &[u8],
+    text: &mut Vec<u8>,
+) -> Result<(), ToolFault>
+    requires joined { IsJoined engine.old.state }
+    requires early { engine.old.moment ≡ 0 }
+    requires counted { engine.old.steps < 2 ^ 63 }
+    requires sound { engine.old.failed ≡ false }
+
+    ensures text { OnOk result (text.new.items ≡ text.old.items ++ thru_text (stream_of engine.old.state ++ piece.now)) }
+    ensures stream { OnOk result (stream_of engine.new.state ≡ rest (stream_of engine.old.state ++ piece.now)) }
+    ensures joined { OnOk result (IsJoined engine.new.state) }
+    ensures early { OnOk result ((engine.new.moment ≡ 0) × (engine.new.steps ≡ engine.old.steps + 1) × (engine.new.failed ≡ false)) }
+    ensures only { IfErr result (λ e. e ≡ ToolFault.OutOfMemory) }
+{
+    let source = ClientId::new(128).unwrap();
+    let delivered = take(engine, source, piece_of(alloc, piece)?)?;
+    add_lines(alloc, delivered.as_slice(), text)?;
+    Ok(())
+}
+
+/// Adds a line for each delivery.
+fn add_lines(alloc: Global, delivered: &[Delivery], text: &mut Vec<u8>) -> Result<(), OutOfMemory>
+    ensures { OnOk result (text.new.items ≡ text.old.items ++ flat_map (λ d. thru_line d.message) delivered.now) }
+{
+    let mut bytes = Vec::new(alloc);
+    for delivery in delivered {
+        bytes.clear();
+        delivery.message.append_to(&mut bytes)?;
+        text.extend_from_slice(b"0 129:p0")?;
+        push_spaced(text, bytes.as_slice())?;
+        text.push(b'\n')?;
+    }
+    Ok(())
+}
