@@ -1,0 +1,13 @@
+pub mod Comparisons
+pub mod Searches
+pub mod Numerators
+pub mod BinarySearches
+pub mod Segments
+pub mod Starts
+pub mod Changes
+pub mod Made
+pub mod Found
+pub mod Moments
+pub mod TickLaws
+pub mod MomentLaws
+pub mod ClockLaws
