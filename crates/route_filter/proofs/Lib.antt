@@ -1,0 +1,5 @@
+pub mod Statuses
+pub mod Passes
+pub mod Voices
+pub mod Kept
+pub mod Calls

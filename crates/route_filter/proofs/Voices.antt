@@ -1,0 +1,133 @@
+-- The messages of a channel, and what `pass` makes of one.
+use Rattle.std.proofs.Common.{◌≡◌, ℕ, ◌+◌, ◌*◌, ◌/◌, ◌%◌, ◌≤◌, ◌<◌, ◌⊎◌, inl, inr, Bool, true, false, List, [], ◌∷◌, length, Some, None, refl, sym, ap, subst, ◌∙◌, arith}
+use Rattle.std.specs.Prelude.{Option, if◌then◌else◌, ◌&&◌, ◌==◌, nat_lt, nat_le, IsTrue, is_some, option_map, unwrap_or, slice_get, unsigned_abs, ℤ, pos, negsuc, ◌+ℤ◌}
+use Rattle.std.proofs.lemmas.Bool.{cases_lt, ltb-true, leb-true, eqb-true}
+use Rattle.midi_wire.specs.Messages.{One, Two, Begins, begins, all_data, is_group, IsTail, IsMessage}
+use Rattle.midi_wire.specs.Writings.{status_of, is_channel}
+use Rattle.midi_wire.specs.Kinds.{kind_of, kind_of_status, channel_message}
+use Rattle.midi_wire.proofs.Table.{begins-8, begins-C, begins-E, begins-low, channel-below}
+use Rattle.midi_wire.proofs.Written.{and_true}
+use Rattle.route_filter.specs.declared.rule_args.RuleArgs.{RuleArgs}
+use Rattle.route_filter.specs.Rules.{has_kind, has_channel, is_channel_choice, is_rule}
+use Rattle.route_filter.specs.Passing.{has_note, in_range, as_note, on_channel, redirected, passed}
+use Rattle.route_filter.proofs.Statuses.{one-data, two-data}
+use Rattle.route_filter.proofs.Passes.{moved, voice-passed}
+
+-- a message of a channel, by how many data bytes it has
+pub data Voice : List ℕ → Type 0 where
+  OneByte : (s a : ℕ) → 192 ≤ s → s < 224 → a < 128 → Voice (s ∷ a ∷ [])
+  TwoBytes : (s a b : ℕ) → 128 ≤ s → s < 240 → (192 ≤ s → 224 ≤ s) → a < 128 → b < 128 → Voice (s ∷ a ∷ b ∷ [])
+
+low-data : (a : ℕ) (more : List ℕ) → all_data (a ∷ more) ≡ true → a < 128
+low-data a more e = ltb-true a 128 (and_true (nat_lt a 128) (all_data more) e).0
+
+rest-data : (a : ℕ) (more : List ℕ) → all_data (a ∷ more) ≡ true → all_data more ≡ true
+rest-data a more e = (and_true (nat_lt a 128) (all_data more) e).1
+
+voice-one : (s : ℕ) (tail : List ℕ) → IsTrue (is_group One tail) → 192 ≤ s → s < 224 → Voice (s ∷ tail)
+voice-one s [] p h l = let n : length {A = ℕ} [] ≡ 1 = eqb-true (length {A = ℕ} []) 1 (and_true (length {A = ℕ} [] == 1) (all_data []) p).0 in absurd (omega arith)
+voice-one s (a ∷ []) p h l = OneByte s a h l (low-data a [] (and_true (length (a ∷ []) == 1) (all_data (a ∷ [])) p).1)
+voice-one s (a ∷ b ∷ tail) p h l = let n : length (a ∷ b ∷ tail) ≡ 1 = eqb-true (length (a ∷ b ∷ tail)) 1 (and_true (length (a ∷ b ∷ tail) == 1) (all_data (a ∷ b ∷ tail)) p).0 in absurd (omega arith)
+
+voice-two : (s : ℕ) (tail : List ℕ) → IsTrue (is_group Two tail) → 128 ≤ s → s < 240 → (192 ≤ s → 224 ≤ s) → Voice (s ∷ tail)
+voice-two s [] p h l w = let n : length {A = ℕ} [] ≡ 2 = eqb-true (length {A = ℕ} []) 2 (and_true (length {A = ℕ} [] == 2) (all_data []) p).0 in absurd (omega arith)
+voice-two s (a ∷ []) p h l w = let n : length (a ∷ []) ≡ 2 = eqb-true (length (a ∷ [])) 2 (and_true (length (a ∷ []) == 2) (all_data (a ∷ [])) p).0 in absurd (omega arith)
+voice-two s (a ∷ b ∷ []) p h l w =
+    let d : all_data (a ∷ b ∷ []) ≡ true = (and_true (length (a ∷ b ∷ []) == 2) (all_data (a ∷ b ∷ [])) p).1 in
+    TwoBytes s a b h l w (low-data a (b ∷ []) d) (low-data b [] (rest-data a (b ∷ []) d))
+voice-two s (a ∷ b ∷ x ∷ tail) p h l w = let n : length (a ∷ b ∷ x ∷ tail) ≡ 2 = eqb-true (length (a ∷ b ∷ x ∷ tail)) 2 (and_true (length (a ∷ b ∷ x ∷ tail) == 2) (all_data (a ∷ b ∷ x ∷ tail)) p).0 in absurd (omega arith)
+
+pub voice-of : (m : List ℕ) → IsMessage m → status_of m < 240 → Voice m
+voice-of [] p l = absurd p
+voice-of (s ∷ tail) p l =
+    go (cases_lt s 128) (cases_lt s 192) (cases_lt s 224)
+  where
+    go : (s < 128) ⊎ (128 ≤ s) → (s < 192) ⊎ (192 ≤ s) → (s < 224) ⊎ (224 ≤ s) → Voice (s ∷ tail)
+    go (inl c) y z = absurd (subst (λ (k : Begins). IsTail k tail) (begins-low s c) p)
+    go (inr c) (inl d) z = voice-two s tail (subst (λ (k : Begins). IsTail k tail) (begins-8 s c d) p) c l (λ h. absurd (omega arith))
+    go (inr c) (inr d) (inl e) = voice-one s tail (subst (λ (k : Begins). IsTail k tail) (begins-C s d e) p) d e
+    go (inr c) (inr d) (inr e) = voice-two s tail (subst (λ (k : Begins). IsTail k tail) (begins-E s e l) p) c l (λ h. e)
+
+-- ---- the status of what passes
+
+pub redirected-to : (channel : Option ℕ) (s : ℕ) (more : List ℕ) → is_channel (begins s) ≡ true → redirected channel (s ∷ more) ≡ (s / 16 * 16 + unwrap_or channel (s % 16)) ∷ more
+redirected-to None s more e = ap (λ (t : ℕ). t ∷ more) (let f : s ≡ s / 16 * 16 + s % 16 = omega arith in f)
+redirected-to (Some n) s more e = ap (λ (t : Bool). if t then on_channel n (s ∷ more) else s ∷ more) (ap (λ (t : Bool). is_some (if t then Some (s % 16) else None)) e)
+
+channel-low : (channel : Option ℕ) (n : ℕ) → is_channel_choice channel ≡ true → n < 16 → unwrap_or channel n < 16
+channel-low None n e l = l
+channel-low (Some k) n e l = let f : k ≤ 15 = leb-true k 15 e in omega arith
+
+rule-channel : (rule : RuleArgs) → IsTrue (is_rule rule) → is_channel_choice rule.channel ≡ true
+rule-channel rule p =
+    (and_true (nat_le (unsigned_abs rule.shift) 127) (is_channel_choice rule.channel)
+    (and_true (nat_le rule.high 127) (nat_le (unsigned_abs rule.shift) 127 && is_channel_choice rule.channel)
+    (and_true (nat_le rule.low rule.high) (nat_le rule.high 127 && (nat_le (unsigned_abs rule.shift) 127 && is_channel_choice rule.channel))
+    (and_true (nat_le rule.kinds 1023) (nat_le rule.low rule.high && (nat_le rule.high 127 && (nat_le (unsigned_abs rule.shift) 127 && is_channel_choice rule.channel))) p).1).1).1).1
+
+pub new-channel : (rule : RuleArgs) (s : ℕ) → IsTrue (is_rule rule) → unwrap_or rule.channel (s % 16) < 16
+new-channel rule s p = channel-low rule.channel (s % 16) (rule-channel rule p) (omega arith)
+
+-- ---- the first data byte of what passes
+
+as_note-low : (z : ℤ) (n : ℕ) → as_note z ≡ Some n → n < 128
+as_note-low (pos k) n e =
+    go (nat_lt k 128) refl e
+  where
+    go : (t : Bool) → nat_lt k 128 ≡ t → (if t then Some k else None) ≡ Some n → n < 128
+    go true f g = let h : k ≡ n = cc in let i : k < 128 = ltb-true k 128 f in omega arith
+    go false f g = let h : ⊥ = cc in absurd h
+as_note-low (negsuc k) n e = let f : ⊥ = cc in absurd f
+
+pub moved-low : (rule : RuleArgs) (v : Bool) (a n : ℕ) → a < 128 → moved rule v a ≡ Some n → n < 128
+moved-low rule false a n l e = let f : a ≡ n = cc in omega arith
+moved-low rule true a n l e =
+    go (in_range rule a) e
+  where
+    go : (w : Bool) → (if w then as_note (pos a +ℤ rule.shift) else None) ≡ Some n → n < 128
+    go true f = as_note-low (pos a +ℤ rule.shift) n f
+    go false f = let g : ⊥ = cc in absurd g
+
+-- ---- what a rule makes of a message of a channel
+
+and-false : (t u : Bool) (m : Option (List ℕ)) → u ≡ false → None ≡ (if t && u then m else None)
+and-false true u m e = ap (λ (v : Bool). if v then m else None) (sym e)
+and-false false u m e = refl
+
+dropped : (rule : RuleArgs) (s a : ℕ) (more : List ℕ) → is_channel (begins s) ≡ true → has_channel rule.channels (s % 16) ≡ false → None ≡ passed rule (s ∷ a ∷ more)
+dropped rule s a more p e = and-false (has_kind rule.kinds (kind_of_status s)) (has_channel rule.channels (s % 16)) _ e ∙ sym (voice-passed rule s a more p)
+
+and-true : (t u : Bool) (m : Option (List ℕ)) → t ≡ true → u ≡ true → (if t && u then m else None) ≡ m
+and-true t u m e f = ap (λ (v : Bool). if v && u then m else None) e ∙ ap (λ (v : Bool). if v then m else None) f
+
+pub taken : (rule : RuleArgs) (s a : ℕ) (more : List ℕ) (o : Option ℕ) → is_channel (begins s) ≡ true → has_kind rule.kinds (kind_of_status s) ≡ true → has_channel rule.channels (s % 16) ≡ true → moved rule (has_note (kind_of_status s)) a ≡ o → passed rule (s ∷ a ∷ more) ≡ option_map (λ n. redirected rule.channel (s ∷ n ∷ more)) o
+taken rule s a more o p e f g =
+    voice-passed rule s a more p
+    ∙ and-true (has_kind rule.kinds (kind_of_status s)) (has_channel rule.channels (s % 16)) _ e f
+    ∙ ap (λ (q : Option ℕ). option_map (λ n. redirected rule.channel (s ∷ n ∷ more)) q) g
+
+-- ---- what `pass` answers
+
+-- the data bytes of a message, 0 where it has none
+abbrev pub data_byte : List ℕ → ℕ → ℕ
+data_byte m i = unwrap_or (slice_get m i) 0
+
+pub channel-missing : (rule : RuleArgs) (m : List ℕ) → Voice m → has_channel rule.channels (status_of m % 16) ≡ false → None ≡ passed rule m
+channel-missing rule m (OneByte s a h l k) e = dropped rule s a [] (channel-below s (omega arith) (omega arith)) e
+channel-missing rule m (TwoBytes s a b h l w k g) e = dropped rule s a (b ∷ []) (channel-below s h l) e
+
+pub note-missing : (rule : RuleArgs) (m : List ℕ) → Voice m → has_kind rule.kinds (kind_of m) ≡ true → has_channel rule.channels (status_of m % 16) ≡ true → moved rule (has_note (kind_of m)) (data_byte m 1) ≡ None → None ≡ passed rule m
+note-missing rule m (OneByte s a h l k) e f g = sym (taken rule s a [] None (channel-below s (omega arith) (omega arith)) e f g)
+note-missing rule m (TwoBytes s a b h l w k i) e f g = sym (taken rule s a (b ∷ []) None (channel-below s h l) e f g)
+
+pub sent : (rule : RuleArgs) (m : List ℕ) (first : ℕ) → Voice m → IsTrue (is_rule rule) → has_kind rule.kinds (kind_of m) ≡ true → has_channel rule.channels (status_of m % 16) ≡ true → moved rule (has_note (kind_of m)) (data_byte m 1) ≡ Some first → channel_message (kind_of m) (unwrap_or rule.channel (status_of m % 16)) first (data_byte m 2) ≡ passed rule m
+sent rule m first (OneByte s a h l k) p e f g =
+    let c : is_channel (begins s) ≡ true = channel-below s (omega arith) (omega arith) in
+    one-data s (unwrap_or rule.channel (s % 16)) first h l (new-channel rule s p) (moved-low rule (has_note (kind_of_status s)) a first k g)
+    ∙ ap (λ (xs : List ℕ). Some xs) (sym (redirected-to rule.channel s (first ∷ []) c))
+    ∙ sym (taken rule s a [] (Some first) c e f g)
+sent rule m first (TwoBytes s a b h l w k i) p e f g =
+    let c : is_channel (begins s) ≡ true = channel-below s h l in
+    two-data s (unwrap_or rule.channel (s % 16)) first b h l w (new-channel rule s p) (moved-low rule (has_note (kind_of_status s)) a first k g) i
+    ∙ ap (λ (xs : List ℕ). Some xs) (sym (redirected-to rule.channel s (first ∷ b ∷ []) c))
+    ∙ sym (taken rule s a (b ∷ []) (Some first) c e f g)

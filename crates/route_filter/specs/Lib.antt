@@ -1,0 +1,4 @@
+pub mod Rules
+pub mod Passing
+pub mod Laws
+pub mod Worked

@@ -1,0 +1,70 @@
+//! What a rule is made of.
+
+ghost use Rattle.std.specs.Prelude.{◌≡◌, ◌<◌};
+ghost use Rattle.route_filter.specs.Rules.{kind_bit, has_kind, has_channel, is_rule};
+
+use midi_wire::Kind;
+
+/// What a filter rule says.
+#[derive(Clone, Copy, Debug, PartialEq, Eq)]
+pub struct RuleArgs {
+    /// The channels it takes messages of: bit n for channel n, counted from 0.
+    pub channels: u16,
+    /// The kinds that it takes: 1 note off, 2 note on, 4 polyphonic pressure, 8 control change, 16 program change,
+    /// 32 channel pressure, 64 pitch bend, 128 system common, 256 real time, 512 exclusive.
+    pub kinds: u16,
+    /// The lowest note that it takes, before the shift.
+    pub low: u8,
+    /// The highest note that it takes, before the shift.
+    pub high: u8,
+    /// How many semitones it raises a note by, -127 to 127.
+    pub shift: i16,
+    /// The channel, 0 to 15, that it gives to the channel messages which it lets pass.
+    pub channel: Option<u8>,
+}
+
+impl RuleArgs {
+    /// Whether they make a rule.
+    pub(crate) fn is_rule(&self) -> bool
+        ensures { result ≡ is_rule self.now }
+    {
+        self.kinds <= 1023
+            && self.low <= self.high
+            && self.high <= 127
+            && self.shift.unsigned_abs() <= 127
+            && self.channel.unwrap_or(0) <= 15
+    }
+
+    /// Whether the kind is in the set of kinds.
+    pub(crate) fn has_kind(&self, kind: Kind) -> bool
+        ensures { result ≡ has_kind self.now.kinds kind }
+    {
+        self.kinds & kind_bit(kind) != 0
+    }
+
+    /// Whether the channel is in the mask of channels.
+    pub(crate) fn has_channel(&self, channel: u8) -> bool
+        requires { channel < 16 }
+        ensures { result ≡ has_channel self.now.channels channel }
+    {
+        self.channels & (1 << channel) != 0
+    }
+}
+
+/// The bit of a kind in a set of kinds.
+fn kind_bit(kind: Kind) -> u16
+    ensures { result ≡ kind_bit kind }
+{
+    match kind {
+        Kind::NoteOff => 1,
+        Kind::NoteOn => 2,
+        Kind::PolyPressure => 4,
+        Kind::ControlChange => 8,
+        Kind::ProgramChange => 16,
+        Kind::ChannelPressure => 32,
+        Kind::PitchBend => 64,
+        Kind::SystemCommon => 128,
+        Kind::RealTime => 256,
+        Kind::Exclusive => 512,
+    }
+}

@@ -1,0 +1,142 @@
+//! Worked rules.
+
+use crate::{Rule, RuleArgs};
+use midi_wire::{Message, WireFault};
+use std::alloc::Global;
+
+/// Note on of channel 0, from note 60 to 72, an octave up.
+const OCTAVE_UP: RuleArgs = RuleArgs {
+    channels: 1,
+    kinds: 2,
+    low: 60,
+    high: 72,
+    shift: 12,
+    channel: None,
+};
+
+/// All of channel 0, to channel 9.
+const TO_CHANNEL_NINE: RuleArgs = RuleArgs {
+    channels: 1,
+    kinds: 1023,
+    low: 0,
+    high: 127,
+    shift: 0,
+    channel: Some(9),
+};
+
+/// Whether a rule with these arguments makes `expected` of a message; nothing is expected of one that is dropped.
+fn makes(alloc: Global, args: RuleArgs, bytes: &[u8], expected: &[u8]) -> Result<bool, WireFault> {
+    let Some(rule) = Rule::new(args) else {
+        return Ok(false);
+    };
+    let Some(message) = Message::from_bytes(alloc, bytes)? else {
+        return Ok(false);
+    };
+    let mut out = Vec::new(alloc);
+    if let Some(passed) = rule.pass(message) {
+        passed.append_to(&mut out)?;
+    }
+    Ok(out.as_slice() == expected)
+}
+
+#[test]
+fn octave_up(rt: HostRuntime) -> Result<(), WireFault> {
+    let alloc = rt.alloc();
+    assert!(rt; makes(alloc, OCTAVE_UP, &[0x90, 0x3C, 0x40], &[0x90, 0x48, 0x40])?);
+    assert!(rt; makes(alloc, OCTAVE_UP, &[0x91, 0x3C, 0x40], &[])?);
+    assert!(rt; makes(alloc, OCTAVE_UP, &[0x90, 0x3B, 0x40], &[])?);
+    assert!(rt; makes(alloc, OCTAVE_UP, &[0x80, 0x3C, 0x40], &[])?);
+    assert!(rt; makes(alloc, OCTAVE_UP, &[0xF8], &[])?);
+    let with_real_time = RuleArgs {
+        kinds: 258,
+        ..OCTAVE_UP
+    };
+    assert!(rt; makes(alloc, with_real_time, &[0xF8], &[0xF8])?);
+    Ok(())
+}
+
+#[test]
+fn to_channel_nine(rt: HostRuntime) -> Result<(), WireFault> {
+    let alloc = rt.alloc();
+    assert!(rt;
+        makes(
+            alloc,
+            TO_CHANNEL_NINE,
+            &[0x90, 0x3C, 0x40],
+            &[0x99, 0x3C, 0x40]
+        )?
+    );
+    assert!(rt;
+        makes(
+            alloc,
+            TO_CHANNEL_NINE,
+            &[0xE0, 0x00, 0x40],
+            &[0xE9, 0x00, 0x40]
+        )?
+    );
+    assert!(rt; makes(alloc, TO_CHANNEL_NINE, &[0x91, 0x3C, 0x40], &[])?);
+    assert!(rt; makes(alloc, TO_CHANNEL_NINE, &[0xF8], &[0xF8])?);
+    assert!(rt; makes(alloc, TO_CHANNEL_NINE, &[0xF6], &[0xF6])?);
+    assert!(rt; makes(alloc, TO_CHANNEL_NINE, &[0xC0, 0x05], &[0xC9, 0x05])?);
+    assert!(rt;
+        makes(
+            alloc,
+            TO_CHANNEL_NINE,
+            &[0xF0, 0x7D, 0xF7],
+            &[0xF0, 0x7D, 0xF7]
+        )?
+    );
+    Ok(())
+}
+
+#[test]
+fn notes_are_dropped(rt: HostRuntime) -> Result<(), WireFault> {
+    let alloc = rt.alloc();
+    let up = RuleArgs {
+        shift: 7,
+        ..TO_CHANNEL_NINE
+    };
+    assert!(rt; makes(alloc, up, &[0x90, 0x7D, 0x40], &[])?);
+    let down = RuleArgs {
+        shift: -61,
+        ..TO_CHANNEL_NINE
+    };
+    assert!(rt; makes(alloc, down, &[0x90, 0x3C, 0x40], &[])?);
+    assert!(rt; makes(alloc, down, &[0x90, 0x3D, 0x40], &[0x99, 0x00, 0x40])?);
+    Ok(())
+}
+
+#[test]
+fn rules_are_tested(rt: HostRuntime) {
+    let refused = [
+        RuleArgs {
+            channel: Some(16),
+            ..OCTAVE_UP
+        },
+        RuleArgs {
+            kinds: 1024,
+            ..OCTAVE_UP
+        },
+        RuleArgs {
+            low: 73,
+            ..OCTAVE_UP
+        },
+        RuleArgs {
+            high: 128,
+            ..OCTAVE_UP
+        },
+        RuleArgs {
+            shift: -128,
+            ..OCTAVE_UP
+        },
+    ];
+    for args in refused {
+        assert!(rt; Rule::new(args).is_none());
+    }
+    let empty = RuleArgs {
+        channels: 0,
+        kinds: 0,
+        ..TO_CHANNEL_NINE
+    };
+    assert!(rt; Rule::new(empty).is_some_and(|rule| rule.args() == empty));
+}
