@@ -30,7 +30,8 @@ impl<T> Items<T> {
     pub fn into_vec(self) -> Vec<T>
         ensures { result.items ≡ self }
     {
-        self.0
+        let Items(items) = self;
+        items
     }
 
     pub fn as_slice(&self) -> &[T]

@@ -6,3 +6,6 @@ mod out_of_memory;
 
 pub use items::Items;
 pub use out_of_memory::OutOfMemory;
+
+#[cfg(test)]
+mod tests;

@@ -7,10 +7,11 @@ mod words;
 use byte_io::{StdSink, StdSource};
 use clap::error::ErrorKind;
 use fault::Fault;
+use std::alloc::Global;
 use std::process::ExitCode;
 use std::rt::{Env, Files};
 use std::{env, fs, io};
-use tool_text::{ToolFault, thru_text};
+use tool_text::{ToolFault, thru_text, wire_text};
 
 /// The name of a standard stream.
 const STANDARD: &str = "-";
@@ -26,7 +27,9 @@ fn main(rt: HostRuntime) -> ExitCode {
 }
 
 /// Without words it passes standard input on, as `thru -` does.
-fn program(rt: &(impl Files + Env + Input + Print + Eprint + AllocGlobal)) -> Result<ExitCode, Fault> {
+fn program(
+    rt: &(impl Files + Env + Input + Print + Eprint + AllocGlobal),
+) -> Result<ExitCode, Fault> {
     let mut words = Vec::new(rt.alloc());
     match env::args(rt) {
         Ok(args) => {
@@ -42,7 +45,8 @@ fn program(rt: &(impl Files + Env + Input + Print + Eprint + AllocGlobal)) -> Re
     let command = words::command(rt.alloc())?;
     match command.try_get_matches_from(words.as_slice()) {
         Ok(matches) => match matches.subcommand() {
-            Some(("thru", thru_matches)) => thru(rt, thru_matches.get_str("FILE").unwrap_or(STANDARD)),
+            Some(("thru", found)) => thru(rt, found.get_str("FILE").unwrap_or(STANDARD)),
+            Some(("wire", found)) => wire(rt, found.get_str("FILE").unwrap_or(STANDARD)),
             _ => Err(Fault::NoSubcommand),
         },
         Err(error) => {
@@ -66,10 +70,29 @@ fn thru(rt: &(impl Files + Input + Print + AllocGlobal), path: &str) -> Result<E
             Err(_) => Err(ToolFault::Read),
         }
     };
+    ended(rt.alloc(), path, done)
+}
+
+/// Reads a MIDI stream, and writes it back.
+fn wire(rt: &(impl Files + Input + Print + AllocGlobal), path: &str) -> Result<ExitCode, Fault> {
+    let mut out = StdSink::new(io::writer(rt));
+    let done = if path == STANDARD {
+        wire_text(rt.alloc(), &mut StdSource::new(rt.reader()), &mut out)
+    } else {
+        match fs::open(rt, path) {
+            Ok(file) => wire_text(rt.alloc(), &mut StdSource::new(file), &mut out),
+            Err(_) => Err(ToolFault::Read),
+        }
+    };
+    ended(rt.alloc(), path, done)
+}
+
+/// The status of a tool, or its fault with the place.
+fn ended(alloc: Global, path: &str, done: Result<(), ToolFault>) -> Result<ExitCode, Fault> {
     match done {
         Ok(()) => Ok(ExitCode::SUCCESS),
         Err(ToolFault::OutOfMemory) => Err(Fault::OutOfMemory),
-        Err(ToolFault::Read) => Err(Fault::cannot_read(rt.alloc(), path)),
-        Err(ToolFault::Write) => Err(Fault::cannot_write(rt.alloc(), STANDARD)),
+        Err(ToolFault::Read) => Err(Fault::cannot_read(alloc, path)),
+        Err(ToolFault::Write) => Err(Fault::cannot_write(alloc, STANDARD)),
     }
 }

@@ -4,3 +4,4 @@ pub mod Ports
 pub mod Arms
 pub mod Sending
 pub mod Logs
+pub mod Heard

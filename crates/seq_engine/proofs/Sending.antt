@@ -9,7 +9,8 @@ use Rattle.seq_state.specs.declared.log.Delivery.{Delivery}
 use Rattle.seq_state.specs.Step.{same, delivery, copies}
 use Rattle.seq_state.proofs.Lists.{filter-append}
 
-filter_map-snoc : {X Y : Type 0} (f : X → Option Y) (xs : List X) (x : X) → filter_map f (xs ++ x ∷ []) ≡ filter_map f xs ++ option_to_list (f x)
+-- one more at the end
+pub filter_map-snoc : {X Y : Type 0} (f : X → Option Y) (xs : List X) (x : X) → filter_map f (xs ++ x ∷ []) ≡ filter_map f xs ++ option_to_list (f x)
 filter_map-snoc {X} {Y} f [] x = go (f x)
   where
     go : (o : Option Y) → cons_option o [] ≡ option_to_list o

@@ -35,7 +35,12 @@ impl Model for ClientEntry {
 }
 
 impl ClientEntry {
-    fn new(alloc: Global, name: &[u8], in_size: u32, out_size: u32) -> Result<ClientEntry, OutOfMemory>
+    fn new(
+        alloc: Global,
+        name: &[u8],
+        in_size: u32,
+        out_size: u32,
+    ) -> Result<ClientEntry, OutOfMemory>
         ensures { IfOk result (λ c. c ≡ opened name.now in_size out_size) }
     {
         Ok(ClientEntry {

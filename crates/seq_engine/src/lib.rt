@@ -14,7 +14,10 @@ mod runs;
 pub use engine::Engine;
 pub use fault::EngineFault;
 pub use memory::{Items, OutOfMemory};
-pub use patchbay::StepOut;
 pub use node_table::{Addr, Caps, ClientId, FilterNo, Node, PortAddr, PortNo};
-pub use runs::{RunLog, run};
+pub use patchbay::StepOut;
+pub use runs::{RunLog, is_timed, run};
 pub use seq_state::{Command, Delivery, Edge, Input, LogEntry, Refusal, Reply};
+
+#[cfg(test)]
+mod tests;

@@ -49,7 +49,11 @@ impl PortEntry {
     }
 
     /// Feeds the parser. Want of memory loses the stream's place.
-    pub(crate) fn feed(&mut self, bytes: &[u8], out: &mut Vec<Message>) -> Result<usize, OutOfMemory>
+    pub(crate) fn feed(
+        &mut self,
+        bytes: &[u8],
+        out: &mut Vec<Message>,
+    ) -> Result<usize, OutOfMemory>
         ensures fed { OnOk result (self.new ≡ record self.old { fed = rest (self.old.fed ++ bytes.now) }) }
         ensures told { OnOk result (out.new.items ≡ out.old.items ++ reading (self.old.fed ++ bytes.now)) }
         ensures number { IfOk result (λ n. n ≡ length (reading (self.old.fed ++ bytes.now))) }

@@ -30,9 +30,11 @@ pub(crate) fn refusal(
             in_size,
             out_size,
         } => open(clients, actor, name.as_slice(), *in_size, *out_size),
-        Command::CreatePort { port, name, caps: _ } => {
-            create_port(clients, actor, *port, name.as_slice())
-        }
+        Command::CreatePort {
+            port,
+            name,
+            caps: _,
+        } => { create_port(clients, actor, *port, name.as_slice()) }
         Command::Connect { source, target } => connect(clients, edges, actor, source, target),
         Command::Bytes { port, bytes: _ } => from_port(clients, actor, *port),
         Command::Send { port, message: _ } => from_port(clients, actor, *port),
@@ -126,9 +128,7 @@ fn is_size(size: u32) -> bool
 fn has_edge(edges: &[Edge], source: &Addr, target: &Addr) -> bool
     ensures { result ≡ has_edge edges.now source.now target.now }
 {
-    edges
-        .iter()
-        .any(|edge| same(source, &edge.source) && same(target, &edge.target))
+    edges.iter().any(|edge| same(source, &edge.source) && same(target, &edge.target))
 }
 
 /// Whether two addresses are one.

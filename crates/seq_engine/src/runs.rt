@@ -1,13 +1,17 @@
 //! The run of a whole list of inputs.
 
-ghost use Rattle.std.specs.Prelude.{◌≡◌, ℕ, Bool, [], ◌∷◌, ◌++◌, map, IfOk, IfErr, OnOk};
+ghost use Rattle.std.specs.Prelude.{◌≡◌, ℕ, Bool, [], ◌∷◌, ◌++◌, map, option_to_list, IsTrue, ◌↔◌, IfOk, IfErr, OnOk};
 ghost use Rattle.seq_state.specs.Step.{plain, IsTimed};
 ghost use Rattle.seq_state.specs.Circle.{IsClosed, only, view};
+ghost use Rattle.seq_state.specs.Heard.{port_of, comes_to, message_at, port_bytes};
+ghost use Rattle.midi_wire.specs.Writings.{written_after, status_after_all};
 
 use crate::engine::Engine;
 use crate::fault::EngineFault;
 use crate::patchbay::StepOut;
 use memory::{Items, OutOfMemory};
+use midi_wire::StreamWriter;
+use node_table::PortAddr;
 use seq_state::{Delivery, Input, LogEntry};
 use std::alloc::Global;
 
@@ -16,6 +20,59 @@ use std::alloc::Global;
 pub struct RunLog {
     /// The deliveries of each step, then its reply, in the order of the inputs.
     pub entries: Items<LogEntry>,
+    alloc: Global,
+}
+
+impl RunLog {
+    /// The messages that came to a port, as one stream writer writes them, with running status.
+    pub fn port_bytes(&self, port: PortAddr) -> Result<Vec<u8>, OutOfMemory>
+        ensures { IfOk result (λ bytes. bytes.items ≡ port_bytes port self.now.entries) }
+    {
+        let mut writer = StreamWriter::new();
+        let mut bytes = Vec::new(self.alloc);
+        for entry in self.entries.as_slice() {
+            write_at(&port, entry, &mut writer, &mut bytes)?;
+        }
+        Ok(bytes)
+    }
+}
+
+/// Writes the message of an entry, where it came to the port.
+fn write_at(
+    port: &PortAddr,
+    entry: &LogEntry,
+    writer: &mut StreamWriter,
+    bytes: &mut Vec<u8>,
+) -> Result<(), OutOfMemory>
+    ensures bytes { OnOk result (bytes.new.items ≡ bytes.old.items ++ written_after writer.old (option_to_list (message_at port.now entry.now))) }
+    ensures status { OnOk result (writer.new ≡ status_after_all writer.old (option_to_list (message_at port.now entry.now))) }
+{
+    if let LogEntry::Delivered(delivery) = entry {
+        if comes_to(port, delivery) {
+            return writer.write(&delivery.message, bytes);
+        }
+    }
+    Ok(())
+}
+
+fn comes_to(port: &PortAddr, delivery: &Delivery) -> bool
+    ensures { result ≡ comes_to port.now delivery.now }
+{
+    delivery.target.client == port.client && delivery.target.port == port.port
+}
+
+/// Whether the moments of the inputs never fall, and `until` is not before the last.
+pub fn is_timed(inputs: &[Input], until: u64) -> bool
+    ensures { IsTrue result ↔ IsTimed inputs.now until }
+{
+    let mut now = 0;
+    for input in inputs {
+        if input.moment < now {
+            return false;
+        }
+        now = input.moment;
+    }
+    now <= until
 }
 
 /// Takes all inputs from the beginning, in order, and then settles to a last moment.
@@ -31,6 +88,8 @@ pub fn run(alloc: Global, inputs: &[Input], until: u64) -> Result<RunLog, Engine
     // alone, whatever all others do.
     ensures isolated { IfOk result (λ log. (owner : ℕ) (member : ℕ → Bool) → IsClosed owner member inputs.now →
         view owner member inputs.now log.entries ≡ view owner member (only member inputs.now) (plain (only member inputs.now) until)) }
+    ensures heard_alone { IfOk result (λ log. (owner : ℕ) (member : ℕ → Bool) (port : ℕ) → IsClosed owner member inputs.now →
+        port_bytes (port_of owner port) log.entries ≡ port_bytes (port_of owner port) (plain (only member inputs.now) until)) }
     ensures out_of_memory { IfErr result (λ e. e ≡ EngineFault.OutOfMemory) }
 {
     let mut engine = Engine::new(alloc);
@@ -43,6 +102,7 @@ pub fn run(alloc: Global, inputs: &[Input], until: u64) -> Result<RunLog, Engine
     add_deliveries(&mut entries, delivered)?;
     Ok(RunLog {
         entries: Items::new(entries),
+        alloc,
     })
 }
 
@@ -66,10 +126,7 @@ fn add_step(
     Ok(())
 }
 
-fn add_deliveries(
-    entries: &mut Vec<LogEntry>,
-    delivered: Vec<Delivery>,
-) -> Result<(), OutOfMemory>
+fn add_deliveries(entries: &mut Vec<LogEntry>, delivered: Vec<Delivery>) -> Result<(), OutOfMemory>
     ensures { OnOk result (entries.new.items ≡ entries.old.items ++ map (λ d. LogEntry.Delivered d) delivered.items) }
 {
     for delivery in delivered {

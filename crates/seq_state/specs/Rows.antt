@@ -13,17 +13,8 @@ use Rattle.seq_state.specs.Step.{plain, port_addr}
 abbrev pub at : ℕ → ℕ → Command → Input
 at moment actor command = record { moment = moment; actor = actor; command = command }
 
--- client 128, named "a", and its port "out" that others may read
-abbrev pub sender : List Input
-sender = at 0 128 (Open (0x61 ∷ []) 8 8) ∷ at 0 128 (CreatePort 0 (0x6F ∷ 0x75 ∷ 0x74 ∷ []) (record { 0 = 33 })) ∷ []
-
--- client 129, named "b", and its port "in" that others may write to, which it subscribes to the other's
-abbrev pub receiver : List Input
-receiver =
-    at 0 129 (Open (0x62 ∷ []) 8 8) ∷ at 0 129 (CreatePort 0 (0x69 ∷ 0x6E ∷ []) (record { 0 = 66 }))
-    ∷ at 0 129 (Connect (port_addr 128 0) (port_addr 129 0)) ∷ []
-
--- the note on 90 3C 40 at 5
+-- Client 128, named "a", makes port "out" that others may read. Client 129, named "b", makes port "in" that others may
+-- write to, and subscribes it to the first. At 5 client 128 sends the note on 90 3C 40.
 abbrev pub FirstNote : Type 0
 FirstNote =
     plain (at 0 128 (Open (0x61 ∷ []) 8 8) ∷ at 0 128 (CreatePort 0 (0x6F ∷ 0x75 ∷ 0x74 ∷ []) (record { 0 = 33 }))

@@ -30,11 +30,20 @@ pub enum Command {
         caps: Caps,
     },
     /// Subscribes the target to the source.
-    Connect { source: Addr, target: Addr },
+    Connect {
+        source: Addr,
+        target: Addr,
+    },
     /// Sends what these bytes complete of the port's MIDI stream.
-    Bytes { port: PortNo, bytes: Items<u8> },
+    Bytes {
+        port: PortNo,
+        bytes: Items<u8>,
+    },
     /// Sends one message, and leaves the port's stream as it is.
-    Send { port: PortNo, message: Message },
+    Send {
+        port: PortNo,
+        message: Message,
+    },
 }
 
 /// A subscription: what leaves the source reaches the target.

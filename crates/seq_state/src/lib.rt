@@ -9,6 +9,7 @@ mod log;
 mod refusal;
 
 ghost use Rattle.seq_state.specs.Circle.{IsolationLaw};
+ghost use Rattle.seq_state.specs.Heard.{PortBytesLaw};
 ghost use Rattle.seq_state.specs.Rows.{FirstNote};
 
 pub use input::{Command, Edge, Input};
@@ -18,6 +19,12 @@ pub use refusal::Refusal;
 /// What the owner of a closed circle sees of a run is what it sees of the plain run of the circle's inputs alone.
 pub fn circle_alone()
     ensures { IsolationLaw }
+{}
+
+/// What comes to a port of the owner of a closed circle is, byte for byte, what comes to it in the plain run of the
+/// circle's inputs alone.
+pub fn circle_heard_alone()
+    ensures { PortBytesLaw }
 {}
 
 /// One note from one client to another, computed from the definitions.

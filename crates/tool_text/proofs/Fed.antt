@@ -1,11 +1,10 @@
 -- What a piece of the stream gives and leaves.
-use Rattle.std.proofs.Common.{◌≡◌, ℕ, ◌+◌, Bool, true, false, not, cond, List, [], ◌∷◌, ◌++◌, map, Option, Some, None, refl, sym, ap, subst, ◌∙◌, append_assoc, append-nil}
+use Rattle.std.proofs.Common.{◌≡◌, ℕ, true, false, not, List, [], ◌∷◌, ◌++◌, map, Option, Some, None, refl, sym, ap, subst, ◌∙◌}
 use Rattle.std.specs.Prelude.{is_some}
 use Rattle.std.specs.List.{flat_map}
 use Rattle.std.specs.Ordering.{nat_cmp}
 use Rattle.std.specs.Cmp.{nat_cmp_total}
 use Rattle.std.specs.FinMap
-use Rattle.std.specs.FinMap.{FinMap}
 use Rattle.std.proofs.lemmas.Bool.{false≢true}
 use Rattle.midi_wire.specs.Readings.{reading, rest}
 use Rattle.seq_state.specs.declared.input.Command.TheVariants.{Bytes}
@@ -14,7 +13,7 @@ use Rattle.seq_state.specs.declared.log.Delivery.{Delivery}
 use Rattle.seq_state.specs.Rows.{at}
 use Rattle.seq_state.specs.State.{Client, PortInfo, State}
 use Rattle.seq_state.specs.Own.{Own, own_command, first_refusal, port_of, has_port, fed_of, changed, feed_port}
-use Rattle.seq_state.specs.Step.{edge, port_addr, sent, put, unless, after_own, with_own, refusal_of, step}
+use Rattle.seq_state.specs.Step.{edge, port_addr, sent, unless, after_own, with_own, refusal_of, step}
 use Rattle.seq_state.proofs.Kin.{get-put}
 use Rattle.seq_engine.proofs.Arms.{none_lost}
 use Rattle.tool_text.specs.Thru.{thru_line, thru_text, stream_of, IsJoined}

@@ -1,25 +1,19 @@
 -- The two clients, and what passes between them.
-use Rattle.std.proofs.Common.{◌≡◌, ℕ, drop, ◌+◌, Bool, true, false, cond, List, [], ◌∷◌, ◌++◌, map, Option, Some, None, refl, sym, ap, subst, ◌∙◌, append_assoc, append-nil}
-use Rattle.std.specs.Prelude.{is_some, IfSome}
+use Rattle.std.proofs.Common.{◌≡◌, ℕ, drop, ◌+◌, true, false, [], ◌∷◌, Option, Some, refl, sym, ap, subst, ◌∙◌}
+use Rattle.std.specs.Prelude.{IfSome}
 use Rattle.node_table.specs.declared.caps.Caps.{Caps}
 use Rattle.seq_engine.specs.Seen.{Seen}
 use Rattle.seq_state.specs.declared.input.Command.{Command}
-use Rattle.std.specs.List.{filter, filter_map, flat_map}
 use Rattle.std.specs.Ordering.{nat_cmp}
 use Rattle.std.specs.Cmp.{nat_cmp_total}
 use Rattle.std.specs.FinMap
 use Rattle.std.specs.FinMap.{FinMap}
-use Rattle.midi_wire.specs.Readings.{reading, rest}
-use Rattle.seq_state.specs.declared.input.Command.TheVariants.{Open, CreatePort, Connect, Bytes}
-use Rattle.seq_state.specs.declared.input.Edge.{Edge}
-use Rattle.seq_state.specs.declared.input.Input.{Input}
-use Rattle.seq_state.specs.declared.log.Delivery.{Delivery}
+use Rattle.seq_state.specs.declared.input.Command.TheVariants.{Open, CreatePort, Connect}
 use Rattle.seq_state.specs.Rows.{at}
 use Rattle.seq_state.specs.State.{Client, PortInfo, State, start}
-use Rattle.seq_state.specs.Own.{own_command, opened, port_of, has_port, fed_of, changed, feed_port, put_port}
-use Rattle.seq_state.specs.Step.{edge, port_addr, copies, sent, put, loses, after_row, after_patch, step, state_after}
-use Rattle.seq_state.proofs.Kin.{get-put}
-use Rattle.tool_text.specs.Thru.{thru_line, thru_text, stream_of, joining, IsJoined}
+use Rattle.seq_state.specs.Own.{own_command, opened, has_port, put_port}
+use Rattle.seq_state.specs.Step.{edge, port_addr, after_row, after_patch, step, state_after}
+use Rattle.tool_text.specs.Thru.{stream_of, joining, IsJoined}
 
 -- clients and ports by their numbers
 -- ---- the five steps

@@ -1,3 +1,4 @@
 pub mod Joined
 pub mod Fed
 pub mod Passed
+pub mod Copied

@@ -1,5 +1,5 @@
 -- A stream that is read and passed on in pieces.
-use Rattle.std.proofs.Common.{◌≡◌, ◌≢◌, ℕ, ◌+◌, ◌-◌, ◌<◌, ◌≤◌, ◌++◌, ◌⊎◌, ◌∙◌, Bool, true, false, List, [], ◌∷◌, length, take, refl, sym, ap, arith, append_assoc, append-nil, length-append}
+use Rattle.std.proofs.Common.{◌≡◌, ℕ, ◌+◌, ◌<◌, ◌≤◌, ◌++◌, ◌∙◌, Bool, true, false, List, [], ◌∷◌, length, take, refl, sym, ap, arith, append_assoc, append-nil, length-append}
 use Rattle.std.specs.Prelude.{Result, Ok, Err, OnOk, OnErr}
 use Rattle.std.specs.Result.{is_err}
 use Rattle.std.specs.List.{flat_map}
@@ -8,62 +8,72 @@ use Rattle.std.proofs.lemmas.List.{take-append-le}
 use Rattle.byte_io.specs.Moved.{GainsBytes}
 use Rattle.midi_wire.specs.Readings.{reading, rest}
 use Rattle.midi_wire.proofs.Settled.{reads-in-two, rests-in-two}
-use Rattle.tool_text.specs.Thru.{StopsShort, thru_text, thru_line}
+use Rattle.tool_text.specs.Thru.{StopsShort}
 
--- These bytes were read, and the text for them was written: `tells` says whether the source tells its bytes, `told` whether the sink does.
-pub record Passed (text : List ℕ → List ℕ) (tells : Bool) (first left : List ℕ) (told : Bool) (old new : List ℕ) (stream : List ℕ) (count : ℕ) : Type 0 where
+-- a line for each message of a stream
+abbrev pub lines_of : (List ℕ → List ℕ) → List ℕ → List ℕ
+lines_of line bytes = flat_map line (reading bytes)
+
+-- These bytes were read, and the lines for them were written: `tells` says whether the source tells its bytes, `told` whether the sink does.
+pub record Passed (line : List ℕ → List ℕ) (tells : Bool) (first left : List ℕ) (told : Bool) (old new : List ℕ) (stream : List ℕ) (count : ℕ) : Type 0 where
   pub read : List ℕ
   pub matters : stream ≡ rest read
   pub split : tells ≡ true → first ≡ read ++ left
   pub counted : length read ≡ count
-  pub written : tells ≡ true → told ≡ true → new ≡ old ++ text read
+  pub written : tells ≡ true → told ≡ true → new ≡ old ++ lines_of line read
 
-flat_map-append : {X Y : Type 0} (f : X → List Y) (xs ys : List X) → flat_map f (xs ++ ys) ≡ flat_map f xs ++ flat_map f ys
+-- a text that begins with the lines
+pub record BeginsWithLines (line text : List ℕ → List ℕ) : Type 0 where
+  pub more : List ℕ → List ℕ
+  pub same : (bytes : List ℕ) → text bytes ≡ lines_of line bytes ++ more bytes
+
+pub flat_map-append : {X Y : Type 0} (f : X → List Y) (xs ys : List X) → flat_map f (xs ++ ys) ≡ flat_map f xs ++ flat_map f ys
 flat_map-append f [] ys = refl
 flat_map-append f (x ∷ xs) ys = ap (λ zs. f x ++ zs) (flat_map-append f xs ys) ∙ sym (append_assoc (f x) (flat_map f xs) (flat_map f ys))
 
--- the text for a piece goes on from what still matters
-pub thru-more : (read piece : List ℕ) → thru_text (read ++ piece) ≡ thru_text read ++ thru_text (rest read ++ piece)
-thru-more read piece = ap (flat_map thru_line) (reads-in-two read piece) ∙ flat_map-append thru_line (reading read) (reading (rest read ++ piece))
+-- the lines for a piece go on from what still matters
+pub lines-more : (line : List ℕ → List ℕ) (read piece : List ℕ) → lines_of line (read ++ piece) ≡ lines_of line read ++ lines_of line (rest read ++ piece)
+lines-more line read piece = ap (flat_map line) (reads-in-two read piece) ∙ flat_map-append line (reading read) (reading (rest read ++ piece))
 
-pub nothing_passed : (tells told : Bool) (first old stream : List ℕ) → stream ≡ [] → Passed thru_text tells first first told old old stream 0
+unfoldable pub nothing_passed : (line : List ℕ → List ℕ) (tells told : Bool) (first old stream : List ℕ) → stream ≡ [] → Passed line tells first first told old old stream 0
 unfolding reading rest
-nothing_passed tells told first old stream e = record { read = []; matters = e; split = λ t. refl; counted = refl; written = λ t u. sym (append-nil old) }
+nothing_passed line tells told first old stream e = record { read = []; matters = e; split = λ t. refl; counted = refl; written = λ t u. sym (append-nil old) }
 
-pub one_more_passed : (tells : Bool) (first left left' : List ℕ) (told : Bool) (old new new' stream stream' : List ℕ) (count n : ℕ) (piece added : List ℕ) → Passed thru_text tells first left told old new stream count →
-    stream' ≡ rest (stream ++ piece) → (tells ≡ true → left ≡ piece ++ left') → length piece ≡ n → (told ≡ true → new' ≡ new ++ added) → added ≡ thru_text (stream ++ piece) →
-    Passed thru_text tells first left' told old new' stream' (count + n)
-one_more_passed tells first left left' told old new new' stream stream' count n piece added p s l c w t = record {
+unfoldable pub one_more_passed : (line : List ℕ → List ℕ) (tells : Bool) (first left left' : List ℕ) (told : Bool) (old new new' stream stream' : List ℕ) (count n : ℕ) (piece added : List ℕ) → Passed line tells first left told old new stream count →
+    stream' ≡ rest (stream ++ piece) → (tells ≡ true → left ≡ piece ++ left') → length piece ≡ n → (told ≡ true → new' ≡ new ++ added) → added ≡ lines_of line (stream ++ piece) →
+    Passed line tells first left' told old new' stream' (count + n)
+one_more_passed line tells first left left' told old new new' stream stream' count n piece added p s l c w t = record {
   read = p.read ++ piece;
   matters = s ∙ ap (λ r. rest (r ++ piece)) p.matters ∙ sym (rests-in-two p.read piece);
   split = λ x. p.split x ∙ ap (λ xs. p.read ++ xs) (l x) ∙ sym (append_assoc p.read piece left');
   counted = let a : length (p.read ++ piece) ≡ length p.read + length piece = length-append p.read piece in let b : length p.read ≡ count = p.counted in omega arith;
-  written = λ x y. w y ∙ ap (λ xs. xs ++ added) (p.written x y) ∙ append_assoc old (thru_text p.read) added
-      ∙ ap (λ xs. old ++ (thru_text p.read ++ xs)) (t ∙ ap (λ r. thru_text (r ++ piece)) p.matters) ∙ ap (λ xs. old ++ xs) (sym (thru-more p.read piece));
+  written = λ x y. w y ∙ ap (λ xs. xs ++ added) (p.written x y) ∙ append_assoc old (lines_of line p.read) added
+      ∙ ap (λ xs. old ++ (lines_of line p.read ++ xs)) (t ∙ ap (λ r. lines_of line (r ++ piece)) p.matters) ∙ ap (λ xs. old ++ xs) (sym (lines-more line p.read piece));
 }
 
 -- ---- where it ends
 
-pub all_passed : (tells : Bool) (first left : List ℕ) (told : Bool) (old new stream : List ℕ) (count : ℕ) → Passed thru_text tells first left told old new stream count → tells ≡ true → told ≡ true → left ≡ [] → new ≡ old ++ thru_text first
-all_passed tells first left told old new stream count p x y e = p.written x y ∙ ap (λ xs. old ++ thru_text xs) (sym (p.split x ∙ ap (λ xs. p.read ++ xs) e ∙ append-nil p.read))
+pub all_passed : (line : List ℕ → List ℕ) (tells : Bool) (first left : List ℕ) (told : Bool) (old new stream : List ℕ) (count : ℕ) → Passed line tells first left told old new stream count → tells ≡ true → told ≡ true → left ≡ [] → new ≡ old ++ lines_of line first
+all_passed line tells first left told old new stream count p x y e = p.written x y ∙ ap (λ xs. old ++ lines_of line xs) (sym (p.split x ∙ ap (λ xs. p.read ++ xs) e ∙ append-nil p.read))
 
-pub stops_at_once : (first old : List ℕ) → StopsShort thru_text first old old
-unfolding reading
-stops_at_once first old = record { read = []; unread = first; split = refl; written = []; missing = []; now = sym (append-nil old); front = refl }
+pub stops_at_once : (text : List ℕ → List ℕ) (first old : List ℕ) → StopsShort text first old old
+stops_at_once text first old = record { read = []; unread = first; split = refl; written = []; missing = text []; now = sym (append-nil old); front = refl }
 
-pub stops : (tells : Bool) (first left : List ℕ) (told : Bool) (old new stream : List ℕ) (count : ℕ) → Passed thru_text tells first left told old new stream count → tells ≡ true → told ≡ true → StopsShort thru_text first old new
-stops tells first left told old new stream count p x y = record { read = p.read; unread = left; split = p.split x; written = thru_text p.read; missing = []; now = p.written x y; front = sym (append-nil (thru_text p.read)) }
+pub stops : (line text : List ℕ → List ℕ) (tells : Bool) (first left : List ℕ) (told : Bool) (old new stream : List ℕ) (count : ℕ) → BeginsWithLines line text → Passed line tells first left told old new stream count → tells ≡ true → told ≡ true → StopsShort text first old new
+stops line text tells first left told old new stream count b p x y = record { read = p.read; unread = left; split = p.split x; written = lines_of line p.read; missing = b.more p.read; now = p.written x y; front = b.same p.read }
 
-pub stops_within : (tells : Bool) (first left left' : List ℕ) (told : Bool) (old new new' stream : List ℕ) (count : ℕ) (piece added : List ℕ) → Passed thru_text tells first left told old new stream count →
-    (tells ≡ true → left ≡ piece ++ left') → GainsBytes new new' added → added ≡ thru_text (stream ++ piece) → tells ≡ true → told ≡ true → StopsShort thru_text first old new'
-stops_within tells first left left' told old new new' stream count piece added p l g t x y = record {
+pub stops_within : (line text : List ℕ → List ℕ) (tells : Bool) (first left left' : List ℕ) (told : Bool) (old new new' stream : List ℕ) (count : ℕ) (piece added : List ℕ) → BeginsWithLines line text → Passed line tells first left told old new stream count →
+    (tells ≡ true → left ≡ piece ++ left') → GainsBytes new new' added → added ≡ lines_of line (stream ++ piece) → tells ≡ true → told ≡ true → StopsShort text first old new'
+stops_within line text tells first left left' told old new new' stream count piece added b p l g t x y = record {
   read = p.read ++ piece;
   unread = left';
   split = p.split x ∙ ap (λ xs. p.read ++ xs) (l x) ∙ sym (append_assoc p.read piece left');
-  written = thru_text p.read ++ g.gained;
-  missing = g.missing;
-  now = g.now ∙ ap (λ xs. xs ++ g.gained) (p.written x y) ∙ append_assoc old (thru_text p.read) g.gained;
-  front = thru-more p.read piece ∙ ap (λ xs. thru_text p.read ++ xs) (sym (t ∙ ap (λ r. thru_text (r ++ piece)) p.matters) ∙ g.split) ∙ sym (append_assoc (thru_text p.read) g.gained g.missing);
+  written = lines_of line p.read ++ g.gained;
+  missing = g.missing ++ b.more (p.read ++ piece);
+  now = g.now ∙ ap (λ xs. xs ++ g.gained) (p.written x y) ∙ append_assoc old (lines_of line p.read) g.gained;
+  front = b.same (p.read ++ piece)
+      ∙ ap (λ xs. xs ++ b.more (p.read ++ piece)) (lines-more line p.read piece ∙ ap (λ xs. lines_of line p.read ++ xs) (sym (t ∙ ap (λ r. lines_of line (r ++ piece)) p.matters) ∙ g.split) ∙ sym (append_assoc (lines_of line p.read) g.gained g.missing))
+      ∙ append_assoc (lines_of line p.read ++ g.gained) g.missing (b.more (p.read ++ piece));
 }
 
 pub nothing_left : (l : List ℕ) (w n : ℕ) → (0 < length l → 0 < w → 0 < n) → 0 < w → n ≡ 0 → l ≡ []

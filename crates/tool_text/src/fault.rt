@@ -1,6 +1,7 @@
 //! Why a tool stops.
 
 use memory::OutOfMemory;
+use midi_wire::WireFault;
 use seq_engine::EngineFault;
 use std::alloc::AllocError;
 use thiserror::Error;
@@ -48,6 +49,18 @@ impl From<EngineFault> for ToolFault {
     ghost from_gives = { λ _ e. e ≡ OutOfMemory };
 
     fn from(_error: EngineFault) -> ToolFault {
+        ToolFault::OutOfMemory
+    }
+}
+
+/// A parser fails only where it found no memory.
+impl From<WireFault> for ToolFault {
+    ghost use Rattle.std.specs.Prelude.{◌≡◌};
+    ghost use Rattle.tool_text.specs.declared.fault.ToolFault.TheVariants.{OutOfMemory};
+
+    ghost from_gives = { λ _ e. e ≡ OutOfMemory };
+
+    fn from(_error: WireFault) -> ToolFault {
         ToolFault::OutOfMemory
     }
 }

@@ -2,6 +2,7 @@
 
 ghost use Rattle.std.specs.Prelude.{◌≡◌, ◌++◌, ◌<◌, OnOk};
 ghost use Rattle.tool_text.specs.Hex.{digit, spaced};
+ghost use Rattle.tool_text.specs.Wire.{in_hex};
 
 use memory::OutOfMemory;
 
@@ -11,6 +12,17 @@ pub(crate) fn push_spaced(text: &mut Vec<u8>, bytes: &[u8]) -> Result<(), OutOfM
 {
     for byte in bytes {
         text.extend_from_slice(&[b' ', digit(*byte / 16), digit(*byte % 16)])?;
+    }
+    Ok(())
+}
+
+/// Adds two upper-case digits for each byte, with one space between.
+pub(crate) fn push_in_hex(text: &mut Vec<u8>, bytes: &[u8]) -> Result<(), OutOfMemory>
+    ensures { OnOk result (text.new.items ≡ text.old.items ++ in_hex bytes.now) }
+{
+    if let [first, more @ ..] = bytes {
+        text.extend_from_slice(&[digit(*first / 16), digit(*first % 16)])?;
+        push_spaced(text, more)?;
     }
     Ok(())
 }

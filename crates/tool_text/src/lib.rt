@@ -3,7 +3,12 @@
 
 mod fault;
 mod hex;
+mod limits;
+#[cfg(test)]
+mod tests;
 mod thru;
+mod wire;
 
 pub use fault::ToolFault;
 pub use thru::thru_text;
+pub use wire::wire_text;

@@ -6,22 +6,17 @@ ghost use Rattle.midi_wire.specs.Readings.{rest};
 ghost use Rattle.seq_state.specs.State.{start};
 ghost use Rattle.seq_state.specs.Step.{port_addr, step, state_after};
 ghost use Rattle.seq_state.specs.Rows.{at};
-ghost use Rattle.tool_text.specs.declared.thru.TheConstants.{MOST};
+ghost use Rattle.tool_text.specs.declared.limits.TheConstants.{MOST};
 ghost use Rattle.tool_text.specs.Thru.{thru_line, thru_text, stream_of, joining, IsJoined, StopsShort};
 
 use crate::fault::ToolFault;
 use crate::hex::push_spaced;
+use crate::limits::{CHUNK, MOST};
 use byte_io::{Sink, Source, write_all};
 use memory::{Items, OutOfMemory};
 use node_table::{Addr, Caps, ClientId, Node, PortNo};
 use seq_engine::{Command, Delivery, Engine, Input, StepOut};
 use std::alloc::Global;
-
-/// How many bytes are read at once.
-const CHUNK: usize = 4096;
-
-/// How many bytes a stream has at most.
-const MOST: usize = 16_777_216;
 
 /// Prints, for each message of the MIDI stream that `input` gives, how it came to the second of two clients.
 ///

@@ -6,6 +6,8 @@ use Rattle.seq_state.specs.declared.log.LogEntry.TheVariants.{Delivered, Replied
 use Rattle.seq_state.specs.State.{State, start}
 use Rattle.seq_state.specs.Step.{step, settle, state_after, log_from, plain}
 use Rattle.seq_state.specs.Circle.{view}
+use Rattle.seq_state.specs.Heard.{port_of, port_bytes}
+use Rattle.seq_state.proofs.Heard.{port_bytes_law}
 use Rattle.seq_state.proofs.Kin.{isolation_law}
 use Rattle.seq_engine.specs.Seen.{Seen}
 use Rattle.seq_engine.proofs.Logs.{moment_after, moment_more, next_in_time, end_in_time, state_more, told_more, told_all}
@@ -65,3 +67,14 @@ returns-clause-isolated c = λ owner member closed.
     ∙ ap (λ (ds : List Delivery). i.entries.items ++ map Delivered ds) (c.in_ok-delivered.ensures.delivered ∙ ap (λ (e : Seen). (settle e.state c.args.until).delivered) i.invariant.stands)
     ∙ told_all s inputs c.args.until i.index i.entries.items c.loop-index-test.false i.invariant.told in
     ap (view owner member inputs) whole ∙ isolation_law owner member inputs c.args.until c.requires closed
+
+pub returns-clause-heard_alone : goal.returns-clause-heard_alone
+returns-clause-heard_alone c = λ owner member port closed.
+    let inputs = c.args.inputs.now in
+    let i = c.loop-index in
+    let s : State = state_after start (take i.index inputs) in
+    let whole : c.new.result ≡ plain inputs c.args.until =
+    c.new.ensures ∙ c.in_ok-add_deliveries.ensures
+    ∙ ap (λ (ds : List Delivery). i.entries.items ++ map Delivered ds) (c.in_ok-delivered.ensures.delivered ∙ ap (λ (e : Seen). (settle e.state c.args.until).delivered) i.invariant.stands)
+    ∙ told_all s inputs c.args.until i.index i.entries.items c.loop-index-test.false i.invariant.told in
+    ap (port_bytes (port_of owner port)) whole ∙ port_bytes_law owner member inputs c.args.until port c.requires closed

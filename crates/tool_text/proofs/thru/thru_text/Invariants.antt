@@ -1,7 +1,6 @@
 -- What was read so far is passed on.
-use Rattle.std.proofs.Common.{◌≡◌, ℕ, ◌+◌, ◌-◌, ◌≤◌, ◌++◌, List, length, true, false}
-use Rattle.midi_wire.specs.Readings.{rest}
-use Rattle.tool_text.specs.Thru.{thru_text, stream_of, IsJoined}
+use Rattle.std.proofs.Common.{◌≡◌, ◌+◌, ◌-◌, ◌≤◌, length, false}
+use Rattle.tool_text.specs.Thru.{thru_line, stream_of, IsJoined}
 use Rattle.tool_text.proofs.Passed.{Passed}
 use Rattle.tool_text.proofs.thru.thru_text.Given as goal
 
@@ -18,7 +17,7 @@ invariant-loop-count g l = record {
   eager : g.W.Sink.takes_some l.out ≡ g.W.Sink.takes_some l.fn.out;
   small : l.count ≤ 16777217;
   space : length l.chunk ≡ 4096;
-  passed : Passed thru_text (g.R.Source.tells l.fn.input) (g.R.Source.left l.fn.input) (g.R.Source.left l.input) (g.W.Sink.tells l.fn.out) (g.W.Sink.taken l.fn.out) (g.W.Sink.taken l.out) (stream_of l.engine.state) l.count;
+  passed : Passed thru_line (g.R.Source.tells l.fn.input) (g.R.Source.left l.fn.input) (g.R.Source.left l.input) (g.W.Sink.tells l.fn.out) (g.W.Sink.taken l.fn.out) (g.W.Sink.taken l.out) (stream_of l.engine.state) l.count;
 }
 
 abbrev pub decreases-loop-count : goal.decreases-loop-count

@@ -1,0 +1,5 @@
+pub mod Numbered
+pub mod Clients
+pub mod Places
+pub mod Tables
+pub mod Clearing

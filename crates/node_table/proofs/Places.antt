@@ -1,0 +1,150 @@
+-- What stands at the places after a change.
+use Rattle.std.proofs.Common.{◌≡◌, ◌≢◌, ◌<◌, ◌+◌, ◌*◌, ◌⊎◌, ◌∙◌, ℕ, zero, suc, List, [], ◌∷◌, length, get_or, set, Option, Some, None, is_some, false, refl, ap, sym, subst, inl, inr, arith}
+use Rattle.std.specs.Prelude.{IsSome}
+use Rattle.std.proofs.lemmas.Bool.{cases_eq}
+use Rattle.std.proofs.lemmas.List.{get_or-set_same, get_or-set_other, length-set}
+use Rattle.node_table.specs.Kept.{under, at_place, IsKept}
+
+-- within a list the value for what is past it is never taken
+pub get_within : {A : Type 0} (xs : List A) (i : ℕ) (d e : A) → i < length xs → get_or xs i d ≡ get_or xs i e
+get_within [] i d e l = absurd (omega arith)
+get_within (x ∷ xs) zero d e l = refl
+get_within (x ∷ xs) (suc i) d e l = get_within xs i d e (omega arith)
+
+module _ {X : Type 0} where
+  pub not_both : (o : Option X) → IsSome o → o ≡ None → ⊥
+  not_both o s e = let no : is_some o ≡ false = ap is_some e in cc
+
+  pub some_is : (o : Option X) (x : X) → o ≡ Some x → IsSome o
+  some_is o x e = ap is_some e
+
+  pub no_some : (x : X) → ◌≢◌ {A = Option X} (Some x) None
+  no_some x e = cc
+
+module _ {V X : Type 0} (names : List (Option V)) (keys : List (Option ℕ)) (slots slots' : List (Option X)) (kept : IsKept names keys slots) where
+  -- what the keys of a list find stays, where each of these keys finds what it found
+  pub at_place-same : (keys' : List (Option ℕ)) (i : ℕ) → get_or keys' i None ≡ get_or keys i None → ((k : ℕ) → get_or keys i None ≡ Some k → get_or slots' k None ≡ get_or slots k None) → at_place keys' slots' i ≡ at_place keys slots i
+  at_place-same keys' i e h = ap (under slots') e ∙ by (get_or keys i None) h
+    where
+      by : (o : Option ℕ) → ((k : ℕ) → o ≡ Some k → get_or slots' k None ≡ get_or slots k None) → under slots' o ≡ under slots o
+      by None h = refl
+      by (Some k) h = h k refl
+
+  module _ (place key : ℕ) (x : X) (in_range : place < length keys) (vacant : get_or slots key None ≡ None) (changed : get_or slots' key None ≡ Some x) (others : (k : ℕ) → k ≢ key → get_or slots' k None ≡ get_or slots k None) where
+    other_key : (i k : ℕ) → get_or keys i None ≡ Some k → k ≢ key
+    other_key i k e same = not_both _ (kept.full i k e) (ap (λ q. get_or slots q None) same ∙ vacant)
+
+    pub put-here : at_place (set keys place (Some key)) slots' place ≡ Some x
+    put-here = ap (under slots') (get_or-set_same keys place (Some key) None in_range) ∙ changed
+
+    pub put-elsewhere : (i : ℕ) → i ≢ place → at_place (set keys place (Some key)) slots' i ≡ at_place keys slots i
+    put-elsewhere i ne = at_place-same _ i (get_or-set_other keys place i (Some key) None ne) (λ k e. others k (other_key i k e))
+
+    -- a key that stands somewhere now
+    put-cases : (i k : ℕ) → get_or (set keys place (Some key)) i None ≡ Some k → ((i ≡ place) × (k ≡ key)) ⊎ ((i ≢ place) × (get_or keys i None ≡ Some k))
+    put-cases i k e = elim (cases_eq i place) [
+      | inl same ↦ let at : get_or (set keys place (Some key)) i None ≡ Some key = ap (λ j. get_or (set keys place (Some key)) j None) same ∙ get_or-set_same keys place (Some key) None in_range in
+          inl (same, cc)
+      | inr ne ↦ inr (ne, sym (get_or-set_other keys place i (Some key) None ne) ∙ e)
+    ]
+
+    pub put-kept : (row p : ℕ) → place ≡ row * 32 + p → p < 32 → get_or names row None ≢ None → IsKept names (set keys place (Some key)) slots'
+    put-kept row p is l opens =
+        record {
+          rows = kept.rows;
+          places = length-set keys place (Some key) ∙ kept.places;
+          full = λ i k e. elim (put-cases i k e) [
+            | inl h ↦ some_is _ x (ap (λ q. get_or slots' q None) h.1 ∙ changed)
+            | inr h ↦ subst IsSome (sym (others k (other_key i k h.1))) (kept.full i k h.1)
+          ];
+          apart = λ i j k e f. elim (put-cases i k e) [
+            | inl h ↦ elim (put-cases j k f) [
+              | inl g ↦ h.0 ∙ sym g.0
+              | inr g ↦ absurd (other_key j k g.1 h.1)
+            ]
+            | inr h ↦ elim (put-cases j k f) [
+              | inl g ↦ absurd (other_key i k h.1 g.1)
+              | inr g ↦ kept.apart i j k h.1 g.1
+            ]
+          ];
+          closed = λ r q s e. let differs : r ≢ row = λ same. opens (ap (λ t. get_or names t None) (sym same) ∙ e) in
+              let apart : r * 32 + q ≢ place = omega arith in
+              get_or-set_other keys place (r * 32 + q) (Some key) None apart ∙ kept.closed r q s e;
+        }
+
+  module _ (place key : ℕ) (in_range : place < length keys) (was : get_or keys place None ≡ Some key) (others : (k : ℕ) → k ≢ key → get_or slots' k None ≡ get_or slots k None) where
+    pub drop-here : at_place (set keys place None) slots' place ≡ None
+    drop-here = ap (under slots') (get_or-set_same keys place None None in_range)
+
+    pub drop-elsewhere : (i : ℕ) → i ≢ place → at_place (set keys place None) slots' i ≡ at_place keys slots i
+    drop-elsewhere i ne = at_place-same _ i (get_or-set_other keys place i None None ne) (λ k e. others k (λ same. ne (kept.apart i place k e (was ∙ ap Some (sym same)))))
+
+    drop-was : (i k : ℕ) → get_or (set keys place None) i None ≡ Some k → (i ≢ place) × (get_or keys i None ≡ Some k)
+    drop-was i k e = elim (cases_eq i place) [
+      | inl same ↦ let at : get_or (set keys place None) i None ≡ None = ap (λ j. get_or (set keys place None) j None) same ∙ get_or-set_same keys place None None in_range in
+          absurd (no_some k (sym e ∙ at))
+      | inr ne ↦ (ne, sym (get_or-set_other keys place i None None ne) ∙ e)
+    ]
+
+    pub drop-kept : IsKept names (set keys place None) slots'
+    drop-kept =
+        record {
+          rows = kept.rows;
+          places = length-set keys place None ∙ kept.places;
+          full = λ i k e. let h : (i ≢ place) × (get_or keys i None ≡ Some k) = drop-was i k e in
+              subst IsSome (sym (others k (λ same. h.0 (kept.apart i place k h.1 (was ∙ ap Some (sym same)))))) (kept.full i k h.1);
+          apart = λ i j k e f. kept.apart i j k (drop-was i k e).1 (drop-was j k f).1;
+          closed = λ r q s e. elim (cases_eq (r * 32 + q) place) [
+            | inl same ↦ ap (λ j. get_or (set keys place None) j None) same ∙ get_or-set_same keys place None None in_range
+            | inr ne ↦ get_or-set_other keys place (r * 32 + q) None None ne ∙ kept.closed r q s e
+          ];
+        }
+
+  module _ (place key : ℕ) (x : X) (was : get_or keys place None ≡ Some key) (changed : get_or slots' key None ≡ Some x) (others : (k : ℕ) → k ≢ key → get_or slots' k None ≡ get_or slots k None) where
+    pub write-here : at_place keys slots' place ≡ Some x
+    write-here = ap (under slots') was ∙ changed
+
+    pub write-elsewhere : (i : ℕ) → i ≢ place → at_place keys slots' i ≡ at_place keys slots i
+    write-elsewhere i ne = at_place-same _ i refl (λ k e. others k (λ same. ne (kept.apart i place k e (was ∙ ap Some (sym same)))))
+
+    pub write-kept : IsKept names keys slots'
+    write-kept =
+        record {
+          rows = kept.rows;
+          places = kept.places;
+          full = λ i k e. elim (cases_eq k key) [
+            | inl same ↦ some_is _ x (ap (λ q. get_or slots' q None) same ∙ changed)
+            | inr ne ↦ subst IsSome (sym (others k ne)) (kept.full i k e)
+          ];
+          apart = kept.apart;
+          closed = kept.closed;
+        }
+
+-- a client that was opened keeps no keys, and one that was closed has none left
+module _ {V X : Type 0} (names : List (Option V)) (keys : List (Option ℕ)) (slots : List (Option X)) (kept : IsKept names keys slots) where
+  pub opens-kept : (row : ℕ) (v : V) → row < length names → IsKept (set names row (Some v)) keys slots
+  opens-kept row v l =
+      record {
+        rows = length-set names row (Some v) ∙ kept.rows;
+        places = kept.places;
+        full = kept.full;
+        apart = kept.apart;
+        closed = λ r p s e. elim (cases_eq r row) [
+          | inl same ↦ let at : get_or (set names row (Some v)) r None ≡ Some v = ap (λ j. get_or (set names row (Some v)) j None) same ∙ get_or-set_same names row (Some v) None l in
+              absurd (no_some v (sym at ∙ e))
+          | inr ne ↦ kept.closed r p s (sym (get_or-set_other names row r (Some v) None ne) ∙ e)
+        ];
+      }
+
+  pub close-kept : (row : ℕ) → row < length names → ((p : ℕ) → p < 32 → get_or keys (row * 32 + p) None ≡ None) → IsKept (set names row None) keys slots
+  close-kept row l none =
+      record {
+        rows = length-set names row None ∙ kept.rows;
+        places = kept.places;
+        full = kept.full;
+        apart = kept.apart;
+        closed = λ r p s e. elim (cases_eq r row) [
+          | inl same ↦ ap (λ j. get_or keys (j * 32 + p) None) same ∙ none p s
+          | inr ne ↦ kept.closed r p s (sym (get_or-set_other names row r None None ne) ∙ e)
+        ];
+      }

@@ -1,0 +1,33 @@
+use Rattle.std.proofs.Common.{◌+◌, ◌*◌, ◌∙◌, ap, sym, set, None, arith}
+use Rattle.node_table.proofs.Clearing.{cleared-start, cleared-none, cleared-some, none_if_not}
+use Rattle.node_table.proofs.Numbered.{remove_absent}
+use Rattle.node_table.proofs.Places.{close-kept}
+use Rattle.node_table.proofs.Tables.{closed_is, closed_get, shown}
+use Rattle.node_table.proofs.table.NodeTable.close_client.Goals as goal
+use Rattle.node_table.proofs.table.NodeTable.close_client.Goals.{in-Some, in_default}
+
+pub returns-then-not-is_open-clause-closed : goal.returns-then-not-is_open-clause-closed
+returns-then-not-is_open-clause-closed g c = sym (remove_absent _ _ (closed_get _ _ (sym c.is_open.ensures ∙ c.if-not-is_open.true)))
+
+pub loop-place-init : goal.loop-place-init
+loop-place-init g c = cleared-start _ _ _ _ c.self.invariant
+
+pub remove-requires : goal.remove-requires
+remove-requires g c = c.loop-place.invariant.kept.full _ _ c.in-Some.is
+
+pub loop-place-preserved : goal.loop-place-preserved
+loop-place-preserved g c = elim c.match-self-place.branch [
+  | in-Some w ↦ rw w.self-inside-is (cleared-some _ _ _ _ _ _ _ _ _ _ c.loop-place.invariant c.loop-place.auto.place (omega (arith, c.row_of-row.ensures.small, c.loop-place-test.true)) w.in-Some.is w.remove.ensures.updates.others)
+  | in_default w ↦ rw w.self-inside-is (cleared-none _ _ _ _ _ _ _ _ c.loop-place.invariant (none_if_not _ w.in_default.not-Some))
+]
+
+pub invariant_of-self : goal.invariant_of-self
+invariant_of-self g c =
+    let h = c.loop-place.invariant in
+    close-kept _ _ _ h.kept _ (omega (arith, h.kept.rows, c.row_of-row.ensures.small)) (λ p s. h.gone (c.row_of-row.result * 32 + p) (omega arith) (omega (arith, c.loop-place-test.false)))
+
+pub returns-clause-closed : goal.returns-clause-closed
+returns-clause-closed g c =
+    let h = c.loop-place.invariant in
+    ap (λ n. shown (λ v. v.items) (set n c.row_of-row.result None) c.loop-place.self-inside.keys c.loop-place.self-inside.nodes.slots) h.same
+    ∙ closed_is _ _ _ _ _ c.self.invariant c.self.view_is _ _ _ _ c.row_of-row.ensures.start c.row_of-row.ensures.small h.low (λ i s. h.high i (omega (arith, c.loop-place.auto.place-end)))

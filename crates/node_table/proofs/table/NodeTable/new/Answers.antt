@@ -1,0 +1,8 @@
+use Rattle.node_table.proofs.Tables.{new-kept, new-shown}
+use Rattle.node_table.proofs.table.NodeTable.new.Goals as goal
+
+pub invariant_of-result : goal.invariant_of-result
+invariant_of-result g c = new-kept (λ v. v.items) _ _ _ c.nothing.ensures.none c.nothing-2.ensures.none c.nothing.ensures.len c.nothing-2.ensures.len
+
+pub returns : goal.returns
+returns g c = new-shown _ _ _ _ c.nothing.ensures.none c.nothing-2.ensures.none

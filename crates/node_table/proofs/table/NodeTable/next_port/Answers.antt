@@ -1,0 +1,23 @@
+use Rattle.std.proofs.Common.{inl, inr, arith}
+use Rattle.std.proofs.lemmas.Bool.{cases_eq}
+use Rattle.node_table.proofs.Clearing.{none_if_not}
+use Rattle.node_table.proofs.Tables.{next_port, no_more_ports, next_as}
+use Rattle.node_table.proofs.table.NodeTable.next_port.Goals as goal
+
+pub loop-number-init : goal.loop-number-init
+loop-number-init g c = λ n a b. absurd (omega (arith, a, b))
+
+pub returns-in-Some-clause-next : goal.returns-in-Some-clause-next
+returns-in-Some-clause-next g c =
+    next_as _ _ _ _ _ _ c.unwrap.ensures c.new.ensures.value
+    (next_port _ _ _ _ _ c.self.invariant c.self.view_is _ _ c.row_of-first.ensures.start c.row_of-first.ensures.small _ _ _ _ c.loop-number.auto.number c.loop-number-test.true c.in-Some.is c.index.ensures c.loop-number.invariant)
+
+pub loop-number-preserved : goal.loop-number-preserved
+loop-number-preserved g c = λ n a b. elim (cases_eq n c.loop-number.number) [
+  | inl same ↦ rw same (none_if_not _ c.in_default.not-Some)
+  | inr ne ↦ c.loop-number.invariant n a (omega (arith, b, ne))
+]
+
+pub returns-clause-none : goal.returns-clause-none
+returns-clause-none g c =
+    no_more_ports _ _ _ _ _ c.self.invariant c.self.view_is _ _ c.row_of-first.ensures.start c.row_of-first.ensures.small _ (λ n a b. c.loop-number.invariant n a (omega (arith, b, c.loop-number-test.false)))

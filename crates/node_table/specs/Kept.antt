@@ -1,0 +1,61 @@
+-- How a table keeps clients and nodes, and the map that this stands for. The client 128 + row has the places row * 32 to row * 32 + 31: sixteen ports, then sixteen filters.
+use Rattle.std.specs.Prelude.{◌≡◌, ℕ, zero, suc, ◌+◌, ◌*◌, ◌<◌, List, length, Option, Some, None, IsSome, slice_index_or}
+use Rattle.std.specs.Option.{option_map}
+use Rattle.std.specs.Ordering.{nat_cmp}
+use Rattle.std.specs.FinMap
+use Rattle.std.specs.FinMap.{FinMap}
+use Rattle.node_table.specs.Nodes.{NodeSeen, ClientNodes}
+use Rattle.node_table.specs.declared.number.Addr.{Addr}
+use Rattle.node_table.specs.declared.number.Node.{Node}
+use Rattle.node_table.specs.declared.number.Node.TheVariants.{Port, Filter}
+
+module _ {X : Type 0} where
+  abbrev pub put_at : FinMap nat_cmp X → ℕ → Option X → FinMap nat_cmp X
+  put_at m k None = m
+  put_at m k (Some x) = FinMap.insert m k x
+
+  -- of the numbers from `base` on, the first n, each with what f has for it
+  unfoldable pub numbered : ℕ → ℕ → (ℕ → Option X) → FinMap nat_cmp X
+  numbered base zero f = FinMap.empty
+  numbered base (suc n) f = put_at (numbered base n f) (base + n) (f n)
+
+  -- what stands under a key that may be there
+  abbrev pub under : List (Option X) → Option ℕ → Option X
+  under slots None = None
+  under slots (Some key) = slice_index_or slots key None
+
+  -- what stands at a place
+  abbrev pub at_place : List (Option ℕ) → List (Option X) → ℕ → Option X
+  at_place keys slots place = under slots (slice_index_or keys place None)
+
+-- where a node stands among those of its client
+abbrev pub place_in : Node → ℕ
+place_in (Port n) = n
+place_in (Filter n) = 16 + n
+
+abbrev pub is_small : Node → Type 0
+is_small (Port n) = n < 16
+is_small (Filter n) = n < 16
+
+-- the place of an address
+pub record IsPlace (addr : Addr) (row place : ℕ) : Type 0 where
+  pub client : addr.client ≡ 128 + row
+  pub below : row < 64
+  pub small : is_small addr.node
+  pub is : place ≡ row * 32 + place_in addr.node
+
+module _ {P : Type 0} where
+  abbrev pub client_kept : (ℕ → Option (NodeSeen P)) → ℕ → List ℕ → ClientNodes P
+  client_kept node row name = record { name = name; ports = numbered 0 16 (λ n. node (row * 32 + n)); filters = numbered 0 16 (λ n. node (row * 32 + (16 + n))) }
+
+  -- the clients, of a name for each row and a node for each place
+  abbrev pub clients_kept : (ℕ → Option (List ℕ)) → (ℕ → Option (NodeSeen P)) → FinMap nat_cmp (ClientNodes P)
+  clients_kept name node = numbered 128 64 (λ row. option_map (client_kept node row) (name row))
+
+-- No key stands at two places, something stands under each, and who is not open has none.
+pub record IsKept {V X : Type 0} (names : List (Option V)) (keys : List (Option ℕ)) (slots : List (Option X)) : Type 0 where
+  pub rows : length names ≡ 64
+  pub places : length keys ≡ 2048
+  pub full : (i key : ℕ) → slice_index_or keys i None ≡ Some key → IsSome (slice_index_or slots key None)
+  pub apart : (i j key : ℕ) → slice_index_or keys i None ≡ Some key → slice_index_or keys j None ≡ Some key → i ≡ j
+  pub closed : (row p : ℕ) → p < 32 → slice_index_or names row None ≡ None → slice_index_or keys (row * 32 + p) None ≡ None

@@ -1,0 +1,9 @@
+pub mod Names
+pub mod Capabilities
+pub mod Nodes
+pub mod Kept
+pub mod Lends
+pub mod Listing
+pub mod Faults
+pub mod LendsNode
+pub mod Text

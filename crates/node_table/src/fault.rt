@@ -1,0 +1,39 @@
+//! What a table answers in place of a client or a node.
+
+use std::alloc::AllocError;
+use thiserror::Error;
+
+/// Why a client was not opened, in the order in which it is tested.
+#[derive(Clone, Copy, Debug, Drop, PartialEq, Eq, Error)]
+pub enum OpenFault {
+    #[error("the client is open already")]
+    AlreadyOpen,
+    #[error("this is no name")]
+    BadName,
+    #[error("out of memory")]
+    OutOfMemory,
+}
+
+impl From<AllocError> for OpenFault {
+    ghost use Rattle.std.specs.Prelude.{◌≡◌};
+    ghost use Rattle.node_table.specs.declared.fault.OpenFault.TheVariants.{OutOfMemory};
+
+    ghost from_gives = { λ _ e. e ≡ OutOfMemory };
+
+    fn from(_error: AllocError) -> OpenFault {
+        OpenFault::OutOfMemory
+    }
+}
+
+/// Why a node was not made, in the order in which it is tested. Each gives the node's body back.
+#[derive(Debug, Drop)]
+pub enum CreateFault<P> {
+    /// The client is not open.
+    NotOpen(P),
+    /// A port's name has to be a name, and a filter's has to be empty.
+    BadName(P),
+    /// There is a node at the address.
+    Exists(P),
+    /// A growth was refused.
+    OutOfMemory(P),
+}

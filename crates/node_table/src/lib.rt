@@ -1,0 +1,21 @@
+//! Who is there: the numbers of clients and nodes, their addresses, their names, and what a node allows.
+//!
+//! The numbers and the capabilities are those of the ALSA sequencer interface, within limits of our own: clients 128 to
+//! 191, ports and filters 0 to 15 of each client.
+#![tactic(auto)]
+
+mod caps;
+mod fault;
+mod info;
+mod name;
+mod number;
+mod table;
+#[cfg(test)]
+mod tests;
+
+pub use caps::{Caps, permitted};
+pub use fault::{CreateFault, OpenFault};
+pub use info::NodeInfo;
+pub use name::is_name;
+pub use number::{Addr, ClientId, FilterNo, Node, PortAddr, PortNo, QueueNo};
+pub use table::NodeTable;

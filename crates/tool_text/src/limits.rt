@@ -1,0 +1,7 @@
+//! How much of a stream is read.
+
+/// How many bytes are read at once.
+pub(crate) const CHUNK: usize = 4096;
+
+/// How many bytes a stream has at most.
+pub(crate) const MOST: usize = 16_777_216;
