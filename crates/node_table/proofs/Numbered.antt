@@ -16,13 +16,13 @@ is_equal Equal e = refl
 is_equal Greater e = cc
 
 -- keys that tie are one
-same_key : (x y : ℕ) → eq_by_cmp nat_cmp x y ≡ true → x ≡ y
+pub same_key : (x y : ℕ) → eq_by_cmp nat_cmp x y ≡ true → x ≡ y
 same_key x y e = nat_cmp-IsAntisymmetric x y (is_equal (nat_cmp x y) e)
 
-tied_itself : (x : ℕ) → eq_by_cmp nat_cmp x x ≡ true
+pub tied_itself : (x : ℕ) → eq_by_cmp nat_cmp x x ≡ true
 tied_itself x = ap is_eq (sym (nat_cmp_is x x Equal refl))
 
-apart_keys : (x y : ℕ) → x ≢ y → eq_by_cmp nat_cmp x y ≡ false
+pub apart_keys : (x y : ℕ) → x ≢ y → eq_by_cmp nat_cmp x y ≡ false
 apart_keys x y ne = elim (eq_by_cmp nat_cmp x y) as (λ b. eq_by_cmp nat_cmp x y ≡ b → b ≡ false) [
   | true ↦ λ e. absurd (ne (same_key x y e))
   | false ↦ λ e. refl

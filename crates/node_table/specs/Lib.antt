@@ -1,4 +1,5 @@
 pub mod Names
+pub mod Addresses
 pub mod Capabilities
 pub mod Nodes
 pub mod Kept

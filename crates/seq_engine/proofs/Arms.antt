@@ -3,8 +3,8 @@ use Rattle.std.proofs.Common.{◌≡◌, ℕ, Bool, true, false, not, cond, eqb,
 use Rattle.std.specs.Prelude.{length, is_some, IsSome, Result, Ok, Err, IfOk}
 use Rattle.std.specs.Option.{option_map}
 use Rattle.memory.specs.declared.out_of_memory.OutOfMemory.{OutOfMemory}
-use Rattle.std.specs.List.{filter, flat_map}
-use Rattle.std.specs.Ordering.{nat_cmp, eq_by_cmp}
+use Rattle.std.specs.List.{filter}
+use Rattle.std.specs.Ordering.{nat_cmp}
 use Rattle.std.specs.Cmp.{nat_cmp_total}
 use Rattle.std.specs.FinMap
 use Rattle.std.specs.FinMap.{FinMap, same_map, nat_cmp-IsAntisymmetric}
@@ -12,19 +12,22 @@ use Rattle.std.proofs.lemmas.Bool.{eqb-true}
 use Rattle.midi_wire.specs.Readings.{reading}
 use Rattle.node_table.specs.Names.{is_name}
 use Rattle.node_table.specs.declared.caps.Caps.{Caps}
-use Rattle.node_table.specs.declared.number.Node.{Node}
 use Rattle.seq_engine.specs.declared.patchbay.StepOut.{StepOut}
 use Rattle.seq_engine.specs.Turns.{IsAnswer, Gives}
 use Rattle.seq_state.specs.declared.refusal.Refusal.{Refusal}
 use Rattle.seq_state.specs.Refusals.{number_of}
 use Rattle.seq_state.specs.declared.input.Command.{Command}
-use Rattle.seq_state.specs.declared.input.Command.TheVariants.{Open, CreatePort, Connect, Bytes, Send}
-use Rattle.seq_state.specs.declared.input.Edge.{Edge}
+use Rattle.seq_state.specs.declared.input.Command.TheVariants.{Open, Close, CreatePort, DeletePort, Connect, Disconnect, Bytes, Send}
+use Rattle.node_table.specs.Addresses.{same_node}
+use Rattle.node_table.specs.declared.number.Node.TheVariants.{Port}
+use Rattle.patch_graph.specs.declared.edge.Edge.{Edge}
+use Rattle.patch_graph.specs.Edges.{touches, touches_client, without_edge}
+use Rattle.std.proofs.lemmas.List.Elements.{filter_agree}
+use Rattle.std.proofs.lemmas.Bool.Decides.{nat_tests}
 use Rattle.seq_state.specs.declared.log.Delivery.{Delivery}
-use Rattle.seq_state.specs.declared.log.Reply.{Reply}
 use Rattle.seq_state.specs.declared.log.Reply.TheVariants.{Done, Messages, Refused}
 use Rattle.seq_state.specs.State.{Client, State}
-use Rattle.seq_state.specs.Own.{Own, Row, kept, own_command, first_refusal, opened, changed, put_port, feed_port, fed_of, has_port, port_of, not_open, no_port}
+use Rattle.seq_state.specs.Own.{Own, Row, own_command, first_refusal, opened, changed, put_port, drop_port, feed_port, fed_of, has_port, port_of, no_port}
 use Rattle.seq_state.specs.Step.{port_addr, copies, sent, Stepped, unless, loses, put, with_own, after_own, after_row, refusal_of, command_step, IsRefusal}
 use Rattle.seq_state.proofs.Kin.{get-put}
 
@@ -52,6 +55,24 @@ with_kept s clients actor own g e =
     let state : FinMap nat_cmp Client → List Edge → State = λ c es. record { clients = c; edges = es } in
     ap (λ c. state c s.edges) e ∙ ap (state (put s.clients actor own.client)) (sym (ap (λ f. filter (λ x. not (loses actor f x)) s.edges) g ∙ none_lost actor s.edges))
 
+state_of : (c d : FinMap nat_cmp Client) (es fs : List Edge) → c ≡ d → es ≡ fs → ◌≡◌ {A = State} (record { clients = c; edges = es }) (record { clients = d; edges = fs })
+state_of c d es fs e f = ap (λ x. record { clients = x; edges = es }) e ∙ ap (λ x. record { clients = d; edges = x }) f
+
+-- what goes with a client, and with a port
+client_lost : (actor : ℕ) (e : Edge) → touches_client actor e ≡ loses actor (λ n. true) e
+client_lost actor e = grind arith
+
+either_end : (a b a' b' x y : Bool) → a ≡ a' → b ≡ b' → (a && x || b && y) ≡ (a' && x || b' && y)
+either_end a b a' b' x y e f = ap (λ z. z && x || b && y) e ∙ ap (λ z. a' && x || z && y) f
+
+number_turned : (m n : ℕ) → eqb m n ≡ eqb n m
+number_turned m n = grind (arith, nat_tests)
+
+port_lost : (actor port : ℕ) (e : Edge) → touches (port_addr actor port) e ≡ loses actor (same_node (Port port)) e
+port_lost actor port e =
+    either_end (eqb actor e.source.client) (eqb actor e.target.client) (eqb e.source.client actor) (eqb e.target.client actor) (same_node (Port port) e.source.node) (same_node (Port port) e.target.node)
+    (number_turned actor e.source.client) (number_turned actor e.target.client)
+
 -- the answer of a row that is not refused
 own_answer : (s t : State) (moment actor : ℕ) (row : Row) (out : StepOut) → row.refusal ≡ None → t ≡ with_own s actor row.own → out.reply ≡ row.own.reply → out.delivered ≡ sent s.edges moment actor row.own.sends → IsAnswer out t (after_row s moment actor row)
 own_answer s t moment actor row out n e r d =
@@ -75,6 +96,20 @@ module _ (s : State) (moment actor : ℕ) (out : StepOut) where
   creating clients port name caps n e r d =
       own_answer s (record { clients = clients; edges = s.edges }) moment actor (own_command (FinMap.get s.clients actor) (CreatePort port name caps)) out n
       (with_kept s clients actor (own_command (FinMap.get s.clients actor) (CreatePort port name caps)).own refl e) r d
+
+  pub closing : (clients : FinMap nat_cmp Client) (edges : List Edge) → refusal_of s actor Close ≡ None → clients ≡ FinMap.remove s.clients actor → edges ≡ filter (λ e. not (touches_client actor e)) s.edges → out.reply ≡ Done → out.delivered ≡ [] →
+      IsAnswer out (record { clients = clients; edges = edges }) (command_step s moment actor Close)
+  unfolding own_command
+  closing clients edges n e f r d =
+      own_answer s (record { clients = clients; edges = edges }) moment actor (own_command (FinMap.get s.clients actor) Close) out n
+      (state_of clients (FinMap.remove s.clients actor) edges _ e (f ∙ filter_agree _ _ (λ x. ap not (client_lost actor x)) s.edges)) r d
+
+  pub deleting : (clients : FinMap nat_cmp Client) (edges : List Edge) (port : ℕ) → refusal_of s actor (DeletePort port) ≡ None → clients ≡ put s.clients actor (changed (FinMap.get s.clients actor) (drop_port port)) →
+      edges ≡ filter (λ e. not (touches (port_addr actor port) e)) s.edges → out.reply ≡ Done → out.delivered ≡ [] → IsAnswer out (record { clients = clients; edges = edges }) (command_step s moment actor (DeletePort port))
+  unfolding own_command
+  deleting clients edges port n e f r d =
+      own_answer s (record { clients = clients; edges = edges }) moment actor (own_command (FinMap.get s.clients actor) (DeletePort port)) out n
+      (state_of clients _ edges _ e (f ∙ filter_agree _ _ (λ x. ap not (port_lost actor port x)) s.edges)) r d
 
   pub feeding : (clients : FinMap nat_cmp Client) (port : ℕ) (bytes : List ℕ) (messages : List (List ℕ)) (count : ℕ) → refusal_of s actor (Bytes port bytes) ≡ None →
       clients ≡ put s.clients actor (changed (FinMap.get s.clients actor) (feed_port bytes (port_of (FinMap.get s.clients actor) port) port)) →
@@ -115,6 +150,12 @@ open_to_create s actor port name caps n =
     let client : Option Client = FinMap.get s.clients actor in
     not_false _ (first_passed 1 (not (is_some client)) ((3, not (is_name name)) ∷ (6, has_port client port) ∷ []) n).0
 
+pub open_to_delete : (s : State) (actor port : ℕ) → refusal_of s actor (DeletePort port) ≡ None → is_some (FinMap.get s.clients actor) ≡ true
+unfolding own_command
+open_to_delete s actor port n =
+    let client : Option Client = FinMap.get s.clients actor in
+    not_false _ (first_passed 1 (not (is_some client)) (no_port client port ∷ []) n).0
+
 pub port_to_feed : (s : State) (actor port : ℕ) (bytes : List ℕ) → refusal_of s actor (Bytes port bytes) ≡ None → has_port (FinMap.get s.clients actor) port ≡ true
 unfolding own_command
 port_to_feed s actor port bytes n =
@@ -127,10 +168,13 @@ port_to_feed s actor port bytes n =
 pub not_refused : (s : State) (moment actor : ℕ) (command : Command) → refusal_of s actor command ≡ None → IsRefusal (command_step s moment actor command).reply → ⊥
 unfolding own_command
 not_refused s moment actor (Open name in_size out_size) n r = subst (λ o. IsRefusal (unless o s (after_own s moment actor (own_command (FinMap.get s.clients actor) (Open name in_size out_size)).own)).reply) n r
+not_refused s moment actor Close n r = subst (λ o. IsRefusal (unless o s (after_own s moment actor (own_command (FinMap.get s.clients actor) Close).own)).reply) n r
+not_refused s moment actor (DeletePort port) n r = subst (λ o. IsRefusal (unless o s (after_own s moment actor (own_command (FinMap.get s.clients actor) (DeletePort port)).own)).reply) n r
 not_refused s moment actor (CreatePort port name caps) n r = subst (λ o. IsRefusal (unless o s (after_own s moment actor (own_command (FinMap.get s.clients actor) (CreatePort port name caps)).own)).reply) n r
 not_refused s moment actor (Bytes port bytes) n r = subst (λ o. IsRefusal (unless o s (after_own s moment actor (own_command (FinMap.get s.clients actor) (Bytes port bytes)).own)).reply) n r
 not_refused s moment actor (Send port message) n r = subst (λ o. IsRefusal (unless o s (after_own s moment actor (own_command (FinMap.get s.clients actor) (Send port message)).own)).reply) n r
 not_refused s moment actor (Connect source target) n r = subst (λ o. IsRefusal (unless o s (record { state = record s { edges = s.edges ++ record { source = source; target = target } ∷ [] }; delivered = []; reply = Done })).reply) n r
+not_refused s moment actor (Disconnect source target) n r = subst (λ o. IsRefusal (unless o s (record { state = record s { edges = without_edge s.edges source target }; delivered = []; reply = Done })).reply) n r
 
 some_same : (x y : ℕ) → ◌≡◌ {A = Option ℕ} (Some x) (Some y) → x ≡ y
 some_same x y h = cc
@@ -142,6 +186,9 @@ refused_by s n out r d (Some m) a h = (refl, r ∙ ap Refused (sym (some_same m 
 -- the answer of a command that is refused
 pub refusing : (s : State) (moment actor : ℕ) (command : Command) (n : ℕ) (out : StepOut) → refusal_of s actor command ≡ Some n → out.reply ≡ Refused n → out.delivered ≡ [] → IsAnswer out s (command_step s moment actor command)
 refusing s moment actor (Connect source target) n out e r d = refused_by s n out r d (refusal_of s actor (Connect source target)) _ e
+refusing s moment actor (Disconnect source target) n out e r d = refused_by s n out r d (refusal_of s actor (Disconnect source target)) _ e
+refusing s moment actor Close n out e r d = refused_by s n out r d (refusal_of s actor Close) _ e
+refusing s moment actor (DeletePort port) n out e r d = refused_by s n out r d (refusal_of s actor (DeletePort port)) _ e
 refusing s moment actor (Open name in_size out_size) n out e r d = refused_by s n out r d (refusal_of s actor (Open name in_size out_size)) _ e
 refusing s moment actor (CreatePort port name caps) n out e r d = refused_by s n out r d (refusal_of s actor (CreatePort port name caps)) _ e
 refusing s moment actor (Bytes port bytes) n out e r d = refused_by s n out r d (refusal_of s actor (Bytes port bytes)) _ e

@@ -1,6 +1,6 @@
-pub mod Trees
+pub mod Mapped
 pub mod Outcomes
-pub mod Ports
+pub mod Keeping
 pub mod Arms
 pub mod Sending
 pub mod Logs

@@ -1,12 +1,13 @@
 -- Copies, one subscription after another, and one message after another.
-use Rattle.std.proofs.Common.{◌≡◌, ℕ, ◌+◌, ◌<◌, Bool, true, false, cond, List, [], ◌∷◌, ◌++◌, map, length, take, get_or, Option, Some, None, refl, sym, ap, ◌∙◌, append_assoc, append-nil}
+use Rattle.std.proofs.Common.{◌≡◌, ℕ, ◌+◌, ◌<◌, Bool, true, false, cond, List, [], ◌∷◌, ◌++◌, length, take, get_or, Option, Some, None, refl, sym, ap, ◌∙◌, append_assoc, append-nil}
 use Rattle.std.specs.Prelude.{option_to_list}
 use Rattle.std.specs.List.{filter, filter_map, cons_option}
 use Rattle.std.proofs.lemmas.List.{take_more}
 use Rattle.node_table.specs.declared.number.Addr.{Addr}
-use Rattle.seq_state.specs.declared.input.Edge.{Edge}
+use Rattle.patch_graph.specs.declared.edge.Edge.{Edge}
 use Rattle.seq_state.specs.declared.log.Delivery.{Delivery}
-use Rattle.seq_state.specs.Step.{same, delivery, copies}
+use Rattle.node_table.specs.Addresses.{same}
+use Rattle.seq_state.specs.Step.{delivery, copies}
 use Rattle.seq_state.proofs.Lists.{filter-append}
 
 -- one more at the end

@@ -1,114 +1,71 @@
 //! The open clients with their ports.
 
-ghost use Rattle.std.specs.Prelude.{◌≡◌, [], ◌++◌, length, IfOk, OnOk, IsSome, is_some, true};
+ghost use Rattle.std.specs.Prelude.{◌≡◌, [], ◌++◌, length, IfOk, OnOk, is_some, true};
 ghost use Rattle.std.specs.FinMap as map;
-ghost use Rattle.std.specs.Option.{option_copied};
+ghost use Rattle.std.specs.Option.{option_copied, option_map};
 ghost use Rattle.midi_wire.specs.Readings.{reading, rest};
-ghost use Rattle.seq_state.specs.Own.{opened, has_port, port_of, fed_of, changed, put_port, feed_port};
-ghost use Rattle.seq_state.specs.Step.{node_caps, caps_of, put};
+ghost use Rattle.seq_engine.specs.Clients.{port_seen};
+ghost use Rattle.seq_state.specs.Own.{opened, has_port, port_of, fed_of, changed, put_port, drop_port, feed_port};
+ghost use Rattle.seq_state.specs.Step.{port_addr, node_caps, caps_of, put};
 
-use crate::port::PortEntry;
+use crate::port::PortStream;
 use memory::OutOfMemory;
 use midi_wire::Message;
-use node_table::{Addr, Caps, ClientId, PortNo};
+use node_table::{Addr, Caps, ClientId, Node, NodeInfo, NodeTable, PortNo};
 use std::alloc::Global;
-use std::collections::BTreeMap;
+use std::array;
 use std::marker::Model;
 
-#[derive(Drop)]
-struct ClientEntry {
-    name: Vec<u8>,
-    in_size: u32,
-    out_size: u32,
-    ports: BTreeMap<PortNo, PortEntry>,
-}
-
-impl Model for ClientEntry {
-    ghost use Rattle.seq_state.specs.State.{Client, coded_client};
-    ghost use Rattle.std.specs.FinMap as map;
-
-    ghost Value = { Client };
-
-    ghost coded = { coded_client };
-
-    ghost view = { λ c. record { name = c.name.items; in_size = c.in_size; out_size = c.out_size; ports = map.from_entries c.ports.entries } };
-}
-
-impl ClientEntry {
-    fn new(
-        alloc: Global,
-        name: &[u8],
-        in_size: u32,
-        out_size: u32,
-    ) -> Result<ClientEntry, OutOfMemory>
-        ensures { IfOk result (λ c. c ≡ opened name.now in_size out_size) }
-    {
-        Ok(ClientEntry {
-            name: Vec::from_slice(alloc, name)?,
-            in_size,
-            out_size,
-            ports: BTreeMap::new(alloc),
-        })
-    }
-
-    fn port(&self, port: PortNo) -> Option<&PortEntry>
-        ensures { option_copied result ≡ map.get self.now.ports port }
-    {
-        self.ports.get(&port)
-    }
-
-    fn port_caps(&self, port: PortNo) -> Option<Caps>
-        ensures { result ≡ caps_of (map.get self.now.ports port) }
-    {
-        match self.port(port) {
-            Some(entry) => Some(entry.caps()),
-            None => None,
-        }
-    }
-
-    fn add_port(&mut self, port: PortNo, entry: PortEntry) -> Result<(), OutOfMemory>
-        ensures { OnOk result (self.new ≡ put_port port entry self.old) }
-    {
-        self.ports.insert(port, entry)?;
-        Ok(())
-    }
-
-    fn feed(
-        &mut self,
-        port: PortNo,
-        bytes: &[u8],
-        out: &mut Vec<Message>,
-    ) -> Result<usize, OutOfMemory>
-        requires { IsSome (map.get self.old.ports port) }
-        ensures fed { OnOk result (self.new ≡ feed_port bytes.now (map.get self.old.ports port) port self.old) }
-        ensures told { OnOk result (out.new.items ≡ out.old.items ++ reading (fed_of (map.get self.old.ports port) ++ bytes.now)) }
-        ensures number { IfOk result (λ n. n ≡ length (reading (fed_of (map.get self.old.ports port) ++ bytes.now))) }
-    {
-        if let Some(entry) = self.ports.get_mut(&port) {
-            return entry.feed(bytes, out);
-        }
-        unreachable!()
-    }
+/// How many events a client's pools hold.
+#[derive(Clone, Copy)]
+pub(crate) struct PoolSizes {
+    input: u32,
+    output: u32,
 }
 
 /// The open clients.
 #[derive(Drop)]
 pub(crate) struct Clients {
     alloc: Global,
-    entries: BTreeMap<ClientId, ClientEntry>,
+    nodes: NodeTable<PortStream>,
+    // By the number of the client.
+    sizes: [PoolSizes; 192],
 }
 
 impl Model for Clients {
+    ghost use Rattle.std.specs.Prelude.{◌≡◌, length};
     ghost use Rattle.std.specs.Ordering.{nat_cmp};
     ghost use Rattle.std.specs.Coded.{coded_ℕ};
     ghost use Rattle.std.specs.FinMap as map;
+    ghost use Rattle.seq_engine.specs.Clients.{clients_seen};
     ghost use Rattle.seq_state.specs.State.{Client, coded_client};
 
     ghost Value = { map.FinMap nat_cmp Client };
 
     ghost coded = { map.code coded_ℕ coded_client };
 
-    ghost view = { λ c. map.from_entries c.entries.entries };
+    ghost view = { λ c. clients_seen c.nodes c.sizes };
+
+    ghost invariant = { λ c. length c.sizes ≡ 192 };
+}
+
+fn none_yet() -> [PoolSizes; 192]
+    ensures { length result ≡ 192 }
+{
+    array::from_fn(|_| PoolSizes {
+        input: 0,
+        output: 0,
+    })
+}
+
+/// The address of a client's port.
+pub(crate) fn port_addr(client: ClientId, port: PortNo) -> Addr
+    ensures { result ≡ port_addr client port }
+{
+    Addr {
+        client,
+        node: Node::Port(port),
+    }
 }
 
 impl Clients {
@@ -117,29 +74,27 @@ impl Clients {
     {
         Clients {
             alloc,
-            entries: BTreeMap::new(alloc),
+            nodes: NodeTable::new(alloc),
+            sizes: none_yet(),
         }
-    }
-
-    fn get(&self, client: ClientId) -> Option<&ClientEntry>
-        ensures { option_copied result ≡ map.get self.now client }
-    {
-        self.entries.get(&client)
     }
 
     pub(crate) fn is_open(&self, client: ClientId) -> bool
         ensures { result ≡ is_some (map.get self.now client) }
     {
-        self.get(client).is_some()
+        self.nodes.is_open(client)
+    }
+
+    fn port(&self, client: ClientId, port: PortNo) -> Option<&NodeInfo<PortStream>>
+        ensures { option_map port_seen (option_copied result) ≡ port_of (map.get self.now client) port }
+    {
+        self.nodes.find(&port_addr(client, port))
     }
 
     pub(crate) fn has_port(&self, client: ClientId, port: PortNo) -> bool
         ensures { result ≡ has_port (map.get self.now client) port }
     {
-        match self.get(client) {
-            Some(entry) => entry.port(port).is_some(),
-            None => false,
-        }
+        self.port(client, port).is_some()
     }
 
     /// What a node allows, if it is there. Filters are none yet.
@@ -155,12 +110,13 @@ impl Clients {
     fn port_caps(&self, client: ClientId, port: PortNo) -> Option<Caps>
         ensures { result ≡ caps_of (port_of (map.get self.now client) port) }
     {
-        match self.get(client) {
-            Some(entry) => entry.port_caps(port),
+        match self.port(client, port) {
+            Some(node) => Some(node.caps()),
             None => None,
         }
     }
 
+    /// Opens a client that is not open, with a name that is one.
     pub(crate) fn open(
         &mut self,
         client: ClientId,
@@ -170,11 +126,25 @@ impl Clients {
     ) -> Result<(), OutOfMemory>
         ensures { OnOk result (self.new ≡ map.insert self.old client (opened name.now in_size out_size)) }
     {
-        let entry = ClientEntry::new(self.alloc, name, in_size, out_size)?;
-        self.entries.insert(client, entry)?;
+        // The client is not open and the name is one, so memory alone can be wanting.
+        let Ok(()) = self.nodes.open_client(client, name) else {
+            return Err(OutOfMemory);
+        };
+        self.sizes[client.number() as usize] = PoolSizes {
+            input: in_size,
+            output: out_size,
+        };
         Ok(())
     }
 
+    /// Closes a client, with its ports.
+    pub(crate) fn close(&mut self, client: ClientId)
+        ensures { self.new ≡ map.remove self.old client }
+    {
+        self.nodes.close_client(client);
+    }
+
+    /// Makes a port that is not there, of a client that is open.
     pub(crate) fn create_port(
         &mut self,
         client: ClientId,
@@ -182,14 +152,26 @@ impl Clients {
         name: &[u8],
         caps: Caps,
     ) -> Result<(), OutOfMemory>
-        requires { IsSome (map.get self.old client) }
+        requires { is_some (map.get self.old client) ≡ true }
         ensures { OnOk result (self.new ≡ put self.old client (changed (map.get self.old client) (put_port port (record { name = name.now; caps = caps; fed = [] })))) }
     {
-        let port_entry = PortEntry::new(self.alloc, name, caps)?;
-        if let Some(entry) = self.entries.get_mut(&client) {
-            return entry.add_port(port, port_entry);
-        }
-        unreachable!()
+        let stream = PortStream::new(self.alloc);
+        // The client is open, the name is one and the number free, so memory alone can be wanting.
+        let Ok(()) = self
+            .nodes
+            .create(port_addr(client, port), name, caps, stream)
+        else {
+            return Err(OutOfMemory);
+        };
+        Ok(())
+    }
+
+    /// Deletes a port of a client that is open.
+    pub(crate) fn delete_port(&mut self, client: ClientId, port: PortNo)
+        requires { is_some (map.get self.old client) ≡ true }
+        ensures { self.new ≡ put self.old client (changed (map.get self.old client) (drop_port port)) }
+    {
+        self.nodes.delete(port_addr(client, port));
     }
 
     /// Feeds a port that is there.
@@ -205,8 +187,8 @@ impl Clients {
         ensures told { OnOk result (out.new.items ≡ out.old.items ++ reading (fed_of (port_of (map.get self.old client) port) ++ bytes.now)) }
         ensures number { IfOk result (λ n. n ≡ length (reading (fed_of (port_of (map.get self.old client) port) ++ bytes.now))) }
     {
-        if let Some(entry) = self.entries.get_mut(&client) {
-            return entry.feed(port, bytes, out);
+        if let Some(stream) = self.nodes.body_mut(&port_addr(client, port)) {
+            return stream.feed(bytes, out);
         }
         unreachable!()
     }

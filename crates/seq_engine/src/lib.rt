@@ -4,6 +4,7 @@
 #![tactic(auto)]
 
 mod clients;
+mod edges;
 mod engine;
 mod fault;
 mod patchbay;
@@ -15,9 +16,12 @@ pub use engine::Engine;
 pub use fault::EngineFault;
 pub use memory::{Items, OutOfMemory};
 pub use node_table::{Addr, Caps, ClientId, FilterNo, Node, PortAddr, PortNo};
+pub use patch_graph::Edge;
 pub use patchbay::StepOut;
 pub use runs::{RunLog, is_timed, run};
-pub use seq_state::{Command, Delivery, Edge, Input, LogEntry, Refusal, Reply};
+pub use seq_state::{Command, Delivery, Input, LogEntry, Refusal, Reply};
 
+#[cfg(test)]
+mod patch_tests;
 #[cfg(test)]
 mod tests;

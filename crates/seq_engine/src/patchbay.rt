@@ -4,12 +4,14 @@ ghost use Rattle.std.specs.Prelude.{◌≡◌, [], ◌++◌, map, None, OnOk, If
 ghost use Rattle.seq_state.specs.State.{start};
 ghost use Rattle.seq_state.specs.Step.{port_addr, delivery, copies, sent, refusal_of, command_step};
 
-use crate::clients::Clients;
-use crate::refusals::{refusal, same};
+use crate::clients::{Clients, port_addr};
+use crate::edges::{remove_client, remove_edge, remove_node, same};
+use crate::refusals::refusal;
 use memory::{Items, OutOfMemory};
 use midi_wire::Message;
-use node_table::{Addr, Caps, ClientId, Node, PortAddr, PortNo};
-use seq_state::{Command, Delivery, Edge, Reply};
+use node_table::{Addr, Caps, ClientId, PortAddr, PortNo};
+use patch_graph::Edge;
+use seq_state::{Command, Delivery, Reply};
 use std::alloc::Global;
 use std::marker::Model;
 
@@ -79,10 +81,13 @@ impl Patchbay {
                 in_size,
                 out_size,
             } => self.open(turn, name.as_slice(), *in_size, *out_size),
+            Command::Close => Ok(self.close(turn)),
             Command::CreatePort { port, name, caps } => {
                 self.create_port(turn, *port, name.as_slice(), *caps)
             }
+            Command::DeletePort { port } => Ok(self.delete_port(turn, *port)),
             Command::Connect { source, target } => self.connect(turn, *source, *target),
+            Command::Disconnect { source, target } => Ok(self.disconnect(turn, source, target)),
             Command::Bytes { port, bytes } => self.bytes(turn, *port, bytes.as_slice()),
             Command::Send { port, message } => self.send(turn, *port, message),
         }
@@ -102,6 +107,15 @@ impl Patchbay {
         Ok(self.answer(Reply::Done))
     }
 
+    fn close(&mut self, turn: Turn) -> StepOut
+        requires { refusal_of self.old turn.actor Command.Close ≡ None }
+        ensures { IsAnswer result self.new (command_step self.old turn.moment turn.actor Command.Close) }
+    {
+        self.clients.close(turn.actor);
+        remove_client(&mut self.edges, turn.actor);
+        self.answer(Reply::Done)
+    }
+
     fn create_port(
         &mut self,
         turn: Turn,
@@ -116,12 +130,29 @@ impl Patchbay {
         Ok(self.answer(Reply::Done))
     }
 
+    fn delete_port(&mut self, turn: Turn, port: PortNo) -> StepOut
+        requires { refusal_of self.old turn.actor (Command.DeletePort port) ≡ None }
+        ensures { IsAnswer result self.new (command_step self.old turn.moment turn.actor (Command.DeletePort port)) }
+    {
+        self.clients.delete_port(turn.actor, port);
+        remove_node(&mut self.edges, &port_addr(turn.actor, port));
+        self.answer(Reply::Done)
+    }
+
     fn connect(&mut self, turn: Turn, source: Addr, target: Addr) -> Result<StepOut, OutOfMemory>
         requires { refusal_of self.old turn.actor (Command.Connect source target) ≡ None }
         ensures { IfOk result (λ out. IsAnswer out self.new (command_step self.old turn.moment turn.actor (Command.Connect source target))) }
     {
         self.edges.push(Edge { source, target })?;
         Ok(self.answer(Reply::Done))
+    }
+
+    fn disconnect(&mut self, turn: Turn, source: &Addr, target: &Addr) -> StepOut
+        requires { refusal_of self.old turn.actor (Command.Disconnect source.now target.now) ≡ None }
+        ensures { IsAnswer result self.new (command_step self.old turn.moment turn.actor (Command.Disconnect source.now target.now)) }
+    {
+        remove_edge(&mut self.edges, source, target);
+        self.answer(Reply::Done)
     }
 
     fn bytes(&mut self, turn: Turn, port: PortNo, bytes: &[u8]) -> Result<StepOut, OutOfMemory>
@@ -177,15 +208,6 @@ impl Patchbay {
             reply,
             delivered: Items::new(Vec::new(self.alloc)),
         }
-    }
-}
-
-fn port_addr(client: ClientId, port: PortNo) -> Addr
-    ensures { result ≡ port_addr client port }
-{
-    Addr {
-        client,
-        node: Node::Port(port),
     }
 }
 

@@ -2,17 +2,20 @@
 //!
 //! Nothing here takes memory or changes anything.
 
-ghost use Rattle.std.specs.Prelude.{◌≡◌, [], ◌∷◌, not, ◌&&◌, is_some};
+ghost use Rattle.std.specs.Prelude.{◌≡◌, ℕ, Bool, List, [], ◌∷◌, not, ◌&&◌, is_some, Some, IfSome, IfNone};
 ghost use Rattle.std.specs.FinMap as map;
 ghost use Rattle.std.specs.Option.{option_map};
 ghost use Rattle.node_table.specs.Names.{is_name};
 ghost use Rattle.seq_state.specs.Own.{first_refusal, is_size, not_open, no_port, has_port};
 ghost use Rattle.seq_state.specs.Refusals.{number_of};
-ghost use Rattle.seq_state.specs.Step.{same, has_edge, connect_refusal, refusal_of};
+ghost use Rattle.patch_graph.specs.declared.edge.Edge as declared;
+ghost use Rattle.seq_state.specs.Step.{patch_refusal, connect_refusal, disconnect_refusal, refusal_of};
 
 use crate::clients::Clients;
+use crate::edges::{has_edge, sources};
 use node_table::{Addr, ClientId, PortNo, is_name, permitted};
-use seq_state::{Command, Edge, Refusal};
+use patch_graph::Edge;
+use seq_state::{Command, Refusal};
 
 /// The refusal with the lowest number of those that stand.
 #[tactic(auto, unfolding(seq_state::specs::Own::own_command))]
@@ -30,14 +33,17 @@ pub(crate) fn refusal(
             in_size,
             out_size,
         } => open(clients, actor, name.as_slice(), *in_size, *out_size),
+        Command::Close => close(clients, actor),
         Command::CreatePort {
             port,
             name,
             caps: _,
         } => { create_port(clients, actor, *port, name.as_slice()) }
+        Command::DeletePort { port } => at_port(clients, actor, *port),
         Command::Connect { source, target } => connect(clients, edges, actor, source, target),
-        Command::Bytes { port, bytes: _ } => from_port(clients, actor, *port),
-        Command::Send { port, message: _ } => from_port(clients, actor, *port),
+        Command::Disconnect { source, target } => disconnect(clients, edges, actor, source, target),
+        Command::Bytes { port, bytes: _ } => at_port(clients, actor, *port),
+        Command::Send { port, message: _ } => at_port(clients, actor, *port),
     }
 }
 
@@ -62,6 +68,15 @@ fn open(
     None
 }
 
+fn close(clients: &Clients, actor: ClientId) -> Option<Refusal>
+    ensures { option_map number_of result ≡ first_refusal (not_open (map.get clients.now actor) ∷ []) }
+{
+    if !clients.is_open(actor) {
+        return Some(Refusal::NotOpen);
+    }
+    None
+}
+
 fn create_port(clients: &Clients, actor: ClientId, port: PortNo, name: &[u8]) -> Option<Refusal>
     ensures { option_map number_of result ≡ first_refusal (not_open (map.get clients.now actor) ∷ (3, not (is_name name.now)) ∷ (6, has_port (map.get clients.now actor) port) ∷ []) }
 {
@@ -77,8 +92,8 @@ fn create_port(clients: &Clients, actor: ClientId, port: PortNo, name: &[u8]) ->
     None
 }
 
-/// For what is sent from a port.
-fn from_port(clients: &Clients, actor: ClientId, port: PortNo) -> Option<Refusal>
+/// For what is done at a port of the actor's own.
+fn at_port(clients: &Clients, actor: ClientId, port: PortNo) -> Option<Refusal>
     ensures { option_map number_of result ≡ first_refusal (not_open (map.get clients.now actor) ∷ no_port (map.get clients.now actor) port ∷ []) }
 {
     if !clients.is_open(actor) {
@@ -90,14 +105,10 @@ fn from_port(clients: &Clients, actor: ClientId, port: PortNo) -> Option<Refusal
     None
 }
 
-fn connect(
-    clients: &Clients,
-    edges: &[Edge],
-    actor: ClientId,
-    source: &Addr,
-    target: &Addr,
-) -> Option<Refusal>
-    ensures { option_map number_of result ≡ connect_refusal (record { clients = clients.now; edges = edges.now }) actor source.now target.now }
+/// For every change of the subscriptions.
+fn patch(clients: &Clients, actor: ClientId, source: &Addr, target: &Addr) -> Option<Refusal>
+    ensures stands { IfSome result (λ r. (edges : List declared.Edge) (more : List (ℕ × Bool)) → patch_refusal (record { clients = clients.now; edges = edges }) actor source.now target.now more ≡ Some (number_of r)) }
+    ensures none { IfNone result ((edges : List declared.Edge) (more : List (ℕ × Bool)) → patch_refusal (record { clients = clients.now; edges = edges }) actor source.now target.now more ≡ first_refusal more) }
 {
     if !clients.is_open(actor) {
         return Some(Refusal::NotOpen);
@@ -113,8 +124,44 @@ fn connect(
     if !permitted(actor, source, read, target, write) {
         return Some(Refusal::NotPermitted);
     }
+    None
+}
+
+fn connect(
+    clients: &Clients,
+    edges: &[Edge],
+    actor: ClientId,
+    source: &Addr,
+    target: &Addr,
+) -> Option<Refusal>
+    ensures { option_map number_of result ≡ connect_refusal (record { clients = clients.now; edges = edges.now }) actor source.now target.now }
+{
+    if let Some(refusal) = patch(clients, actor, source, target) {
+        return Some(refusal);
+    }
     if has_edge(edges, source, target) {
         return Some(Refusal::AlreadyConnected);
+    }
+    if sources(edges, target) >= 32 {
+        return Some(Refusal::SourcesFull);
+    }
+    None
+}
+
+fn disconnect(
+    clients: &Clients,
+    edges: &[Edge],
+    actor: ClientId,
+    source: &Addr,
+    target: &Addr,
+) -> Option<Refusal>
+    ensures { option_map number_of result ≡ disconnect_refusal (record { clients = clients.now; edges = edges.now }) actor source.now target.now }
+{
+    if let Some(refusal) = patch(clients, actor, source, target) {
+        return Some(refusal);
+    }
+    if !has_edge(edges, source, target) {
+        return Some(Refusal::NotConnected);
     }
     None
 }
@@ -123,17 +170,4 @@ fn is_size(size: u32) -> bool
     ensures { result ≡ is_size size }
 {
     size >= 1 && size <= 2000
-}
-
-fn has_edge(edges: &[Edge], source: &Addr, target: &Addr) -> bool
-    ensures { result ≡ has_edge edges.now source.now target.now }
-{
-    edges.iter().any(|edge| same(source, &edge.source) && same(target, &edge.target))
-}
-
-/// Whether two addresses are one.
-pub(crate) fn same(a: &Addr, b: &Addr) -> bool
-    ensures { result ≡ same a.now b.now }
-{
-    *a == *b
 }

@@ -4,22 +4,22 @@ use std::alloc::Global;
 use std::process::Abort;
 use std::test::Fail;
 
-fn client(number: u8) -> Result<ClientId, Fail> {
+pub(crate) fn client(number: u8) -> Result<ClientId, Fail> {
     Ok(ClientId::new(number).ok_or("a client number")?)
 }
 
-fn port(number: u8) -> Result<PortNo, Fail> {
+pub(crate) fn port(number: u8) -> Result<PortNo, Fail> {
     Ok(PortNo::new(number).ok_or("a port number")?)
 }
 
-fn port_at(number: u8, port_number: u8) -> Result<Addr, Fail> {
+pub(crate) fn port_at(number: u8, port_number: u8) -> Result<Addr, Fail> {
     Ok(Addr {
         client: client(number)?,
         node: Node::Port(port(port_number)?),
     })
 }
 
-fn said(moment: u64, actor: u8, command: Command) -> Result<Input, Fail> {
+pub(crate) fn said(moment: u64, actor: u8, command: Command) -> Result<Input, Fail> {
     Ok(Input {
         moment,
         actor: client(actor)?,
@@ -31,7 +31,13 @@ fn items(alloc: Global, bytes: &[u8]) -> Result<Items<u8>, Fail> {
     Ok(Items::new(Vec::from_slice(alloc, bytes)?))
 }
 
-fn open(alloc: Global, moment: u64, actor: u8, name: &[u8], size: u32) -> Result<Input, Fail> {
+pub(crate) fn open(
+    alloc: Global,
+    moment: u64,
+    actor: u8,
+    name: &[u8],
+    size: u32,
+) -> Result<Input, Fail> {
     let name = items(alloc, name)?;
     said(
         moment,
@@ -44,7 +50,7 @@ fn open(alloc: Global, moment: u64, actor: u8, name: &[u8], size: u32) -> Result
     )
 }
 
-fn create(
+pub(crate) fn create(
     alloc: Global,
     moment: u64,
     actor: u8,
@@ -58,18 +64,24 @@ fn create(
     said(moment, actor, Command::CreatePort { port, name, caps })
 }
 
-fn connect(moment: u64, actor: u8, source: Addr, target: Addr) -> Result<Input, Fail> {
+pub(crate) fn connect(moment: u64, actor: u8, source: Addr, target: Addr) -> Result<Input, Fail> {
     said(moment, actor, Command::Connect { source, target })
 }
 
-fn bytes(alloc: Global, moment: u64, actor: u8, number: u8, bytes: &[u8]) -> Result<Input, Fail> {
+pub(crate) fn bytes(
+    alloc: Global,
+    moment: u64,
+    actor: u8,
+    number: u8,
+    bytes: &[u8],
+) -> Result<Input, Fail> {
     let bytes = items(alloc, bytes)?;
     let port = port(number)?;
     said(moment, actor, Command::Bytes { port, bytes })
 }
 
 /// Client 128 with a port that others may read, client 129 with one that others may write to, and their subscription.
-fn two_clients(alloc: Global) -> Result<Vec<Input>, Fail> {
+pub(crate) fn two_clients(alloc: Global) -> Result<Vec<Input>, Fail> {
     let mut inputs = Vec::new(alloc);
     inputs.push(open(alloc, 0, 128, b"a", 8)?)?;
     inputs.push(create(alloc, 0, 128, 0, b"out", 33)?)?;

@@ -1,6 +1,6 @@
 -- Two states that are alike within a circle, and that each input keeps them so.
 use Rattle.std.proofs.Common.{◌≡◌, ℕ, ◌+◌, Bool, true, false, not, cond, eqb, ◌&&◌, List, [], ◌∷◌, ◌++◌, map, drop, Option, Some, None, refl, sym, ap, subst, ◌∙◌, arith, append-nil}
-use Rattle.std.specs.Prelude.{is_some}
+use Rattle.std.specs.Prelude.{is_some, nat_le, length}
 use Rattle.std.specs.List.{filter, filter_map, list_any, list_all, flat_map}
 use Rattle.std.specs.Ordering.{nat_cmp, eq_by_cmp}
 use Rattle.std.specs.Cmp.{nat_cmp_total}
@@ -13,8 +13,10 @@ use Rattle.node_table.specs.declared.number.Addr.{Addr}
 use Rattle.node_table.specs.declared.number.Node.{Node}
 use Rattle.node_table.specs.declared.number.Node.TheVariants.{Port, Filter}
 use Rattle.seq_state.specs.declared.input.Command.{Command}
-use Rattle.seq_state.specs.declared.input.Command.TheVariants.{Connect}
-use Rattle.seq_state.specs.declared.input.Edge.{Edge}
+use Rattle.seq_state.specs.declared.input.Command.TheVariants.{Connect, Disconnect}
+use Rattle.node_table.specs.Addresses.{same_node, same}
+use Rattle.patch_graph.specs.declared.edge.Edge.{Edge}
+use Rattle.patch_graph.specs.Edges.{edge, is_edge, has_edge, sources_of, most_sources}
 use Rattle.seq_state.specs.declared.input.Input.{Input}
 use Rattle.seq_state.specs.declared.log.Delivery.{Delivery}
 use Rattle.seq_state.specs.declared.log.LogEntry.{LogEntry}
@@ -22,9 +24,9 @@ use Rattle.seq_state.specs.declared.log.LogEntry.TheVariants.{Delivered, Replied
 use Rattle.seq_state.specs.declared.log.Reply.{Reply}
 use Rattle.seq_state.specs.State.{Client, State, start}
 use Rattle.seq_state.specs.Own.{Own, Row, first_refusal, own_command}
-use Rattle.seq_state.specs.Step.{same_node, same, port_addr, delivery, copies, sent, Stepped, unless, loses, put, with_own, after_own, after_row, caps_at, node_caps, permitted, edge, is_edge, has_edge, patch_refusal, connect_refusal, connected, after_patch, command_step, step, log_from, plain, IsTimed, IsRefusal}
+use Rattle.seq_state.specs.Step.{port_addr, delivery, copies, sent, Stepped, unless, loses, put, with_own, after_own, after_row, caps_at, node_caps, permitted, patch_refusal, connect_refusal, disconnect_refusal, connected, disconnected, after_patch, command_step, step, log_from, plain, IsTimed, IsRefusal}
 use Rattle.seq_state.specs.Circle.{only, is_inner, inner_node, aims_outside, IsClosedAt, IsClosedFrom, Sight, Came, Told, Outside, sight, sight_of_reply, is_to, view, IsolationLaw}
-use Rattle.seq_state.proofs.Lists.{both_left, both_right, filter-filter, filter-wider, list_any-wider, filter-under, filter-never, list_all-one, refuted, list_all-filter, list_all-append, filter-append, filter-filter_map, filter-flat_map, flat_map-agree, flat_map-none, flat_map-append, slice_get-drop, drop-next}
+use Rattle.seq_state.proofs.Lists.{both_left, both_right, filter-filter, filter-wider, list_any-wider, filter-under, filter-never, list_all-one, not_by, filter-outside, refuted, list_all-filter, list_all-append, filter-append, filter-filter_map, filter-flat_map, flat_map-agree, flat_map-none, flat_map-append, slice_get-drop, drop-next}
 
 same_number : (q c : ℕ) → eq_by_cmp nat_cmp q c ≡ eqb q c
 same_number q c = grind (arith, nat_tests)
@@ -182,6 +184,12 @@ module _ (owner : ℕ) (member : ℕ → Bool) where
       ∙ ap (list_any p) k.edges
       ∙ list_any-wider p into (λ e h. is_edge_into source target e i h) t.edges
 
+  same_sources : (s t : State) → Kin s t → (target : Addr) → is_inner owner member target ≡ true → sources_of s.edges target ≡ sources_of t.edges target
+  same_sources s t k target i =
+      let p : Edge → Bool = λ e. same target e.target in
+      let inside : (e : Edge) → p e ≡ true → into e ≡ true = λ e h. sym (same_inner owner member target e.target h) ∙ i in
+      ap length (sym (filter-wider p into inside s.edges) ∙ ap (filter p) k.edges ∙ filter-wider p into inside t.edges)
+
   -- inside the circle the refusals are the same
   same_refusal : (s t : State) → Kin s t → (actor : ℕ) (source target : Addr) (more : List (ℕ × Bool)) → member actor ≡ true → member source.client ≡ true → member target.client ≡ true → patch_refusal s actor source target more ≡ patch_refusal t actor source target more
   same_refusal s t k actor source target more a b c =
@@ -206,6 +214,21 @@ module _ (owner : ℕ) (member : ℕ → Bool) where
         subst (λ gs. list_all r gs ≡ true) (sym (filter-append into es (edge source target ∷ [])))
         (list_all-append r (filter into es) (filter into (edge source target ∷ [])) w (list_all-one into r (edge source target) h));
   }
+
+  disconnecting : (source target : Addr) → Edit (disconnected source target) source target
+  disconnecting source target = record {
+    outside = λ o es. filter-outside other into (λ e h. not_by (is_edge source target e) (λ k. false≢true (sym o ∙ is_edge_into_same source target e k ∙ h))) es;
+    inside = λ es fs k. filter-filter into other es ∙ ap (filter other) k ∙ sym (filter-filter into other fs);
+    within = λ h es w.
+        let r : Edge → Bool = λ e. member e.source.client in
+        subst (λ gs. list_all r gs ≡ true) (sym (filter-filter into other es)) (list_all-filter r other (filter into es) w);
+  }
+    where
+      other : Edge → Bool
+      other e = not (is_edge source target e)
+
+      is_edge_into_same : (source target : Addr) (e : Edge) → is_edge source target e ≡ true → is_inner owner member target ≡ into e
+      is_edge_into_same source target e k = same_inner owner member target e.target (both_right (same source e.source) (same target e.target) k)
 
   -- ---- one step
 
@@ -311,11 +334,22 @@ module _ (owner : ℕ) (member : ℕ → Bool) where
   command_alike o s t k w moment actor (Connect source target) m c =
       let p : Option ℕ = connect_refusal s actor source target in
       let q : Option ℕ = connect_refusal t actor source target in
+      let full : List Edge → ℕ × Bool = λ es. (13, nat_le most_sources (sources_of es target)) in
       let same_pq : is_inner owner member target ≡ true → p ≡ q = λ i.
-      same_refusal s t k actor source target ((11, has_edge s.edges source target) ∷ []) m ((c i).0 m) (inner_member o target i)
-      ∙ ap (λ b. patch_refusal t actor source target ((11, b) ∷ [])) (same_edge s t k source target i) in (
+      same_refusal s t k actor source target ((11, has_edge s.edges source target) ∷ full s.edges ∷ []) m ((c i).0 m) (inner_member o target i)
+      ∙ ap (λ b. patch_refusal t actor source target ((11, b) ∷ full s.edges ∷ [])) (same_edge s t k source target i)
+      ∙ ap (λ n. patch_refusal t actor source target ((11, has_edge t.edges source target) ∷ (13, nat_le most_sources n) ∷ [])) (same_sources s t k target i) in (
         patch_member o (connected source target) source target (connecting source target) s t k w p q (λ i. (c i).0 m) same_pq,
         patch_told s t moment actor p q (connected source target s.edges) (connected source target t.edges) (is_inner owner member target) same_pq,
+      )
+  command_alike o s t k w moment actor (Disconnect source target) m c =
+      let p : Option ℕ = disconnect_refusal s actor source target in
+      let q : Option ℕ = disconnect_refusal t actor source target in
+      let same_pq : is_inner owner member target ≡ true → p ≡ q = λ i.
+      same_refusal s t k actor source target ((12, not (has_edge s.edges source target)) ∷ []) m ((c i).0 m) (inner_member o target i)
+      ∙ ap (λ b. patch_refusal t actor source target ((12, not b) ∷ [])) (same_edge s t k source target i) in (
+        patch_member o (disconnected source target) source target (disconnecting source target) s t k w p q (λ i. (c i).0 m) same_pq,
+        patch_told s t moment actor p q (disconnected source target s.edges) (disconnected source target t.edges) (is_inner owner member target) same_pq,
       )
   command_alike o s t k w moment actor command m c =
       let h = own_member o s t moment actor command k w m in
@@ -327,6 +361,8 @@ module _ (owner : ℕ) (member : ℕ → Bool) where
   command_aside : member owner ≡ true → (s : State) → Within s → (moment actor : ℕ) (command : Command) → member actor ≡ false → IsClosedAt owner member actor command (command_step s moment actor command).reply → Aside (command_step s moment actor command) s
   command_aside o s w moment actor (Connect source target) m c =
       patch_aside (connected source target) source target (connecting source target) s w (connect_refusal s actor source target) (λ i. (c i).1 m)
+  command_aside o s w moment actor (Disconnect source target) m c =
+      patch_aside (disconnected source target) source target (disconnecting source target) s w (disconnect_refusal s actor source target) (λ i. (c i).1 m)
   command_aside o s w moment actor command m c = row_aside o s moment actor (own_command (FinMap.get s.clients actor) command) w m
 
   stranger_step : member owner ≡ true → (s : State) → Within s → (i : Input) → member i.actor ≡ false → IsClosedAt owner member i.actor i.command (step s i).reply → Aside (step s i) s

@@ -5,7 +5,7 @@ use Rattle.node_table.specs.declared.number.Addr.{Addr}
 use Rattle.node_table.specs.declared.number.Node.{Node}
 use Rattle.node_table.specs.declared.number.Node.TheVariants.{Port, Filter}
 use Rattle.seq_state.specs.declared.input.Command.{Command}
-use Rattle.seq_state.specs.declared.input.Command.TheVariants.{Connect}
+use Rattle.seq_state.specs.declared.input.Command.TheVariants.{Connect, Disconnect}
 use Rattle.seq_state.specs.declared.input.Input.{Input}
 use Rattle.seq_state.specs.declared.log.Delivery.{Delivery}
 use Rattle.seq_state.specs.declared.log.LogEntry.{LogEntry}
@@ -29,15 +29,17 @@ is_inner owner member a = inner_node owner member a.client a.node
 -- a change of the subscriptions of a node outside
 abbrev pub aims_outside : ℕ → (ℕ → Bool) → Command → Bool
 aims_outside owner member (Connect source target) = not (is_inner owner member target)
+aims_outside owner member (Disconnect source target) = not (is_inner owner member target)
 aims_outside owner member _ = false
 
--- At a target inside, a member joins members' nodes alone, and a stranger is refused.
+-- At a target inside, a member joins or parts members' nodes alone, and a stranger is refused.
 abbrev pub JoinsWithin : ℕ → (ℕ → Bool) → ℕ → Addr → Addr → Reply → Type 0
 JoinsWithin owner member actor source target reply =
     IsTrue (is_inner owner member target) → (IsTrue (member actor) → IsTrue (member source.client)) × (IsFalse (member actor) → IsRefusal reply)
 
 abbrev pub IsClosedAt : ℕ → (ℕ → Bool) → ℕ → Command → Reply → Type 0
 IsClosedAt owner member actor (Connect source target) reply = JoinsWithin owner member actor source target reply
+IsClosedAt owner member actor (Disconnect source target) reply = JoinsWithin owner member actor source target reply
 IsClosedAt owner member actor _ reply = Unit {0}
 
 -- each of the inputs keeps the circle closed, from this state on

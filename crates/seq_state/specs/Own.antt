@@ -1,13 +1,15 @@
 -- What a command does with what is the actor's own: a row for each command.
-use Rattle.std.specs.Prelude.{ℕ, Bool, false, not, ◌&&◌, if◌then◌else◌, nat_le, List, [], ◌∷◌, ◌++◌, map, length, Option, Some, None, is_some}
+use Rattle.std.specs.Prelude.{ℕ, Bool, true, false, not, ◌&&◌, if◌then◌else◌, nat_le, List, [], ◌∷◌, ◌++◌, map, length, Option, Some, None, is_some}
 use Rattle.std.specs.Ordering.{nat_cmp}
 use Rattle.std.specs.FinMap
 use Rattle.std.specs.FinMap.{FinMap}
 use Rattle.midi_wire.specs.Readings.{reading, rest}
 use Rattle.node_table.specs.Names.{is_name}
+use Rattle.node_table.specs.Addresses.{same_node}
 use Rattle.node_table.specs.declared.number.Node.{Node}
+use Rattle.node_table.specs.declared.number.Node.TheVariants.{Port}
 use Rattle.seq_state.specs.declared.input.Command.{Command}
-use Rattle.seq_state.specs.declared.input.Command.TheVariants.{Open, CreatePort, Connect, Bytes, Send}
+use Rattle.seq_state.specs.declared.input.Command.TheVariants.{Open, Close, CreatePort, DeletePort, Connect, Disconnect, Bytes, Send}
 use Rattle.seq_state.specs.declared.log.Reply.{Reply}
 use Rattle.seq_state.specs.declared.log.Reply.TheVariants.{Done, Messages}
 use Rattle.seq_state.specs.State.{Client, PortInfo}
@@ -54,6 +56,9 @@ has_port client port = is_some (port_of client port)
 abbrev pub put_port : ℕ → PortInfo → Client → Client
 put_port port info c = record c { ports = FinMap.insert c.ports port info }
 
+abbrev pub drop_port : ℕ → Client → Client
+drop_port port c = record c { ports = FinMap.remove c.ports port }
+
 -- what still matters of what a port was fed
 abbrev pub fed_of : Option PortInfo → List ℕ
 fed_of None = []
@@ -83,9 +88,13 @@ unfoldable pub own_command : Option Client → Command → Row
 own_command client (Open name in_size out_size) =
     row ((2, is_some client) ∷ (3, not (is_name name)) ∷ (4, not (is_size in_size && is_size out_size)) ∷ [])
     (kept (Some (opened name in_size out_size)) Done)
+own_command client Close = row (not_open client ∷ []) (record { client = None; gone = λ n. true; sends = []; reply = Done })
 own_command client (CreatePort port name caps) =
     row (not_open client ∷ (3, not (is_name name)) ∷ (6, has_port client port) ∷ [])
     (kept (changed client (put_port port (record { name = name; caps = caps; fed = [] }))) Done)
+own_command client (DeletePort port) =
+    row (not_open client ∷ no_port client port ∷ [])
+    (record { client = changed client (drop_port port); gone = same_node (Port port); sends = []; reply = Done })
 own_command client (Bytes port bytes) =
     let info = port_of client port in
     let messages = reading (fed_of info ++ bytes) in
@@ -95,3 +104,4 @@ own_command client (Send port message) =
     row (not_open client ∷ no_port client port ∷ [])
     (record (kept client Done) { sends = (port, message) ∷ [] })
 own_command client (Connect source target) = row [] (kept client Done)
+own_command client (Disconnect source target) = row [] (kept client Done)

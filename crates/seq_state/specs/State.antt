@@ -9,7 +9,7 @@ use Rattle.node_table.specs.declared.caps.Caps.{Caps}
 use Rattle.node_table.specs.declared.number.Addr.{Addr}
 use Rattle.node_table.specs.declared.number.Node.{Node}
 use Rattle.node_table.specs.declared.number.Node.TheVariants.{Port, Filter}
-use Rattle.seq_state.specs.declared.input.Edge.{Edge}
+use Rattle.patch_graph.specs.declared.edge.Edge.{Edge}
 
 -- A port, with what still matters of the bytes it was fed.
 pub record PortInfo : Type 0 where

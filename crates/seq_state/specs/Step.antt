@@ -1,5 +1,5 @@
 -- Settling, one input, and a run.
-use Rattle.std.specs.Prelude.{ℕ, ◌+◌, ◌≤◌, ◌==◌, Bool, true, false, not, ◌&&◌, ◌||◌, if◌then◌else◌, List, [], ◌∷◌, ◌++◌, map, Option, Some, None, is_some}
+use Rattle.std.specs.Prelude.{ℕ, ◌+◌, ◌≤◌, ◌==◌, Bool, false, not, ◌&&◌, ◌||◌, if◌then◌else◌, nat_le, List, [], ◌∷◌, ◌++◌, map, Option, Some, None, is_some}
 use Rattle.std.specs.List.{filter, filter_map, list_any, flat_map}
 use Rattle.std.specs.Ordering.{nat_cmp}
 use Rattle.std.specs.FinMap
@@ -10,8 +10,10 @@ use Rattle.node_table.specs.declared.number.Addr.{Addr}
 use Rattle.node_table.specs.declared.number.Node.{Node}
 use Rattle.node_table.specs.declared.number.Node.TheVariants.{Port, Filter}
 use Rattle.seq_state.specs.declared.input.Command.{Command}
-use Rattle.seq_state.specs.declared.input.Command.TheVariants.{Connect}
-use Rattle.seq_state.specs.declared.input.Edge.{Edge}
+use Rattle.seq_state.specs.declared.input.Command.TheVariants.{Connect, Disconnect}
+use Rattle.node_table.specs.Addresses.{same}
+use Rattle.patch_graph.specs.declared.edge.Edge.{Edge}
+use Rattle.patch_graph.specs.Edges.{edge, has_edge, without_edge, sources_of, most_sources}
 use Rattle.seq_state.specs.declared.input.Input.{Input}
 use Rattle.seq_state.specs.declared.log.Delivery.{Delivery}
 use Rattle.seq_state.specs.declared.log.LogEntry.{LogEntry}
@@ -21,21 +23,10 @@ use Rattle.seq_state.specs.declared.log.Reply.TheVariants.{Done, Refused}
 use Rattle.seq_state.specs.State.{Client, PortInfo, State, start}
 use Rattle.seq_state.specs.Own.{Own, Row, first_refusal, own_command, port_of}
 
--- ---- addresses
-
-abbrev pub same_node : Node → Node → Bool
-same_node (Port m) (Port n) = m == n
-same_node (Filter m) (Filter n) = m == n
-same_node (Port m) (Filter n) = false
-same_node (Filter m) (Port n) = false
-
-abbrev pub same : Addr → Addr → Bool
-same a b = (a.client == b.client) && same_node a.node b.node
+-- ---- sending
 
 abbrev pub port_addr : ℕ → ℕ → Addr
 port_addr client port = record { client = client; node = Port port }
-
--- ---- sending
 
 -- a message as it comes to a node
 abbrev pub delivery : ℕ → List ℕ → ℕ → Node → Option Delivery
@@ -115,15 +106,6 @@ permitted actor source None target write = false
 permitted actor source (Some r) target None = false
 permitted actor source (Some r) target (Some w) = permits actor source r.0 target w.0
 
-abbrev pub edge : Addr → Addr → Edge
-edge source target = record { source = source; target = target }
-
-abbrev pub is_edge : Addr → Addr → Edge → Bool
-is_edge source target e = same source e.source && same target e.target
-
-abbrev pub has_edge : List Edge → Addr → Addr → Bool
-has_edge edges source target = list_any (is_edge source target) edges
-
 -- the refusal of a change of the subscriptions, with the conditions that it has besides
 abbrev pub patch_refusal : State → ℕ → Addr → Addr → List (ℕ × Bool) → Option ℕ
 patch_refusal s actor source target more =
@@ -136,10 +118,17 @@ patch_refusal s actor source target more =
     )
 
 abbrev pub connect_refusal : State → ℕ → Addr → Addr → Option ℕ
-connect_refusal s actor source target = patch_refusal s actor source target ((11, has_edge s.edges source target) ∷ [])
+connect_refusal s actor source target =
+    patch_refusal s actor source target ((11, has_edge s.edges source target) ∷ (13, nat_le most_sources (sources_of s.edges target)) ∷ [])
+
+abbrev pub disconnect_refusal : State → ℕ → Addr → Addr → Option ℕ
+disconnect_refusal s actor source target = patch_refusal s actor source target ((12, not (has_edge s.edges source target)) ∷ [])
 
 abbrev pub connected : Addr → Addr → List Edge → List Edge
 connected source target edges = edges ++ edge source target ∷ []
+
+abbrev pub disconnected : Addr → Addr → List Edge → List Edge
+disconnected source target edges = without_edge edges source target
 
 -- the subscriptions changed
 abbrev pub after_patch : State → Option ℕ → List Edge → Stepped
@@ -150,10 +139,12 @@ after_patch s refusal edges = unless refusal s (record { state = record s { edge
 -- the refusal of a command, if one stands
 abbrev pub refusal_of : State → ℕ → Command → Option ℕ
 refusal_of s actor (Connect source target) = connect_refusal s actor source target
+refusal_of s actor (Disconnect source target) = disconnect_refusal s actor source target
 refusal_of s actor command = (own_command (FinMap.get s.clients actor) command).refusal
 
 abbrev pub command_step : State → ℕ → ℕ → Command → Stepped
 command_step s moment actor (Connect source target) = after_patch s (connect_refusal s actor source target) (connected source target s.edges)
+command_step s moment actor (Disconnect source target) = after_patch s (disconnect_refusal s actor source target) (disconnected source target s.edges)
 command_step s moment actor command = after_row s moment actor (own_command (FinMap.get s.clients actor) command)
 
 -- first settling, then the command

@@ -23,14 +23,25 @@ pub enum Command {
         in_size: u32,
         out_size: u32,
     },
+    /// Closes the client. Its ports go, with their subscriptions.
+    Close,
     /// Makes a port.
     CreatePort {
         port: PortNo,
         name: Items<u8>,
         caps: Caps,
     },
+    /// Deletes a port, with its subscriptions.
+    DeletePort {
+        port: PortNo,
+    },
     /// Subscribes the target to the source.
     Connect {
+        source: Addr,
+        target: Addr,
+    },
+    /// Ends the subscription of the target to the source.
+    Disconnect {
         source: Addr,
         target: Addr,
     },
@@ -44,11 +55,4 @@ pub enum Command {
         port: PortNo,
         message: Message,
     },
-}
-
-/// A subscription: what leaves the source reaches the target.
-#[derive(Clone, Copy, Debug, PartialEq, Eq, Hash)]
-pub struct Edge {
-    pub source: Addr,
-    pub target: Addr,
 }

@@ -12,8 +12,9 @@ ghost use Rattle.seq_state.specs.Circle.{IsolationLaw};
 ghost use Rattle.seq_state.specs.Heard.{PortBytesLaw};
 ghost use Rattle.seq_state.specs.Rows.{FirstNote};
 
-pub use input::{Command, Edge, Input};
+pub use input::{Command, Input};
 pub use log::{Delivery, LogEntry, Reply};
+pub use patch_graph::Edge;
 pub use refusal::Refusal;
 
 /// What the owner of a closed circle sees of a run is what it sees of the plain run of the circle's inputs alone.

@@ -12,7 +12,8 @@ use Rattle.seq_state.specs.declared.input.Command.TheVariants.{Open, CreatePort,
 use Rattle.seq_state.specs.Rows.{at}
 use Rattle.seq_state.specs.State.{Client, PortInfo, State, start}
 use Rattle.seq_state.specs.Own.{own_command, opened, has_port, put_port}
-use Rattle.seq_state.specs.Step.{edge, port_addr, after_row, after_patch, step, state_after}
+use Rattle.patch_graph.specs.Edges.{edge, most_sources}
+use Rattle.seq_state.specs.Step.{port_addr, after_row, after_patch, step, state_after}
 use Rattle.tool_text.specs.Thru.{stream_of, joining, IsJoined}
 
 -- clients and ports by their numbers
@@ -67,7 +68,7 @@ abbrev whole : State
 whole = record { clients = clients4; edges = edge (port_addr 128 0) (port_addr 129 0) ∷ [] }
 
 fifth : (step (after clients4) (at 0 129 (Connect (port_addr 128 0) (port_addr 129 0)))).state ≡ whole
-unfolding source with_out sink with_in
+unfolding most_sources source with_out sink with_in
 fifth = simp (FinMap.get-insert {X = Client} nat_cmp_total, FinMap.get-insert {X = PortInfo} nat_cmp_total, FinMap.get-empty {K = ℕ} {X = Client} nat_cmp, FinMap.get-empty {K = ℕ} {X = PortInfo} nat_cmp, after_row, after_patch)
 
 all_five : state_after start joining ≡ whole

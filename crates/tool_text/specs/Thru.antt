@@ -8,7 +8,8 @@ use Rattle.seq_state.specs.declared.input.Input.{Input}
 use Rattle.seq_state.specs.Rows.{at}
 use Rattle.seq_state.specs.Own.{has_port, port_of, fed_of}
 use Rattle.seq_state.specs.State.{State}
-use Rattle.seq_state.specs.Step.{edge, port_addr}
+use Rattle.patch_graph.specs.Edges.{edge}
+use Rattle.seq_state.specs.Step.{port_addr}
 use Rattle.tool_text.specs.Hex.{spaced}
 
 -- clients "source" and "sink" with ports "out" and "in"; the second subscribes its port to the first's

@@ -4,10 +4,11 @@ use Rattle.std.specs.Cmp.{nat_cmp_total}
 use Rattle.std.specs.FinMap
 use Rattle.midi_wire.specs.Messages.{begins}
 use Rattle.midi_wire.specs.Readings.{reading, rest}
+use Rattle.patch_graph.specs.Edges.{most_sources}
 use Rattle.seq_state.specs.Own.{own_command}
 use Rattle.seq_state.specs.State.{Client, PortInfo}
 use Rattle.seq_state.proofs.first_note.Goals as goal
 
 pub returns : goal.returns
-unfolding own_command reading rest begins
+unfolding own_command most_sources reading rest begins
 returns c = simp (FinMap.get-insert {X = Client} nat_cmp_total, FinMap.get-insert {X = PortInfo} nat_cmp_total, FinMap.get-empty {K = ℕ} {X = Client} nat_cmp, FinMap.get-empty {K = ℕ} {X = PortInfo} nat_cmp)

@@ -1,4 +1,4 @@
-use Rattle.std.proofs.Common.{◌≡◌, ◌++◌, [], cond, ap, sym, ◌∙◌, append-nil}
+use Rattle.std.proofs.Common.{◌++◌, [], cond, ap, sym, ◌∙◌, append-nil}
 use Rattle.std.specs.Prelude.{option_to_list}
 use Rattle.seq_state.specs.Step.{delivery}
 use Rattle.seq_engine.proofs.Sending.{copies_more}

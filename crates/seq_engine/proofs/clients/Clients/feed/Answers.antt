@@ -1,42 +1,49 @@
-use Rattle.std.proofs.Common.{◌≡◌, ◌++◌, ap, sym, subst, Option, Some, ◌∙◌}
-use Rattle.std.specs.Prelude.{is_some, length, OnOk, IfOk}
+use Rattle.std.proofs.Common.{◌≡◌, ◌++◌, ℕ, List, ap, subst, ◌∙◌}
+use Rattle.std.specs.Prelude.{length, OnOk, IfOk}
 use Rattle.std.specs.Ordering.{nat_cmp}
 use Rattle.std.specs.FinMap as map
 use Rattle.midi_wire.specs.Readings.{reading}
-use Rattle.seq_state.specs.State.{Client, PortInfo}
-use Rattle.seq_state.specs.Own.{feed_port, fed_of, port_of}
-use Rattle.seq_engine.proofs.Trees.{get-tree, tree-insert}
+use Rattle.node_table.specs.declared.number.Addr.{Addr}
+use Rattle.node_table.specs.Nodes.{node_at, with_body}
+use Rattle.std.specs.Option.{option_map}
+use Rattle.seq_state.specs.State.{Client}
+use Rattle.seq_state.specs.Own.{changed, feed_port, fed_of, has_port, port_of}
+use Rattle.seq_state.specs.Step.{put}
+use Rattle.seq_engine.specs.Clients.{clients_seen}
 use Rattle.seq_engine.proofs.Outcomes.{on_ok-map}
-use Rattle.seq_engine.proofs.Ports.{changed_client, port_there, none_has_port}
+use Rattle.seq_engine.proofs.Keeping.{fed, fed_there, none_there}
 use Rattle.seq_engine.proofs.clients.Clients.feed.Goals as goal
-
-pub feed-requires : goal.feed-requires
-feed-requires c =
-    port_there _ _ _ (c.in-Some.ensures.value ∙ get-tree c.self.inside.entries c.args.client ∙ ap (λ (m : map.FinMap nat_cmp Client). map.get m c.args.client) c.self.view_is) c.requires
 
 pub returns-in-Some-clause-fed : goal.returns-in-Some-clause-fed
 returns-in-Some-clause-fed c =
     let i = c.self.inside in
-    let x : Client = c.in-Some.entry.now in
-    let there : Some x ≡ map.get c.args.self.now c.args.client =
-    c.in-Some.ensures.value ∙ get-tree i.entries c.args.client ∙ ap (λ (m : map.FinMap nat_cmp Client). map.get m c.args.client) c.self.view_is in
-    on_ok-map _ (λ e. changed_client c.args.self.now _ c.args.client x _ (feed_port c.args.bytes.now (port_of (map.get c.args.self.now c.args.client) c.args.port) c.args.port) there
-    (tree-insert i.entries (c.get_mut.follows.lender c.feed.new.self) c.args.client c.feed.new.self (((c.get_mut.follows.holds c.feed.new.self).3 (sym (ap is_some c.in-Some.ensures.value))).0)
-    ∙ ap (λ (m : map.FinMap nat_cmp Client). map.insert m c.args.client c.feed.new.self) c.self.view_is)
-    (e ∙ ap (λ (o : Option Client). feed_port c.args.bytes.now (port_of o c.args.port) c.args.port x) there)) c.feed.ensures.fed
+    let a = c.args in
+    on_ok-map _ (λ e.
+    ap (λ (x : Addr). clients_seen (with_body i.nodes x c.feed.new.self) i.sizes) c.port_addr.ensures
+    ∙ fed i.nodes i.sizes a.client a.port c.in-Some.stream.now a.bytes.now c.feed.new.self (c.in-Some.ensures.value ∙ ap (λ (x : Addr). option_map (λ n. n.body) (node_at i.nodes x)) c.port_addr.ensures) e
+    ∙ ap (λ (m : map.FinMap nat_cmp Client). put m a.client (changed (map.get m a.client) (feed_port a.bytes.now (port_of (map.get m a.client) a.port) a.port))) c.self.view_is) c.feed.ensures.fed
 
 pub returns-in-Some-clause-told : goal.returns-in-Some-clause-told
 returns-in-Some-clause-told c =
-    let there : Some c.in-Some.entry.now ≡ map.get c.args.self.now c.args.client =
-    c.in-Some.ensures.value ∙ get-tree c.self.inside.entries c.args.client ∙ ap (λ (m : map.FinMap nat_cmp Client). map.get m c.args.client) c.self.view_is in
-    subst (λ (o : Option Client). OnOk c.feed.result (c.feed.new.out.items ≡ c.args.out.now.items ++ reading (fed_of (port_of o c.args.port) ++ c.args.bytes.now))) there c.feed.ensures.told
+    let i = c.self.inside in
+    let a = c.args in
+    let was : c.in-Some.stream.now ≡ fed_of (port_of (map.get a.self.now a.client) a.port) =
+    fed_there i.nodes i.sizes a.client a.port c.in-Some.stream.now (c.in-Some.ensures.value ∙ ap (λ (x : Addr). option_map (λ n. n.body) (node_at i.nodes x)) c.port_addr.ensures)
+    ∙ ap (λ (m : map.FinMap nat_cmp Client). fed_of (port_of (map.get m a.client) a.port)) c.self.view_is in
+    subst (λ (b : List ℕ). OnOk c.feed.result (c.feed.new.out.items ≡ a.out.now.items ++ reading (b ++ a.bytes.now))) was c.feed.ensures.told
 
 pub returns-in-Some-clause-number : goal.returns-in-Some-clause-number
 returns-in-Some-clause-number c =
-    let there : Some c.in-Some.entry.now ≡ map.get c.args.self.now c.args.client =
-    c.in-Some.ensures.value ∙ get-tree c.self.inside.entries c.args.client ∙ ap (λ (m : map.FinMap nat_cmp Client). map.get m c.args.client) c.self.view_is in
-    subst (λ (o : Option Client). IfOk c.feed.result (λ n. n ≡ length (reading (fed_of (port_of o c.args.port) ++ c.args.bytes.now)))) there c.feed.ensures.number
+    let i = c.self.inside in
+    let a = c.args in
+    let was : c.in-Some.stream.now ≡ fed_of (port_of (map.get a.self.now a.client) a.port) =
+    fed_there i.nodes i.sizes a.client a.port c.in-Some.stream.now (c.in-Some.ensures.value ∙ ap (λ (x : Addr). option_map (λ n. n.body) (node_at i.nodes x)) c.port_addr.ensures)
+    ∙ ap (λ (m : map.FinMap nat_cmp Client). fed_of (port_of (map.get m a.client) a.port)) c.self.view_is in
+    subst (λ (b : List ℕ). IfOk c.feed.result (λ n. n ≡ length (reading (b ++ a.bytes.now)))) was c.feed.ensures.number
 
 pub unreachable-requires : goal.unreachable-requires
 unreachable-requires c =
-    none_has_port _ _ (c.in_default.ensures.value ∙ get-tree c.self.inside.entries c.args.client ∙ ap (λ (m : map.FinMap nat_cmp Client). map.get m c.args.client) c.self.view_is) c.requires
+    let i = c.self.inside in
+    let a = c.args in
+    none_there i.nodes i.sizes a.client a.port (c.in_default.ensures.value ∙ ap (λ (x : Addr). option_map (λ n. n.body) (node_at i.nodes x)) c.port_addr.ensures)
+    (ap (λ (m : map.FinMap nat_cmp Client). has_port (map.get m a.client) a.port) c.self.view_is ∙ c.requires)

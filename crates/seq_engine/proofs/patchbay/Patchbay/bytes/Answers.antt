@@ -1,4 +1,4 @@
-use Rattle.std.proofs.Common.{◌≡◌, ◌++◌, [], None, map, ap, sym, subst, ◌∙◌}
+use Rattle.std.proofs.Common.{◌≡◌, ◌++◌, None, map, ap, subst, ◌∙◌}
 use Rattle.std.specs.FinMap
 use Rattle.seq_state.specs.declared.input.Command.TheVariants.{Bytes}
 use Rattle.seq_state.specs.State.{State}

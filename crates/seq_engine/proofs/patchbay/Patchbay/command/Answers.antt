@@ -1,11 +1,9 @@
-use Rattle.std.proofs.Common.{◌≡◌, ap, sym, ◌∙◌}
-use Rattle.std.specs.FinMap
-use Rattle.std.specs.Ordering.{nat_cmp}
+use Rattle.std.proofs.Common.{ap, sym, ◌∙◌}
 use Rattle.std.proofs.Common.{List}
-use Rattle.seq_state.specs.declared.input.Edge.{Edge}
+use Rattle.patch_graph.specs.declared.edge.Edge.{Edge}
 use Rattle.seq_state.specs.State.{State}
-use Rattle.seq_state.specs.Step.{refusal_of, command_step}
-use Rattle.seq_engine.proofs.Arms.{gives, not_refused, none_stands}
+use Rattle.seq_state.specs.Step.{refusal_of}
+use Rattle.seq_engine.proofs.Arms.{gives, not_refused}
 use Rattle.seq_engine.proofs.patchbay.Patchbay.command.Goals as goal
 
 pub returns : goal.returns

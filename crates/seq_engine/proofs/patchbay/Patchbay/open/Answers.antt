@@ -1,5 +1,4 @@
 use Rattle.std.proofs.Common.{◌≡◌, None, subst}
-use Rattle.std.specs.FinMap
 use Rattle.seq_state.specs.declared.input.Command.TheVariants.{Open}
 use Rattle.seq_state.specs.State.{State}
 use Rattle.seq_state.specs.Step.{refusal_of, command_step}

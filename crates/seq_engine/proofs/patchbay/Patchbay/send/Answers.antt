@@ -1,13 +1,9 @@
-use Rattle.std.proofs.Common.{◌≡◌, ◌++◌, [], None, map, ap, sym, subst, ◌∙◌}
-use Rattle.std.specs.FinMap
-use Rattle.seq_state.specs.declared.input.Command.TheVariants.{Send}
+use Rattle.std.proofs.Common.{◌≡◌, ◌++◌, ap, ◌∙◌}
 use Rattle.seq_state.specs.State.{State}
-use Rattle.seq_state.specs.Step.{refusal_of, command_step}
 use Rattle.seq_engine.specs.declared.patchbay.StepOut.{StepOut}
-use Rattle.seq_engine.specs.Turns.{IsAnswer}
-use Rattle.std.proofs.Common.{List, ℕ, refl}
+use Rattle.std.proofs.Common.{List, refl}
 use Rattle.node_table.specs.declared.number.Addr.{Addr}
-use Rattle.seq_state.specs.declared.input.Edge.{Edge}
+use Rattle.patch_graph.specs.declared.edge.Edge.{Edge}
 use Rattle.seq_state.specs.declared.log.Delivery.{Delivery}
 use Rattle.seq_state.specs.declared.log.Reply.TheVariants.{Done}
 use Rattle.seq_state.specs.Step.{copies, port_addr}

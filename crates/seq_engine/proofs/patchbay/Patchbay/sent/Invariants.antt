@@ -1,4 +1,4 @@
-use Rattle.std.proofs.Common.{◌≡◌, ◌++◌, take, map}
+use Rattle.std.proofs.Common.{◌≡◌, take, map}
 use Rattle.seq_state.specs.Step.{sent}
 use Rattle.seq_engine.proofs.patchbay.Patchbay.sent.Given as goal
 

@@ -1,4 +1,4 @@
-use Rattle.std.proofs.Common.{◌≡◌, ◌++◌, [], take}
+use Rattle.std.proofs.Common.{◌≡◌, take}
 use Rattle.midi_wire.specs.Writings.{written, status_in_force}
 use Rattle.seq_state.specs.Heard.{messages_at}
 use Rattle.seq_engine.proofs.runs.RunLog.port_bytes.Given as goal

@@ -1,0 +1,12 @@
+//! The ways of a message.
+
+use memory::Items;
+use node_table::{Addr, PortAddr};
+
+/// A way of a message from a node to a port.
+#[derive(Debug, Drop)]
+pub struct Path {
+    /// The filters that it goes through, in order: at most seven.
+    pub filters: Items<Addr>,
+    pub last: PortAddr,
+}
