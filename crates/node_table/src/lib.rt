@@ -9,6 +9,7 @@ mod fault;
 mod info;
 mod name;
 mod number;
+mod place;
 mod table;
 #[cfg(test)]
 mod tests;
@@ -18,4 +19,5 @@ pub use fault::{CreateFault, OpenFault};
 pub use info::NodeInfo;
 pub use name::is_name;
 pub use number::{Addr, ClientId, FilterNo, Node, PortAddr, PortNo, QueueNo};
+pub use place::{PLACES, addr_at, place_of};
 pub use table::NodeTable;

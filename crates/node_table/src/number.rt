@@ -1,6 +1,7 @@
 //! Numbers of clients and nodes, and addresses.
 
 ghost use Rattle.std.specs.Prelude.{◌≡◌, ◌≤◌, ◌<◌, ◌↔◌, ℕ, IsSome, IfSome, IfNone};
+ghost use Rattle.node_table.specs.Addresses.{is_filter};
 
 use std::fmt;
 use std::marker::Model;
@@ -248,6 +249,17 @@ impl fmt::Display for Node {
 pub struct Addr {
     pub client: ClientId,
     pub node: Node,
+}
+
+impl Addr {
+    pub fn is_filter(&self) -> bool
+        ensures { result ≡ is_filter self.now }
+    {
+        match self.node {
+            Node::Port(_) => false,
+            Node::Filter(_) => true,
+        }
+    }
 }
 
 impl fmt::Display for Addr {

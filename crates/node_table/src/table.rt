@@ -7,7 +7,6 @@ ghost use Rattle.std.specs.FinMap as map;
 ghost use Rattle.node_table.specs.Names.{is_name};
 ghost use Rattle.node_table.specs.Capabilities.{permits};
 ghost use Rattle.node_table.specs.Nodes.{opened, name_of, is_name_for, is_open, ports_in, filters_in, node_at, with_node, without_node, bits_of};
-ghost use Rattle.node_table.specs.Kept.{IsPlace};
 ghost use Rattle.node_table.specs.Listing.{IsNext, NoneFrom};
 ghost use Rattle.node_table.specs.Faults.{body_of};
 
@@ -16,6 +15,7 @@ use crate::fault::{CreateFault, OpenFault};
 use crate::info::NodeInfo;
 use crate::name::is_name;
 use crate::number::{Addr, ClientId, FilterNo, Node, PortNo};
+use crate::place::{place_of, row_of};
 use slab::Slab;
 use std::alloc::Global;
 use std::array;
@@ -57,26 +57,6 @@ fn nothing<T, const N: usize>() -> [Option<T>; N]
     ensures none { (i : ℕ) → slice_index_or result i None ≡ None }
 {
     array::from_fn(|_| None)
-}
-
-/// Where a client's name stands.
-fn row_of(client: ClientId) -> usize
-    ensures start { client ≡ 128 + result }
-    ensures small { result < 64 }
-{
-    (client.number() - 128) as usize
-}
-
-/// Where a node's key stands: each client has sixteen ports, then sixteen filters.
-fn place_of(addr: &Addr) -> usize
-    ensures place { (row : ℕ) × IsPlace addr.now row result }
-    ensures small { result < 2048 }
-{
-    let number = match addr.node {
-        Node::Port(port) => port.number() as usize,
-        Node::Filter(filter) => 16 + filter.number() as usize,
-    };
-    row_of(addr.client) * 32 + number
 }
 
 fn is_name_for(node: Node, name: &[u8]) -> bool

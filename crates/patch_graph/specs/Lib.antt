@@ -1,3 +1,6 @@
 pub mod Edges
 pub mod Paths
 pub mod Chains
+pub mod Index
+pub mod Found
+pub mod Removal

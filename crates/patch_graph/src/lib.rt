@@ -2,7 +2,15 @@
 #![tactic(auto)]
 
 mod edge;
+mod fault;
+mod found;
+mod graph;
+mod laws;
 mod path;
+mod removal;
 
 pub use edge::Edge;
+pub use fault::EdgeFault;
+pub use graph::{MOST_SOURCES, PatchGraph};
+pub use laws::joined_is_reached;
 pub use path::Path;

@@ -51,6 +51,23 @@ module _ (table : Nodes) (sizes : List PoolSizes) where
   pub port-caps : (client port : ℕ) → option_map (λ n. n.caps) (node_at table (port_addr client port)) ≡ caps_of (port_of (FinMap.get (clients_seen table sizes) client) port)
   port-caps client port = caps-map (node_at table (port_addr client port)) ∙ ap caps_of (get-port client port)
 
+  -- a client by its name
+  pub client_named : (client : ℕ) (name : List ℕ) → Some name ≡ nodes.name_of (FinMap.get table client) →
+      (c : Client) × (FinMap.get (clients_seen table sizes) client ≡ Some c) × (name ≡ c.name) × ((slice_index_or sizes client no_sizes).input ≡ c.in_size) × ((slice_index_or sizes client no_sizes).output ≡ c.out_size)
+  client_named client name e = go (FinMap.get table client) e (get-client client)
+    where
+      go : (o : Option (ClientNodes (List ℕ))) → Some name ≡ nodes.name_of o → FinMap.get (clients_seen table sizes) client ≡ option_map (seen_at client) o →
+          (c : Client) × (FinMap.get (clients_seen table sizes) client ≡ Some c) × (name ≡ c.name) × ((slice_index_or sizes client no_sizes).input ≡ c.in_size) × ((slice_index_or sizes client no_sizes).output ≡ c.out_size)
+      go None h k = cc
+      go (Some c) h k = let same : name ≡ c.name = cc in (seen_at client c, k, same, refl, refl)
+
+  pub client_unnamed : (client : ℕ) → None ≡ nodes.name_of (FinMap.get table client) → FinMap.get (clients_seen table sizes) client ≡ None
+  client_unnamed client e = get-client client ∙ go (FinMap.get table client) e
+    where
+      go : (o : Option (ClientNodes (List ℕ))) → None ≡ nodes.name_of o → option_map (seen_at client) o ≡ None
+      go None h = refl
+      go (Some c) h = cc
+
   -- ---- changes
 
   pub closed : (client : ℕ) → clients_seen (FinMap.remove table client) sizes ≡ FinMap.remove (clients_seen table sizes) client

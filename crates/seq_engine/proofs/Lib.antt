@@ -5,3 +5,4 @@ pub mod Arms
 pub mod Sending
 pub mod Logs
 pub mod Heard
+pub mod Texts

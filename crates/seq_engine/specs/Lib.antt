@@ -1,3 +1,4 @@
 pub mod Turns
 pub mod Seen
 pub mod Clients
+pub mod Listing

@@ -1,10 +1,11 @@
 //! The open clients with their ports.
 
-ghost use Rattle.std.specs.Prelude.{◌≡◌, [], ◌++◌, length, IfOk, OnOk, is_some, true};
+ghost use Rattle.std.specs.Prelude.{◌≡◌, [], ◌++◌, length, IfOk, OnOk, IfSome, IfNone, Some, None, is_some, true};
 ghost use Rattle.std.specs.FinMap as map;
 ghost use Rattle.std.specs.Option.{option_copied, option_map};
 ghost use Rattle.midi_wire.specs.Readings.{reading, rest};
 ghost use Rattle.seq_engine.specs.Clients.{port_seen};
+ghost use Rattle.seq_state.specs.State.{Client};
 ghost use Rattle.seq_state.specs.Own.{opened, has_port, port_of, fed_of, changed, put_port, drop_port, feed_port};
 ghost use Rattle.seq_state.specs.Step.{port_addr, node_caps, caps_of, put};
 
@@ -85,7 +86,21 @@ impl Clients {
         self.nodes.is_open(client)
     }
 
-    fn port(&self, client: ClientId, port: PortNo) -> Option<&NodeInfo<PortStream>>
+    /// The name and the sizes of a client that is open.
+    pub(crate) fn client(&self, client: ClientId) -> Option<(&[u8], u32, u32)>
+        ensures some { IfSome result (λ r. (c : Client) × (map.get self.now client ≡ Some c) × (r.0.now ≡ c.name) × (r.1 ≡ c.in_size) × (r.2 ≡ c.out_size)) }
+        ensures none { IfNone result (map.get self.now client ≡ None) }
+    {
+        match self.nodes.client_name(client) {
+            Some(name) => {
+                let sizes = self.sizes[client.number() as usize];
+                Some((name, sizes.input, sizes.output))
+            }
+            None => None,
+        }
+    }
+
+    pub(crate) fn port(&self, client: ClientId, port: PortNo) -> Option<&NodeInfo<PortStream>>
         ensures { option_map port_seen (option_copied result) ≡ port_of (map.get self.now client) port }
     {
         self.nodes.find(&port_addr(client, port))

@@ -1,6 +1,7 @@
 //! An engine takes inputs one at a time.
 
 ghost use Rattle.std.specs.Prelude.{◌≡◌, ◌≤◌, ◌<◌, ◌+◌, ◌-◌, ◌^◌, ◌↔◌, true, false, IsTrue, IsOk, IsErrOf, IfOk, OnOk, OnErr};
+ghost use Rattle.seq_engine.specs.Listing.{listing};
 ghost use Rattle.seq_state.specs.State.{start};
 ghost use Rattle.seq_state.specs.Step.{step, settle, IsRefusal};
 
@@ -108,5 +109,17 @@ impl Engine {
         }
         self.moment = moment;
         Ok(Vec::new(self.alloc))
+    }
+
+    /// Who is there, as text: a line for each open client by number, with its ports by number, and then one for each
+    /// subscription, the oldest first. Want of memory here changes nothing.
+    pub fn listing(&self) -> Result<Vec<u8>, EngineFault>
+        ensures text { IfOk result (λ text. text.items ≡ listing self.now.state) }
+        ensures failed { IsErrOf result EngineFault.Failed ↔ IsTrue self.now.failed }
+    {
+        if self.failed {
+            return Err(EngineFault::Failed);
+        }
+        Ok(self.patchbay.listing()?)
     }
 }

@@ -4,9 +4,9 @@
 #![tactic(auto)]
 
 mod clients;
-mod edges;
 mod engine;
 mod fault;
+mod listing;
 mod patchbay;
 mod port;
 mod refusals;

@@ -233,3 +233,91 @@ fn thirty_two_sources(rt: HostRuntime) -> Result<(), Fail> {
     assert_replies(&rt, &log, wanted.as_slice());
     Ok(())
 }
+
+/// The clients by number, each with its ports, and then the subscriptions.
+#[test]
+fn listing_of_first_note(rt: HostRuntime) -> Result<(), Fail> {
+    let alloc = rt.alloc();
+    let mut inputs = two_clients(alloc)?;
+    inputs.push(bytes(alloc, 5, 128, 0, b"\x90\x3C\x40")?)?;
+    let inputs = inputs.as_slice();
+    assert!(rt; is_timed(inputs, 10));
+    let log = run(alloc, inputs, 10)?;
+    let wanted =
+        b"client 128 a in 8 out 8\nport 128:p0 out 33\nclient 129 b in 8 out 8\nport 129:p0 in 66\nedge 128:p0 129:p0\n";
+    assert_eq!(rt; log.listing.as_slice(), wanted.as_slice());
+    Ok(())
+}
+
+/// Sixteen ports of client 128 and one of client 130, all joined to port 0 of client 129, and the fourth parted again.
+fn seventeen_joined(alloc: Global) -> Result<Vec<Input>, Fail> {
+    let mut inputs = Vec::new(alloc);
+    inputs.push(open(alloc, 0, 129, b"b", 8)?)?;
+    inputs.push(create(alloc, 0, 129, 0, b"i", 66)?)?;
+    join_sixteen(alloc, 128, &mut inputs)?;
+    inputs.push(open(alloc, 0, 130, b"c", 8)?)?;
+    inputs.push(create(alloc, 0, 130, 0, b"o", 33)?)?;
+    let target = port_at(129, 0)?;
+    inputs.push(connect(1, 129, port_at(130, 0)?, target)?)?;
+    inputs.push(connect(1, 129, port_at(128, 0)?, target)?)?;
+    inputs.push(disconnect(1, 129, port_at(128, 3)?, target)?)?;
+    inputs.push(connect(1, 129, port_at(130, 0)?, target)?)?;
+    Ok(inputs)
+}
+
+/// What goes leaves the rest in its order.
+#[test]
+fn a_source_goes(rt: HostRuntime) -> Result<(), Fail> {
+    let alloc = rt.alloc();
+    let inputs = seventeen_joined(alloc)?;
+    let inputs = inputs.as_slice();
+    assert!(rt; is_timed(inputs, 1));
+    let log = run(alloc, inputs, 1)?;
+    let mut wanted = Vec::from_slice(alloc, b"client 128 a in 8 out 8\n")?;
+    for number in 0..16 {
+        wanted.extend_from_slice(format!(in alloc; "port 128:p{number} o 33\n")?.as_bytes())?;
+    }
+    wanted.extend_from_slice(b"client 129 b in 8 out 8\nport 129:p0 i 66\n")?;
+    wanted.extend_from_slice(b"client 130 c in 8 out 8\nport 130:p0 o 33\n")?;
+    for number in 0..16 {
+        if number != 3 {
+            wanted.extend_from_slice(format!(in alloc; "edge 128:p{number} 129:p0\n")?.as_bytes())?;
+        }
+    }
+    wanted.extend_from_slice(b"edge 130:p0 129:p0\n")?;
+    assert_eq!(rt; log.listing.as_slice(), wanted.as_slice());
+    Ok(())
+}
+
+/// A closed client's subscriptions go, and a deleted port's, and no one can join what is gone.
+#[test]
+fn sources_and_removal(rt: HostRuntime) -> Result<(), Fail> {
+    let alloc = rt.alloc();
+    let mut inputs = seventeen_joined(alloc)?;
+    let before = inputs.len();
+    inputs.push(close(2, 130)?)?;
+    inputs.push(connect(2, 129, port_at(130, 0)?, port_at(129, 0)?)?)?;
+    inputs.push(delete(2, 129, 0)?)?;
+    let inputs = inputs.as_slice();
+    assert!(rt; is_timed(inputs, 2));
+    let log = run(alloc, inputs, 2)?;
+    let mut wanted = Vec::new(alloc);
+    for place in 0..before {
+        if place + 3 == before || place + 1 == before {
+            wanted.push(Reply::Refused(11))?;
+        } else {
+            wanted.push(Reply::Done)?;
+        }
+    }
+    wanted.push(Reply::Done)?;
+    wanted.push(Reply::Refused(8))?;
+    wanted.push(Reply::Done)?;
+    assert_replies(&rt, &log, wanted.as_slice());
+    let mut listed = Vec::from_slice(alloc, b"client 128 a in 8 out 8\n")?;
+    for number in 0..16 {
+        listed.extend_from_slice(format!(in alloc; "port 128:p{number} o 33\n")?.as_bytes())?;
+    }
+    listed.extend_from_slice(b"client 129 b in 8 out 8\n")?;
+    assert_eq!(rt; log.listing.as_slice(), listed.as_slice());
+    Ok(())
+}

@@ -1,16 +1,17 @@
 //! The commands, each on the clients and their subscriptions.
 
 ghost use Rattle.std.specs.Prelude.{◌≡◌, [], ◌++◌, map, None, OnOk, IfOk, option_to_list};
+ghost use Rattle.seq_engine.specs.Listing.{listing};
 ghost use Rattle.seq_state.specs.State.{start};
 ghost use Rattle.seq_state.specs.Step.{port_addr, delivery, copies, sent, refusal_of, command_step};
 
 use crate::clients::{Clients, port_addr};
-use crate::edges::{remove_client, remove_edge, remove_node, same};
+use crate::listing::{list_clients, list_edges};
 use crate::refusals::refusal;
 use memory::{Items, OutOfMemory};
 use midi_wire::Message;
 use node_table::{Addr, Caps, ClientId, PortAddr, PortNo};
-use patch_graph::Edge;
+use patch_graph::PatchGraph;
 use seq_state::{Command, Delivery, Reply};
 use std::alloc::Global;
 use std::marker::Model;
@@ -30,12 +31,12 @@ pub(crate) struct Turn {
     pub(crate) actor: ClientId,
 }
 
-/// The clients and the subscriptions, oldest first.
+/// The clients and their subscriptions.
 #[derive(Drop)]
 pub(crate) struct Patchbay {
     alloc: Global,
     clients: Clients,
-    edges: Vec<Edge>,
+    graph: PatchGraph,
 }
 
 impl Model for Patchbay {
@@ -45,7 +46,7 @@ impl Model for Patchbay {
 
     ghost coded = { coded_state };
 
-    ghost view = { λ p. record { clients = p.clients; edges = p.edges.items } };
+    ghost view = { λ p. record { clients = p.clients; edges = p.graph } };
 }
 
 impl Patchbay {
@@ -57,7 +58,7 @@ impl Patchbay {
         Patchbay {
             alloc,
             clients: Clients::new(alloc),
-            edges: Vec::new(alloc),
+            graph: PatchGraph::new(alloc),
         }
     }
 
@@ -65,7 +66,7 @@ impl Patchbay {
     pub(crate) fn command(&mut self, turn: Turn, command: &Command) -> Result<StepOut, OutOfMemory>
         ensures { Gives result self.new (command_step self.old turn.moment turn.actor command.now) }
     {
-        if let Some(refusal) = refusal(&self.clients, self.edges.as_slice(), turn.actor, command) {
+        if let Some(refusal) = refusal(&self.clients, &self.graph, turn.actor, command) {
             return Ok(self.answer(Reply::Refused(refusal.number())));
         }
         self.carry_out(turn, command)
@@ -112,7 +113,7 @@ impl Patchbay {
         ensures { IsAnswer result self.new (command_step self.old turn.moment turn.actor Command.Close) }
     {
         self.clients.close(turn.actor);
-        remove_client(&mut self.edges, turn.actor);
+        self.graph.remove_client(turn.actor);
         self.answer(Reply::Done)
     }
 
@@ -135,7 +136,7 @@ impl Patchbay {
         ensures { IsAnswer result self.new (command_step self.old turn.moment turn.actor (Command.DeletePort port)) }
     {
         self.clients.delete_port(turn.actor, port);
-        remove_node(&mut self.edges, &port_addr(turn.actor, port));
+        self.graph.remove_node(&port_addr(turn.actor, port));
         self.answer(Reply::Done)
     }
 
@@ -143,7 +144,10 @@ impl Patchbay {
         requires { refusal_of self.old turn.actor (Command.Connect source target) ≡ None }
         ensures { IfOk result (λ out. IsAnswer out self.new (command_step self.old turn.moment turn.actor (Command.Connect source target))) }
     {
-        self.edges.push(Edge { source, target })?;
+        // Neither there nor too many, and ports make no cycle, so memory alone can be wanting.
+        let Ok(()) = self.graph.connect(source, target) else {
+            return Err(OutOfMemory);
+        };
         Ok(self.answer(Reply::Done))
     }
 
@@ -151,7 +155,7 @@ impl Patchbay {
         requires { refusal_of self.old turn.actor (Command.Disconnect source.now target.now) ≡ None }
         ensures { IsAnswer result self.new (command_step self.old turn.moment turn.actor (Command.Disconnect source.now target.now)) }
     {
-        remove_edge(&mut self.edges, source, target);
+        self.graph.disconnect(source, target);
         self.answer(Reply::Done)
     }
 
@@ -174,8 +178,7 @@ impl Patchbay {
     {
         let mut delivered = Vec::new(self.alloc);
         let source = port_addr(turn.actor, port);
-        let edges = self.edges.as_slice();
-        send_copies(edges, turn.moment, &source, message, &mut delivered)?;
+        send_copies(&self.graph, turn.moment, &source, message, &mut delivered)?;
         Ok(StepOut {
             reply: Reply::Done,
             delivered: Items::new(delivered),
@@ -193,11 +196,20 @@ impl Patchbay {
     {
         let mut delivered = Vec::new(self.alloc);
         let source = port_addr(turn.actor, port);
-        let edges = self.edges.as_slice();
         for message in messages {
-            send_copies(edges, turn.moment, &source, message, &mut delivered)?;
+            send_copies(&self.graph, turn.moment, &source, message, &mut delivered)?;
         }
         Ok(Items::new(delivered))
+    }
+
+    /// Who is there, as text.
+    pub(crate) fn listing(&self) -> Result<Vec<u8>, OutOfMemory>
+        ensures { IfOk result (λ text. text.items ≡ listing self.now) }
+    {
+        let mut text = Vec::new(self.alloc);
+        list_clients(self.alloc, &self.clients, &mut text)?;
+        list_edges(self.alloc, &self.graph, &mut text)?;
+        Ok(text)
     }
 
     fn answer(&self, reply: Reply) -> StepOut
@@ -213,18 +225,16 @@ impl Patchbay {
 
 /// Adds a copy of a message for each subscription of its source.
 fn send_copies(
-    edges: &[Edge],
+    graph: &PatchGraph,
     moment: u64,
     source: &Addr,
     message: &Message,
     out: &mut Vec<Delivery>,
 ) -> Result<(), OutOfMemory>
-    ensures { OnOk result (out.new.items ≡ out.old.items ++ copies edges.now moment source.now message.now) }
+    ensures { OnOk result (out.new.items ≡ out.old.items ++ copies graph.now moment source.now message.now) }
 {
-    for edge in edges {
-        if same(source, &edge.source) {
-            deliver(moment, &edge.target, message, out)?;
-        }
+    for target in graph.targets(source) {
+        deliver(moment, target, message, out)?;
     }
     Ok(())
 }

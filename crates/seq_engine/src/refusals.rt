@@ -12,20 +12,19 @@ ghost use Rattle.patch_graph.specs.declared.edge.Edge as declared;
 ghost use Rattle.seq_state.specs.Step.{patch_refusal, connect_refusal, disconnect_refusal, refusal_of};
 
 use crate::clients::Clients;
-use crate::edges::{has_edge, sources};
 use node_table::{Addr, ClientId, PortNo, is_name, permitted};
-use patch_graph::Edge;
+use patch_graph::{MOST_SOURCES, PatchGraph};
 use seq_state::{Command, Refusal};
 
 /// The refusal with the lowest number of those that stand.
 #[tactic(auto, unfolding(seq_state::specs::Own::own_command))]
 pub(crate) fn refusal(
     clients: &Clients,
-    edges: &[Edge],
+    graph: &PatchGraph,
     actor: ClientId,
     command: &Command,
 ) -> Option<Refusal>
-    ensures { option_map number_of result ≡ refusal_of (record { clients = clients.now; edges = edges.now }) actor command.now }
+    ensures { option_map number_of result ≡ refusal_of (record { clients = clients.now; edges = graph.now }) actor command.now }
 {
     match command {
         Command::Open {
@@ -40,8 +39,8 @@ pub(crate) fn refusal(
             caps: _,
         } => { create_port(clients, actor, *port, name.as_slice()) }
         Command::DeletePort { port } => at_port(clients, actor, *port),
-        Command::Connect { source, target } => connect(clients, edges, actor, source, target),
-        Command::Disconnect { source, target } => disconnect(clients, edges, actor, source, target),
+        Command::Connect { source, target } => connect(clients, graph, actor, source, target),
+        Command::Disconnect { source, target } => disconnect(clients, graph, actor, source, target),
         Command::Bytes { port, bytes: _ } => at_port(clients, actor, *port),
         Command::Send { port, message: _ } => at_port(clients, actor, *port),
     }
@@ -129,20 +128,20 @@ fn patch(clients: &Clients, actor: ClientId, source: &Addr, target: &Addr) -> Op
 
 fn connect(
     clients: &Clients,
-    edges: &[Edge],
+    graph: &PatchGraph,
     actor: ClientId,
     source: &Addr,
     target: &Addr,
 ) -> Option<Refusal>
-    ensures { option_map number_of result ≡ connect_refusal (record { clients = clients.now; edges = edges.now }) actor source.now target.now }
+    ensures { option_map number_of result ≡ connect_refusal (record { clients = clients.now; edges = graph.now }) actor source.now target.now }
 {
     if let Some(refusal) = patch(clients, actor, source, target) {
         return Some(refusal);
     }
-    if has_edge(edges, source, target) {
+    if graph.has_edge(source, target) {
         return Some(Refusal::AlreadyConnected);
     }
-    if sources(edges, target) >= 32 {
+    if graph.sources(target) >= MOST_SOURCES {
         return Some(Refusal::SourcesFull);
     }
     None
@@ -150,17 +149,17 @@ fn connect(
 
 fn disconnect(
     clients: &Clients,
-    edges: &[Edge],
+    graph: &PatchGraph,
     actor: ClientId,
     source: &Addr,
     target: &Addr,
 ) -> Option<Refusal>
-    ensures { option_map number_of result ≡ disconnect_refusal (record { clients = clients.now; edges = edges.now }) actor source.now target.now }
+    ensures { option_map number_of result ≡ disconnect_refusal (record { clients = clients.now; edges = graph.now }) actor source.now target.now }
 {
     if let Some(refusal) = patch(clients, actor, source, target) {
         return Some(refusal);
     }
-    if !has_edge(edges, source, target) {
+    if !graph.has_edge(source, target) {
         return Some(Refusal::NotConnected);
     }
     None

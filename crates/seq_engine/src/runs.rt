@@ -1,7 +1,9 @@
 //! The run of a whole list of inputs.
 
 ghost use Rattle.std.specs.Prelude.{◌≡◌, ℕ, Bool, [], ◌∷◌, ◌++◌, map, option_to_list, IsTrue, ◌↔◌, IfOk, IfErr, OnOk};
-ghost use Rattle.seq_state.specs.Step.{plain, IsTimed};
+ghost use Rattle.seq_engine.specs.Listing.{listing};
+ghost use Rattle.seq_state.specs.State.{start};
+ghost use Rattle.seq_state.specs.Step.{plain, state_after, IsTimed};
 ghost use Rattle.seq_state.specs.Circle.{IsClosed, only, view};
 ghost use Rattle.seq_state.specs.Heard.{port_of, comes_to, message_at, port_bytes};
 ghost use Rattle.midi_wire.specs.Writings.{written_after, status_after_all};
@@ -20,6 +22,8 @@ use std::alloc::Global;
 pub struct RunLog {
     /// The deliveries of each step, then its reply, in the order of the inputs.
     pub entries: Items<LogEntry>,
+    /// Who is there at the end, as `Engine::listing` tells it.
+    pub listing: Items<u8>,
     alloc: Global,
 }
 
@@ -84,6 +88,8 @@ pub fn run(alloc: Global, inputs: &[Input], until: u64) -> Result<RunLog, Engine
     // The run is the plain reading of its commands.
     ensures plain { IfOk result (λ log. log.entries ≡ plain inputs.now until) }
 
+    ensures listing { IfOk result (λ log. log.listing ≡ listing (state_after start inputs.now)) }
+
     // What the owner of a closed circle of clients sees is what it sees of the plain reading of the circle's commands
     // alone, whatever all others do.
     ensures isolated { IfOk result (λ log. (owner : ℕ) (member : ℕ → Bool) → IsClosed owner member inputs.now →
@@ -102,6 +108,7 @@ pub fn run(alloc: Global, inputs: &[Input], until: u64) -> Result<RunLog, Engine
     add_deliveries(&mut entries, delivered)?;
     Ok(RunLog {
         entries: Items::new(entries),
+        listing: Items::new(engine.listing()?),
         alloc,
     })
 }

@@ -56,6 +56,13 @@ one_more_passed line tells first left left' told old new new' stream stream' cou
 pub all_passed : (line : List ℕ → List ℕ) (tells : Bool) (first left : List ℕ) (told : Bool) (old new stream : List ℕ) (count : ℕ) → Passed line tells first left told old new stream count → tells ≡ true → told ≡ true → left ≡ [] → new ≡ old ++ lines_of line first
 all_passed line tells first left told old new stream count p x y e = p.written x y ∙ ap (λ xs. old ++ lines_of line xs) (sym (p.split x ∙ ap (λ xs. p.read ++ xs) e ∙ append-nil p.read))
 
+-- more was read than may be
+pub too_long : (line : List ℕ → List ℕ) (tells : Bool) (first left : List ℕ) (told : Bool) (old new stream : List ℕ) (count most : ℕ) → Passed line tells first left told old new stream count → most < count → tells ≡ true → most < length first
+too_long line tells first left told old new stream count most p l t =
+    let all : length first ≡ length p.read + length left = ap length (p.split t) ∙ length-append p.read left in
+    let read : length p.read ≡ count = p.counted in
+    omega arith
+
 pub stops_at_once : (text : List ℕ → List ℕ) (first old : List ℕ) → StopsShort text first old old
 stops_at_once text first old = record { read = []; unread = first; split = refl; written = []; missing = text []; now = sym (append-nil old); front = refl }
 

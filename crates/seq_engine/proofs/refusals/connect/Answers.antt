@@ -18,24 +18,24 @@ unfolding most_sources
 few n l = grind (arith, nat_tests)
 
 pub returns-in-Some : goal.returns-in-Some
-returns-in-Some c = let a = c.args in sym (c.in-Some.ensures.stands a.edges.now ((11, has_edge a.edges.now a.source.now a.target.now) ∷ full (sources_of a.edges.now a.target.now) ∷ []))
+returns-in-Some c = let a = c.args in sym (c.in-Some.ensures.stands a.graph.now ((11, has_edge a.graph.now a.source.now a.target.now) ∷ full (sources_of a.graph.now a.target.now) ∷ []))
 
 pub returns-then-has_edge : goal.returns-then-has_edge
 returns-then-has_edge c =
     let a = c.args in
-    let last : ℕ × Bool = full (sources_of a.edges.now a.target.now) in
-    ap (λ (b : Bool). first_refusal ((11, b) ∷ last ∷ [])) (sym c.if-has_edge.true ∙ c.has_edge.ensures) ∙ sym (c.in_default.ensures.none a.edges.now ((11, has_edge a.edges.now a.source.now a.target.now) ∷ last ∷ []))
+    let last : ℕ × Bool = full (sources_of a.graph.now a.target.now) in
+    ap (λ (b : Bool). first_refusal ((11, b) ∷ last ∷ [])) (sym c.if-has_edge.true ∙ c.has_edge.ensures) ∙ sym (c.in_default.ensures.none a.graph.now ((11, has_edge a.graph.now a.source.now a.target.now) ∷ last ∷ []))
 
-pub returns-then-sources-ge32 : goal.returns-then-sources-ge32
-returns-then-sources-ge32 c =
+pub returns-then-sources-ge-MOST_SOURCES : goal.returns-then-sources-ge-MOST_SOURCES
+returns-then-sources-ge-MOST_SOURCES c =
     let a = c.args in
-    let last : ℕ × Bool = full (sources_of a.edges.now a.target.now) in
-    ap (λ (b : Bool). first_refusal ((11, false) ∷ (13, b) ∷ [])) (many c.sources.result c.if-sources-ge32.true ∙ ap (nat_le most_sources) c.sources.ensures)
-    ∙ ap (λ (b : Bool). first_refusal ((11, b) ∷ last ∷ [])) (sym c.if-has_edge.false ∙ c.has_edge.ensures) ∙ sym (c.in_default.ensures.none a.edges.now ((11, has_edge a.edges.now a.source.now a.target.now) ∷ last ∷ []))
+    let last : ℕ × Bool = full (sources_of a.graph.now a.target.now) in
+    ap (λ (b : Bool). first_refusal ((11, false) ∷ (13, b) ∷ [])) (many c.sources.result c.if-sources-ge-MOST_SOURCES.true ∙ ap (nat_le most_sources) c.sources.ensures.count)
+    ∙ ap (λ (b : Bool). first_refusal ((11, b) ∷ last ∷ [])) (sym c.if-has_edge.false ∙ c.has_edge.ensures) ∙ sym (c.in_default.ensures.none a.graph.now ((11, has_edge a.graph.now a.source.now a.target.now) ∷ last ∷ []))
 
 pub returns : goal.returns
 returns c =
     let a = c.args in
-    let last : ℕ × Bool = full (sources_of a.edges.now a.target.now) in
-    ap (λ (b : Bool). first_refusal ((11, false) ∷ (13, b) ∷ [])) (few c.sources.result c.if-sources-ge32.false ∙ ap (nat_le most_sources) c.sources.ensures)
-    ∙ ap (λ (b : Bool). first_refusal ((11, b) ∷ last ∷ [])) (sym c.if-has_edge.false ∙ c.has_edge.ensures) ∙ sym (c.in_default.ensures.none a.edges.now ((11, has_edge a.edges.now a.source.now a.target.now) ∷ last ∷ []))
+    let last : ℕ × Bool = full (sources_of a.graph.now a.target.now) in
+    ap (λ (b : Bool). first_refusal ((11, false) ∷ (13, b) ∷ [])) (few c.sources.result c.if-sources-ge-MOST_SOURCES.false ∙ ap (nat_le most_sources) c.sources.ensures.count)
+    ∙ ap (λ (b : Bool). first_refusal ((11, b) ∷ last ∷ [])) (sym c.if-has_edge.false ∙ c.has_edge.ensures) ∙ sym (c.in_default.ensures.none a.graph.now ((11, has_edge a.graph.now a.source.now a.target.now) ∷ last ∷ []))

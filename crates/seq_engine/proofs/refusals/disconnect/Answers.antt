@@ -4,14 +4,14 @@ use Rattle.seq_state.specs.Own.{first_refusal}
 use Rattle.seq_engine.proofs.refusals.disconnect.Goals as goal
 
 pub returns-in-Some : goal.returns-in-Some
-returns-in-Some c = let a = c.args in sym (c.in-Some.ensures.stands a.edges.now ((12, not (has_edge a.edges.now a.source.now a.target.now)) ∷ []))
+returns-in-Some c = let a = c.args in sym (c.in-Some.ensures.stands a.graph.now ((12, not (has_edge a.graph.now a.source.now a.target.now)) ∷ []))
 
 pub returns-then-not-has_edge : goal.returns-then-not-has_edge
 returns-then-not-has_edge c =
     let a = c.args in
-    ap (λ (b : Bool). first_refusal ((12, not b) ∷ [])) (sym c.if-not-has_edge.true ∙ c.has_edge.ensures) ∙ sym (c.in_default.ensures.none a.edges.now ((12, not (has_edge a.edges.now a.source.now a.target.now)) ∷ []))
+    ap (λ (b : Bool). first_refusal ((12, not b) ∷ [])) (sym c.if-not-has_edge.true ∙ c.has_edge.ensures) ∙ sym (c.in_default.ensures.none a.graph.now ((12, not (has_edge a.graph.now a.source.now a.target.now)) ∷ []))
 
 pub returns : goal.returns
 returns c =
     let a = c.args in
-    ap (λ (b : Bool). first_refusal ((12, not b) ∷ [])) (sym c.if-not-has_edge.false ∙ c.has_edge.ensures) ∙ sym (c.in_default.ensures.none a.edges.now ((12, not (has_edge a.edges.now a.source.now a.target.now)) ∷ []))
+    ap (λ (b : Bool). first_refusal ((12, not b) ∷ [])) (sym c.if-not-has_edge.false ∙ c.has_edge.ensures) ∙ sym (c.in_default.ensures.none a.graph.now ((12, not (has_edge a.graph.now a.source.now a.target.now)) ∷ []))

@@ -1,4 +1,4 @@
-use Rattle.std.proofs.Common.{◌≡◌, ℕ, ◌+◌, ◌≤◌, ◌++◌, List, [], length, take, drop, false, ap, sym, subst, ◌∙◌, arith, rules, length-append, length-drop, append-nil}
+use Rattle.std.proofs.Common.{◌≡◌, ℕ, ◌+◌, ◌≤◌, ◌++◌, List, [], length, take, drop, false, ap, sym, subst, ◌∙◌, arith, rules, length-append, length-drop, append-nil, inr}
 use Rattle.std.proofs.lemmas.List.{length-take, length-take-le}
 use Rattle.std.specs.Result.{is_err}
 use Rattle.midi_wire.specs.Readings.{rest}
@@ -6,7 +6,7 @@ use Rattle.midi_wire.proofs.Outcomes.{on_err}
 use Rattle.seq_engine.specs.Seen.{Seen}
 use Rattle.tool_text.specs.Thru.{IsJoined, stream_of, thru_line, thru_text}
 use Rattle.tool_text.proofs.Joined.{joined_state, joined_stream}
-use Rattle.tool_text.proofs.Passed.{BeginsWithLines, nothing_passed, one_more_passed, all_passed, stops_at_once, stops, stops_within, nothing_left, ends_empty, of_err, of_ok, in_buffer, within_buffer, after_clear}
+use Rattle.tool_text.proofs.Passed.{BeginsWithLines, nothing_passed, one_more_passed, all_passed, stops_at_once, stops, stops_within, too_long, nothing_left, ends_empty, of_err, of_ok, in_buffer, within_buffer, after_clear}
 use Rattle.tool_text.proofs.thru.thru_text.Goals as goal
 
 -- the text is the lines alone
@@ -85,3 +85,9 @@ loop-count-preserved g c =
           (λ x. of_ok c.write_all.result written (c.write_all.ensures.written (was.out_telling ∙ x)))
           (c.as_slice.ensures.value ∙ c.in_ok-pass_on.ensures.text ∙ after_clear _ _ c.clear.ensures.items ∙ ap (λ (p : List ℕ). thru_text (stream_of c.loop-count.engine.state ++ p)) front);
     }
+
+pub returns-in-Err-clause-short : goal.returns-in-Err-clause-short
+returns-in-Err-clause-short g c = λ t u. stops thru_line thru_text _ _ _ _ _ _ _ _ lines_alone c.loop-count.invariant.passed t u
+
+pub returns-clause-read : goal.returns-clause-read
+returns-clause-read g c = λ e. inr (λ t. too_long thru_line _ _ _ _ _ _ _ _ _ c.loop-count.invariant.passed c.loop-count-test.false t)

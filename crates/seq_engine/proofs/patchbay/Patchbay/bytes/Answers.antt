@@ -18,15 +18,15 @@ feed-requires c =
     let i = c.self.inside in
     let a = c.args in
     subst (λ (s : State). refusal_of s a.turn.actor (Bytes a.port a.bytes.now) ≡ None → has_port (FinMap.get i.clients a.turn.actor) a.port ≡ true) c.self.view_is
-    (λ n. port_to_feed (record { clients = i.clients; edges = i.edges.items }) a.turn.actor a.port a.bytes.now n) c.requires
+    (λ n. port_to_feed (record { clients = i.clients; edges = i.graph }) a.turn.actor a.port a.bytes.now n) c.requires
 
 pub returns : goal.returns
 returns c =
     let i = c.self.inside in
     let a = c.args in
     let out : StepOut = record { reply = Messages c.in_ok-count.count; delivered = c.in_ok-delivered.delivered } in
-    subst (λ (s : State). refusal_of s a.turn.actor (Bytes a.port a.bytes.now) ≡ None → IsAnswer out (record { clients = c.feed.new.self; edges = i.edges.items }) (command_step s a.turn.moment a.turn.actor (Bytes a.port a.bytes.now))) c.self.view_is
-    (λ n. feeding (record { clients = i.clients; edges = i.edges.items }) a.turn.moment a.turn.actor out c.feed.new.self a.port a.bytes.now c.feed.new.out.items c.in_ok-count.count n c.in_ok-count.ensures.fed
+    subst (λ (s : State). refusal_of s a.turn.actor (Bytes a.port a.bytes.now) ≡ None → IsAnswer out (record { clients = c.feed.new.self; edges = i.graph }) (command_step s a.turn.moment a.turn.actor (Bytes a.port a.bytes.now))) c.self.view_is
+    (λ n. feeding (record { clients = i.clients; edges = i.graph }) a.turn.moment a.turn.actor out c.feed.new.self a.port a.bytes.now c.feed.new.out.items c.in_ok-count.count n c.in_ok-count.ensures.fed
     (c.in_ok-count.ensures.told ∙ ap (λ (ms : List (List ℕ)). ms ++ reading (fed_of (port_of (FinMap.get i.clients a.turn.actor) a.port) ++ a.bytes.now)) c.new-messages.ensures.items)
     c.in_ok-count.ensures.number refl
-    (c.in_ok-delivered.ensures ∙ ap (λ (ms : List (List ℕ)). sent i.edges.items a.turn.moment a.turn.actor (map (λ m. (a.port, m)) ms)) c.as_slice.ensures.value)) c.requires
+    (c.in_ok-delivered.ensures ∙ ap (λ (ms : List (List ℕ)). sent i.graph a.turn.moment a.turn.actor (map (λ m. (a.port, m)) ms)) c.as_slice.ensures.value)) c.requires

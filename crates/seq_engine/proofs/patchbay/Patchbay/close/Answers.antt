@@ -10,6 +10,6 @@ pub returns : goal.returns
 returns c =
     let i = c.self.inside in
     let a = c.args in
-    subst (λ (s : State). refusal_of s a.turn.actor Close ≡ None → IsAnswer c.answer.result (record { clients = c.close.new.self; edges = c.remove_client.new.edges.items }) (command_step s a.turn.moment a.turn.actor Close)) c.self.view_is
-    (λ n. closing (record { clients = i.clients; edges = i.edges.items }) a.turn.moment a.turn.actor c.answer.result c.close.new.self c.remove_client.new.edges.items n c.close.ensures c.remove_client.ensures c.answer.ensures.reply c.answer.ensures.delivered)
+    subst (λ (s : State). refusal_of s a.turn.actor Close ≡ None → IsAnswer c.answer.result (record { clients = c.close.new.self; edges = c.remove_client.new.self }) (command_step s a.turn.moment a.turn.actor Close)) c.self.view_is
+    (λ n. closing (record { clients = i.clients; edges = i.graph }) a.turn.moment a.turn.actor c.answer.result c.close.new.self c.remove_client.new.self n c.close.ensures c.remove_client.ensures c.answer.ensures.reply c.answer.ensures.delivered)
     c.requires

@@ -1,6 +1,4 @@
 use Rattle.std.proofs.Common.{ap, sym, ◌∙◌}
-use Rattle.std.proofs.Common.{List}
-use Rattle.patch_graph.specs.declared.edge.Edge.{Edge}
 use Rattle.seq_state.specs.State.{State}
 use Rattle.seq_state.specs.Step.{refusal_of}
 use Rattle.seq_engine.proofs.Arms.{gives, not_refused}
@@ -11,6 +9,4 @@ returns c =
     let a = c.args in
     let i = c.self.inside in
     gives _ _ _ c.carry_out.ensures (not_refused a.self.now a.turn.moment a.turn.actor a.command.now
-    (sym (c.in_default.ensures
-    ∙ ap (λ (es : List Edge). refusal_of (record { clients = i.clients; edges = es }) a.turn.actor a.command.now) c.as_slice.ensures.value
-    ∙ ap (λ (s : State). refusal_of s a.turn.actor a.command.now) c.self.view_is)))
+    (sym (c.in_default.ensures ∙ ap (λ (s : State). refusal_of s a.turn.actor a.command.now) c.self.view_is)))

@@ -13,12 +13,12 @@ create_port-requires c =
     let i = c.self.inside in
     let a = c.args in
     subst (λ (s : State). refusal_of s a.turn.actor (CreatePort a.port a.name.now a.caps) ≡ None → IsSome (FinMap.get i.clients a.turn.actor)) c.self.view_is
-    (λ n. open_to_create (record { clients = i.clients; edges = i.edges.items }) a.turn.actor a.port a.name.now a.caps n) c.requires
+    (λ n. open_to_create (record { clients = i.clients; edges = i.graph }) a.turn.actor a.port a.name.now a.caps n) c.requires
 
 pub returns : goal.returns
 returns c =
     let i = c.self.inside in
     let a = c.args in
-    subst (λ (s : State). refusal_of s a.turn.actor (CreatePort a.port a.name.now a.caps) ≡ None → IsAnswer c.answer.result (record { clients = c.create_port.new.self; edges = i.edges.items }) (command_step s a.turn.moment a.turn.actor (CreatePort a.port a.name.now a.caps))) c.self.view_is
-    (λ n. creating (record { clients = i.clients; edges = i.edges.items }) a.turn.moment a.turn.actor c.answer.result c.create_port.new.self a.port a.name.now a.caps n c.in_ok-create_port.ensures c.answer.ensures.reply c.answer.ensures.delivered)
+    subst (λ (s : State). refusal_of s a.turn.actor (CreatePort a.port a.name.now a.caps) ≡ None → IsAnswer c.answer.result (record { clients = c.create_port.new.self; edges = i.graph }) (command_step s a.turn.moment a.turn.actor (CreatePort a.port a.name.now a.caps))) c.self.view_is
+    (λ n. creating (record { clients = i.clients; edges = i.graph }) a.turn.moment a.turn.actor c.answer.result c.create_port.new.self a.port a.name.now a.caps n c.in_ok-create_port.ensures c.answer.ensures.reply c.answer.ensures.delivered)
     c.requires

@@ -17,13 +17,13 @@ delete_port-requires c =
     let i = c.self.inside in
     let a = c.args in
     subst (λ (s : State). refusal_of s a.turn.actor (DeletePort a.port) ≡ None → is_some (FinMap.get i.clients a.turn.actor) ≡ true) c.self.view_is
-    (λ n. open_to_delete (record { clients = i.clients; edges = i.edges.items }) a.turn.actor a.port n) c.requires
+    (λ n. open_to_delete (record { clients = i.clients; edges = i.graph }) a.turn.actor a.port n) c.requires
 
 pub returns : goal.returns
 returns c =
     let i = c.self.inside in
     let a = c.args in
-    subst (λ (s : State). refusal_of s a.turn.actor (DeletePort a.port) ≡ None → IsAnswer c.answer.result (record { clients = c.delete_port.new.self; edges = c.remove_node.new.edges.items }) (command_step s a.turn.moment a.turn.actor (DeletePort a.port))) c.self.view_is
-    (λ n. deleting (record { clients = i.clients; edges = i.edges.items }) a.turn.moment a.turn.actor c.answer.result c.delete_port.new.self c.remove_node.new.edges.items a.port n c.delete_port.ensures
-    (c.remove_node.ensures ∙ ap (λ (x : Addr). filter (λ e. not (touches x e)) i.edges.items) c.port_addr.ensures) c.answer.ensures.reply c.answer.ensures.delivered)
+    subst (λ (s : State). refusal_of s a.turn.actor (DeletePort a.port) ≡ None → IsAnswer c.answer.result (record { clients = c.delete_port.new.self; edges = c.remove_node.new.self }) (command_step s a.turn.moment a.turn.actor (DeletePort a.port))) c.self.view_is
+    (λ n. deleting (record { clients = i.clients; edges = i.graph }) a.turn.moment a.turn.actor c.answer.result c.delete_port.new.self c.remove_node.new.self a.port n c.delete_port.ensures
+    (c.remove_node.ensures ∙ ap (λ (x : Addr). filter (λ e. not (touches x e)) i.graph) c.port_addr.ensures) c.answer.ensures.reply c.answer.ensures.delivered)
     c.requires

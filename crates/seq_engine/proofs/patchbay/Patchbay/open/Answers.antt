@@ -10,6 +10,6 @@ pub returns : goal.returns
 returns c =
     let i = c.self.inside in
     let a = c.args in
-    subst (λ (s : State). refusal_of s a.turn.actor (Open a.name.now a.in_size a.out_size) ≡ None → IsAnswer c.answer.result (record { clients = c.open.new.self; edges = i.edges.items }) (command_step s a.turn.moment a.turn.actor (Open a.name.now a.in_size a.out_size))) c.self.view_is
-    (λ n. opening (record { clients = i.clients; edges = i.edges.items }) a.turn.moment a.turn.actor c.answer.result c.open.new.self a.name.now a.in_size a.out_size n c.in_ok-open.ensures c.answer.ensures.reply c.answer.ensures.delivered)
+    subst (λ (s : State). refusal_of s a.turn.actor (Open a.name.now a.in_size a.out_size) ≡ None → IsAnswer c.answer.result (record { clients = c.open.new.self; edges = i.graph }) (command_step s a.turn.moment a.turn.actor (Open a.name.now a.in_size a.out_size))) c.self.view_is
+    (λ n. opening (record { clients = i.clients; edges = i.graph }) a.turn.moment a.turn.actor c.answer.result c.open.new.self a.name.now a.in_size a.out_size n c.in_ok-open.ensures c.answer.ensures.reply c.answer.ensures.delivered)
     c.requires

@@ -3,4 +3,4 @@ use Rattle.seq_state.specs.Step.{sent}
 use Rattle.seq_engine.proofs.patchbay.Patchbay.sent.Given as goal
 
 abbrev pub invariant-loop-message : goal.invariant-loop-message
-invariant-loop-message l = l.delivered.items ≡ sent l.edges l.turn.moment l.turn.actor (map (λ m. (l.fn.port, m)) (take l.message-index l.messages))
+invariant-loop-message l = l.delivered.items ≡ sent l.self-inside.graph l.turn.moment l.turn.actor (map (λ m. (l.fn.port, m)) (take l.message-index l.messages))

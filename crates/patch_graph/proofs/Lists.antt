@@ -1,0 +1,97 @@
+-- Filters of lists.
+use Rattle.std.proofs.Common.{◌≡◌, ℕ, zero, suc, take, ◌≤◌, Bool, true, false, not, cond, ◌&&◌, ◌||◌, List, [], ◌∷◌, ◌++◌, map, length, refl, sym, ap, ◌∙◌, arith}
+use Rattle.std.proofs.Common.{Option, None, Some, Bor, get_or, ltb}
+use Rattle.std.specs.Prelude.{is_some, IfSome, if◌then◌else◌}
+use Rattle.std.specs.Option.{option_copied}
+use Rattle.std.specs.List.{filter, list_any, list_all, slice_get}
+use Rattle.std.proofs.lemmas.Bool.{false≢true}
+use Rattle.std.proofs.lemmas.Bool.Decides.{nat_tests}
+use Rattle.std.proofs.lemmas.Option.{slice_get_past, slice_get-get_or}
+
+pub both_left : (x y : Bool) → (x && y) ≡ true → x ≡ true
+both_left x y h = grind arith
+
+pub both_right : (x y : Bool) → (x && y) ≡ true → y ≡ true
+both_right x y h = grind arith
+
+pub and_both : (x y : Bool) → x ≡ true → y ≡ true → (x && y) ≡ true
+and_both x y h k = grind arith
+
+pub not_by : (b : Bool) → (b ≡ true → ⊥) → not b ≡ true
+not_by true h = absurd (h refl)
+not_by false h = refl
+
+pub refuted : (b : Bool) → (b ≡ true → ⊥) → b ≡ false
+refuted true h = absurd (h refl)
+refuted false h = refl
+
+pub not_true : (b : Bool) → not b ≡ true → b ≡ false
+not_true true h = sym h
+not_true false h = refl
+
+module _ {X : Type 0} where
+  pub filter-all : (p : X → Bool) → ((x : X) → p x ≡ true) → (xs : List X) → filter p xs ≡ xs
+  filter-all p h [] = refl
+  filter-all p h (x ∷ xs) = grind (arith, filter-all p h xs, h x)
+
+  -- tests that agree
+  pub filter-agree : (p q : X → Bool) → ((x : X) → p x ≡ q x) → (xs : List X) → filter p xs ≡ filter q xs
+  filter-agree p q h [] = refl
+  filter-agree p q h (x ∷ xs) = grind (arith, filter-agree p q h xs, h x)
+
+  -- nothing passes that some test would find
+  pub filter-none : (p : X → Bool) (xs : List X) → list_any p xs ≡ false → filter (λ x. not (p x)) xs ≡ xs
+  filter-none p [] h = refl
+  filter-none p (x ∷ xs) h = grind (arith, filter-none p xs)
+
+  pub list_any-filter : (p q : X → Bool) (xs : List X) → list_any p (filter q xs) ≡ true → list_any p xs ≡ true
+  list_any-filter p q [] h = h
+  list_any-filter p q (x ∷ xs) h = grind (arith, list_any-filter p q xs)
+
+  pub length-filter_filter : (p q : X → Bool) (xs : List X) → length (filter p (filter q xs)) ≤ length (filter p xs)
+  length-filter_filter p q [] = omega arith
+  length-filter_filter p q (x ∷ xs) = grind (arith, length-filter_filter p q xs)
+
+  pub list_all-weaker : (p q : X → Bool) → ((x : X) → p x ≡ true → q x ≡ true) → (xs : List X) → list_all p xs ≡ true → list_all q xs ≡ true
+  list_all-weaker p q w [] h = refl
+  list_all-weaker p q w (x ∷ xs) h = grind (arith, list_all-weaker p q w xs, w x)
+
+  pub list_all-append : (p : X → Bool) (xs ys : List X) → list_all p xs ≡ true → list_all p ys ≡ true → list_all p (xs ++ ys) ≡ true
+  list_all-append p [] ys h k = k
+  list_all-append p (x ∷ xs) ys h k = grind (arith, list_all-append p xs ys)
+
+-- what passes q is what of its images passes r
+pub filter-mapped : {X Y : Type 0} (f : X → Y) (p q : X → Bool) (r : Y → Bool) → ((x : X) → p x ≡ true → q x ≡ r (f x)) → (xs : List X) → map f (filter p (filter q xs)) ≡ filter r (map f (filter p xs))
+filter-mapped f p q r h [] = refl
+filter-mapped f p q r h (x ∷ xs) = step (p x) refl (q x) refl (filter-mapped f p q r h xs)
+  where
+    step : (b : Bool) → p x ≡ b → (c : Bool) → q x ≡ c → map f (filter p (filter q xs)) ≡ filter r (map f (filter p xs)) → map f (filter p (cond c (x ∷ filter q xs) (filter q xs))) ≡ filter r (map f (cond b (x ∷ filter p xs) (filter p xs)))
+    step true e true k more = grind (arith, h x)
+    step true e false k more = grind (arith, h x)
+    step false e true k more = grind arith
+    step false e false k more = grind arith
+
+module _ {X : Type 0} where
+  -- a test that passes all that another asks for
+  pub filter-outside : (p q : X → Bool) → ((x : X) → p x ≡ true → q x ≡ true) → (xs : List X) → filter p (filter q xs) ≡ filter p xs
+  filter-outside p q w [] = refl
+  filter-outside p q w (x ∷ xs) = grind (arith, filter-outside p q w xs, w x)
+
+  pub length-filter-take : (p : X → Bool) (xs : List X) (i : ℕ) → length (filter p (take i xs)) ≤ length (filter p xs)
+  length-filter-take p xs zero = omega arith
+  length-filter-take p [] (suc i) = omega arith
+  length-filter-take p (x ∷ xs) (suc i) = grind (arith, length-filter-take p xs i)
+
+pub looked_up : {X : Type 0} (o : Option (Bor X)) (xs : List X) (i : ℕ) → is_some o ≡ ltb i (length xs) → IfSome o (λ x. x.now ≡ get_or xs i x.now) → option_copied o ≡ slice_get xs i
+looked_up None xs i e h = sym (slice_get_past xs i (grind (arith, nat_tests)))
+looked_up (Some x) xs i e h = ap Some h ∙ sym (slice_get-get_or xs i x.now (grind (arith, nat_tests)))
+
+pub when_true : {X : Type 0} (b : Bool) (x y z : X) → b ≡ true → z ≡ (if b then x else y) → z ≡ x
+when_true true x y z h e = e
+when_true false x y z h e = absurd (false≢true h)
+
+pub both_ways : (x y : Bool) → (x ≡ true → y ≡ true) → (y ≡ true → x ≡ true) → x ≡ y
+both_ways true true h k = refl
+both_ways false false h k = refl
+both_ways true false h k = sym (h refl)
+both_ways false true h k = k refl

@@ -1,0 +1,240 @@
+-- A search through filters: what it has found is reached, and in the end nothing else is.
+use Rattle.std.proofs.Common.{◌≡◌, ◌⊎◌, ◌↔◌, inl, inr, ℕ, zero, suc, ◌+◌, ◌<◌, ◌≤◌, Bool, true, false, cond, if◌then◌else◌, ◌&&◌, ◌||◌, List, [], ◌∷◌, ◌++◌, map, length, Option, Some, None, refl, ap, sym, subst, ◌∙◌, arith}
+use Rattle.std.specs.List.{filter, list_any, fold, slice_get}
+use Rattle.std.proofs.lemmas.Bool.{false≢true, or_cases, cases_eq, cases_lt}
+use Rattle.std.proofs.lemmas.List.{length-append}
+use Rattle.std.proofs.lemmas.List.Folds.{list_any-append}
+use Rattle.std.proofs.lemmas.Option.{slice_get-get_or, slice_get_within}
+use Rattle.node_table.specs.Addresses.{same, is_filter}
+use Rattle.node_table.specs.declared.number.Addr.{Addr}
+use Rattle.patch_graph.specs.declared.edge.Edge.{Edge}
+use Rattle.patch_graph.specs.Edges.{is_edge, has_edge}
+use Rattle.patch_graph.specs.Chains.{Reaches}
+use Rattle.patch_graph.specs.Index.{targets_of}
+use Rattle.patch_graph.specs.Found.{with_found, with_filters}
+use Rattle.patch_graph.proofs.Lists.{and_both}
+use Rattle.patch_graph.proofs.Same.{same-is, same-refl, same-from}
+use Rattle.patch_graph.proofs.Chained.{IsHop, Joins, one_hop, reach_on, along_reached, reach_start, reach_end}
+
+abbrev pub In : Addr → List Addr → Type 0
+In x xs = list_any (same x) xs ≡ true
+
+-- ---- one found more
+
+found_kept : (xs : List Addr) (a x : Addr) → In x xs → In x (with_found xs a)
+found_kept xs a x h = by (list_any (same a) xs)
+  where
+    by : (b : Bool) → In x (if b then xs else xs ++ a ∷ [])
+    by true = h
+    by false = list_any-append (same x) xs (a ∷ []) ∙ ap (λ c. c || (same x a || false)) h
+
+found_new : (xs : List Addr) (a : Addr) → In a (with_found xs a)
+found_new xs a = by (list_any (same a) xs) refl
+  where
+    by : (b : Bool) → list_any (same a) xs ≡ b → In a (if b then xs else xs ++ a ∷ [])
+    by true h = h
+    by false h = list_any-append (same a) xs (a ∷ []) ∙ ap (λ c. list_any (same a) xs || (c || false)) (same-refl a) ∙ or_true (list_any (same a) xs)
+      where
+        or_true : (b : Bool) → (b || true) ≡ true
+        or_true true = refl
+        or_true false = refl
+
+found_from : (xs : List Addr) (a x : Addr) → In x (with_found xs a) → In x xs ⊎ (same x a ≡ true)
+found_from xs a x h = by (list_any (same a) xs) h
+  where
+    last : (b c : Bool) → (b || (c || false)) ≡ true → (b ≡ true) ⊎ (c ≡ true)
+    last true c h = inl refl
+    last false c h = inr (sym (or_false c) ∙ h)
+      where
+        or_false : (c : Bool) → (c || false) ≡ c
+        or_false true = refl
+        or_false false = refl
+
+    by : (b : Bool) → In x (if b then xs else xs ++ a ∷ []) → In x xs ⊎ (same x a ≡ true)
+    by true k = inl k
+    by false k = last (list_any (same x) xs) (same x a) (sym (list_any-append (same x) xs (a ∷ [])) ∙ k)
+
+get-front : (xs ys : List Addr) (i : ℕ) → i < length xs → slice_get (xs ++ ys) i ≡ slice_get xs i
+get-front [] ys i l = absurd (omega arith)
+get-front (x ∷ xs) ys zero l = refl
+get-front (x ∷ xs) ys (suc i) l = get-front xs ys i (omega arith)
+
+found_get : (xs : List Addr) (a : Addr) (i : ℕ) → i < length xs → slice_get (with_found xs a) i ≡ slice_get xs i
+found_get xs a i l = by (list_any (same a) xs)
+  where
+    by : (b : Bool) → slice_get (if b then xs else xs ++ a ∷ []) i ≡ slice_get xs i
+    by true = refl
+    by false = get-front xs (a ∷ []) i l
+
+found_length : (xs : List Addr) (a : Addr) → length xs ≤ length (with_found xs a)
+found_length xs a = by (list_any (same a) xs)
+  where
+    by : (b : Bool) → length xs ≤ length (if b then xs else xs ++ a ∷ [])
+    by true = omega arith
+    by false = simp length-append (omega arith)
+
+-- ---- the filters of a list more
+
+abbrev step : List Addr → Addr → List Addr
+step ys t = if is_filter t then with_found ys t else ys
+
+step_kept : (xs : List Addr) (t x : Addr) → In x xs → In x (step xs t)
+step_kept xs t x h = by (is_filter t)
+  where
+    by : (b : Bool) → In x (if b then with_found xs t else xs)
+    by true = found_kept xs t x h
+    by false = h
+
+filters_kept : (ts xs : List Addr) (x : Addr) → In x xs → In x (with_filters xs ts)
+filters_kept [] xs x h = h
+filters_kept (t ∷ ts) xs x h = filters_kept ts (step xs t) x (step_kept xs t x h)
+
+filters_new : (ts xs : List Addr) (x : Addr) → In x ts → is_filter x ≡ true → In x (with_filters xs ts)
+filters_new [] xs x h f = absurd (false≢true h)
+filters_new (t ∷ ts) xs x h f = by (or_cases (same x t) (list_any (same x) ts) h) (λ k. filters_new ts (step xs t) x k f)
+  where
+    here : (b : Bool) → is_filter t ≡ b → same x t ≡ true → In x (if b then with_found xs t else xs)
+    here true k s = subst (λ y. In y (with_found xs t)) (sym (same-is x t s)) (found_new xs t)
+    here false k s = absurd (false≢true (sym k ∙ ap is_filter (sym (same-is x t s)) ∙ f))
+
+    by : (same x t ≡ true) ⊎ In x ts → (In x ts → In x (with_filters (step xs t) ts)) → In x (with_filters (step xs t) ts)
+    by (inl s) more = filters_kept ts (step xs t) x (here (is_filter t) refl s)
+    by (inr k) more = more k
+
+filters_from : (ts xs : List Addr) (x : Addr) → In x (with_filters xs ts) → In x xs ⊎ (In x ts × (is_filter x ≡ true))
+filters_from [] xs x h = inl h
+filters_from (t ∷ ts) xs x h = by (filters_from ts (step xs t) x h)
+  where
+    or_left : (a b : Bool) → a ≡ true → (a || b) ≡ true
+    or_left a b h = grind arith
+
+    or_right : (a b : Bool) → b ≡ true → (a || b) ≡ true
+    or_right a b h = grind arith
+
+    new : (b : Bool) → is_filter t ≡ b → In x (if b then with_found xs t else xs) → In x xs ⊎ (In x (t ∷ ts) × (is_filter x ≡ true))
+    new false k i = inl i
+    new true k i = old (found_from xs t x i)
+      where
+        old : In x xs ⊎ (same x t ≡ true) → In x xs ⊎ (In x (t ∷ ts) × (is_filter x ≡ true))
+        old (inl j) = inl j
+        old (inr s) = inr (or_left (same x t) (list_any (same x) ts) s, ap is_filter (same-is x t s) ∙ k)
+
+    by : In x (step xs t) ⊎ (In x ts × (is_filter x ≡ true)) → In x xs ⊎ (In x (t ∷ ts) × (is_filter x ≡ true))
+    by (inl i) = new (is_filter t) refl i
+    by (inr k) = inr (or_right (same x t) (list_any (same x) ts) k.0, k.1)
+
+step_length : (xs : List Addr) (t : Addr) → length xs ≤ length (step xs t)
+step_length xs t = by (is_filter t)
+  where
+    by : (b : Bool) → length xs ≤ length (if b then with_found xs t else xs)
+    by true = found_length xs t
+    by false = omega arith
+
+step_get : (xs : List Addr) (t : Addr) (i : ℕ) → i < length xs → slice_get (step xs t) i ≡ slice_get xs i
+step_get xs t i l = by (is_filter t)
+  where
+    by : (b : Bool) → slice_get (if b then with_found xs t else xs) i ≡ slice_get xs i
+    by true = found_get xs t i l
+    by false = refl
+
+filters_length : (ts xs : List Addr) → length xs ≤ length (with_filters xs ts)
+filters_length [] xs = omega arith
+filters_length (t ∷ ts) xs = let h : length xs ≤ length (step xs t) = step_length xs t in let k : length (step xs t) ≤ length (with_filters (step xs t) ts) = filters_length ts (step xs t) in omega arith
+
+filters_get : (ts xs : List Addr) (i : ℕ) → i < length xs → slice_get (with_filters xs ts) i ≡ slice_get xs i
+filters_get [] xs i l = refl
+filters_get (t ∷ ts) xs i l = let h : length xs ≤ length (step xs t) = step_length xs t in filters_get ts (step xs t) i (omega arith) ∙ step_get xs t i l
+
+-- ---- where a found node stands
+
+in_from_get : (xs : List Addr) (i : ℕ) (x : Addr) → slice_get xs i ≡ Some x → In x xs
+in_from_get [] i x h = cc
+in_from_get (y ∷ xs) zero x h = let e : x ≡ y = cc in ap (λ b. b || list_any (same x) xs) (same-from x y e)
+in_from_get (y ∷ xs) (suc i) x h = by (same x y) (in_from_get xs i x h)
+  where
+    by : (b : Bool) → In x xs → (b || list_any (same x) xs) ≡ true
+    by true k = refl
+    by false k = k
+
+get_from_in : (xs : List Addr) (x : Addr) → In x xs → (i : ℕ) × (i < length xs) × (slice_get xs i ≡ Some x)
+get_from_in [] x h = absurd (false≢true h)
+get_from_in (y ∷ xs) x h = by (or_cases (same x y) (list_any (same x) xs) h) (get_from_in xs x)
+  where
+    by : (same x y ≡ true) ⊎ In x xs → (In x xs → (i : ℕ) × (i < length xs) × (slice_get xs i ≡ Some x)) → (i : ℕ) × (i < suc (length xs)) × (slice_get (y ∷ xs) i ≡ Some x)
+    by (inl s) more = (0, omega arith, ap Some (sym (same-is x y s)))
+    by (inr k) more = let m : (i : ℕ) × (i < length xs) × (slice_get xs i ≡ Some x) = more k in (suc m.0, omega (arith, m.1), m.2)
+
+past_end : (xs : List Addr) (i : ℕ) → slice_get xs i ≡ None → length xs ≤ i
+past_end [] i h = omega arith
+past_end (x ∷ xs) zero h = cc
+past_end (x ∷ xs) (suc i) h = let k : length xs ≤ i = past_end xs i h in omega arith
+
+targets-in : (edges : List Edge) (a x : Addr) → list_any (same x) (targets_of edges a) ≡ has_edge edges a x
+targets-in [] a x = refl
+targets-in (e ∷ es) a x = by (same a e.source) (targets-in es a x)
+  where
+    by : (b : Bool) → list_any (same x) (targets_of es a) ≡ has_edge es a x → list_any (same x) (map (λ e. e.target) (cond b (e ∷ filter (λ e. same a e.source) es) (filter (λ e. same a e.source) es))) ≡ ((b && same x e.target) || has_edge es a x)
+    by true h = ap (λ c. same x e.target || c) h
+    by false h = h
+
+-- ---- the search
+
+-- as many turns are done, and all filters next to their nodes are found
+pub record IsSearch (edges : List Edge) (from : Addr) (found : List Addr) (turn : ℕ) : Type 0 where
+  pub sound : (x : Addr) → In x found → Reaches edges from x
+  pub start : (x : Addr) → IsHop edges from x → In x found
+  pub done : (i : ℕ) (x : Addr) → i < turn → slice_get found i ≡ Some x → (y : Addr) → IsHop edges x y → In y found
+  pub within : turn ≤ length found
+
+hop_found : (edges : List Edge) (a x : Addr) (xs : List Addr) → IsHop edges a x → In x (with_filters xs (targets_of edges a))
+hop_found edges a x xs h = filters_new (targets_of edges a) xs x (targets-in edges a x ∙ h.there) h.to_filter
+
+pub search-start : (edges : List Edge) (from : Addr) (found : List Addr) → is_filter from ≡ true → found ≡ with_filters [] (targets_of edges from) → IsSearch edges from found 0
+search-start edges from found f e =
+    subst (λ xs. IsSearch edges from xs 0) (sym e) (record {
+      sound = λ x h. by x (filters_from (targets_of edges from) [] x h);
+      start = λ x h. hop_found edges from x [] h;
+      done = λ i x l. absurd (omega arith);
+      within = omega arith;
+    })
+  where
+    by : (x : Addr) → In x [] ⊎ (In x (targets_of edges from) × (is_filter x ≡ true)) → Reaches edges from x
+    by x (inl h) = absurd (false≢true h)
+    by x (inr h) = one_hop edges from x (record { there = sym (targets-in edges from x) ∙ h.0; from_filter = f; to_filter = h.1 })
+
+pub search-more : (edges : List Edge) (from : Addr) (found new : List Addr) (turn : ℕ) (node : Addr) → IsSearch edges from found turn → slice_get found turn ≡ Some node → new ≡ with_filters found (targets_of edges node) → IsSearch edges from new (turn + 1)
+search-more edges from found new turn node h at e =
+    subst (λ xs. IsSearch edges from xs (turn + 1)) (sym e) (record {
+      sound = λ x k. by x (filters_from (targets_of edges node) found x k);
+      start = λ x k. filters_kept (targets_of edges node) found x (h.start x k);
+      done = λ i x l k y hop. elim (cases_lt i turn) [
+        | inl below ↦ filters_kept (targets_of edges node) found y (h.done i x below (sym (filters_get (targets_of edges node) found i (omega (arith, inside))) ∙ k) y hop)
+        | inr above ↦ let same_turn : i ≡ turn = omega arith in
+            let is : Some node ≡ Some x = sym at ∙ sym (filters_get (targets_of edges node) found turn inside) ∙ ap (slice_get (with_filters found (targets_of edges node))) (sym same_turn) ∙ k in
+            let node_is : x ≡ node = cc in
+            hop_found edges node y found (subst (λ z. IsHop edges z y) node_is hop)
+      ];
+      within = let k : length found ≤ length (with_filters found (targets_of edges node)) = filters_length (targets_of edges node) found in omega (arith, inside);
+    })
+  where
+    inside : turn < length found
+    inside = slice_get_within found turn node at
+
+    to_node : Reaches edges from node
+    to_node = h.sound node (in_from_get found turn node at)
+
+    by : (x : Addr) → In x found ⊎ (In x (targets_of edges node) × (is_filter x ≡ true)) → Reaches edges from x
+    by x (inl k) = h.sound x k
+    by x (inr k) = reach_on edges from node x to_node (inr (one_hop edges node x (record { there = sym (targets-in edges node x) ∙ k.0; from_filter = reach_end edges from node to_node; to_filter = k.1 })))
+
+-- after the last turn
+pub search-end : (edges : List Edge) (from : Addr) (found : List Addr) (turn : ℕ) (to : Addr) → IsSearch edges from found turn → slice_get found turn ≡ None → In to found ↔ Reaches edges from to
+search-end edges from found turn to h last = (h.sound to, λ r. along_reached edges to P (λ a hop closed. closed to hop) (λ a b hop more closed. more (closed_in b (closed b hop))) from r h.start)
+  where
+    P : Addr → Type 0
+    P a = ((y : Addr) → IsHop edges a y → In y found) → In to found
+
+    closed_in : (b : Addr) → In b found → (y : Addr) → IsHop edges b y → In y found
+    closed_in b k y hop = let m : (i : ℕ) × (i < length found) × (slice_get found i ≡ Some b) = get_from_in found b k in
+        let end : length found ≤ turn = past_end found turn last in
+        h.done m.0 b (omega (arith, m.1)) m.2 y hop

@@ -1,0 +1,6 @@
+use Rattle.std.proofs.Common.{◌≡◌, take}
+use Rattle.patch_graph.specs.Found.{with_filters}
+use Rattle.patch_graph.proofs.graph.PatchGraph.find_filters.Given as goal
+
+abbrev pub invariant-loop-target : goal.invariant-loop-target
+invariant-loop-target l = l.found ≡ with_filters l.fn.found (take l.target-index l.target-items)
