@@ -238,6 +238,8 @@ impl Message {
     }
 
     /// Appends the full bytes, status and all. Where there is no memory, nothing changes.
+    // Most messages have three bytes or less: a call would cost as much as they do.
+    #[inline(always)]
     pub fn append_to(&self, out: &mut Vec<u8>) -> Result<(), OutOfMemory>
         ensures ok { OnOk result (out.new.items ≡ out.old.items ++ self.now) }
         ensures err { OnErr result (out.new.items ≡ out.old.items) }

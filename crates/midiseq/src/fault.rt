@@ -1,5 +1,7 @@
 //! Why the program stops, in one line.
 
+ghost use Rattle.std.specs.Prelude.{◌≡◌};
+
 use std::alloc::{AllocError, AllocFailed, Global};
 use thiserror::Error;
 
@@ -18,8 +20,12 @@ pub(crate) enum Fault {
 }
 
 impl Fault {
+    ghost use Rattle.midiseq.specs.Faults.{status_of};
+
     /// 2 for a fault in the words, 1 for any other.
-    pub(crate) fn status(&self) -> u8 {
+    pub(crate) fn status(&self) -> u8
+        ensures { result ≡ status_of self.now }
+    {
         match self {
             Fault::NotUtf8 | Fault::NoSubcommand => 2,
             Fault::CannotRead(_) | Fault::CannotWrite(_) | Fault::OutOfMemory => 1,
@@ -42,12 +48,22 @@ impl Fault {
 }
 
 impl From<AllocError> for Fault {
+    ghost use Rattle.std.specs.Prelude.{◌≡◌};
+    ghost use Rattle.midiseq.specs.declared.fault.Fault.TheVariants.{OutOfMemory};
+
+    ghost from_gives = { λ _ e. e ≡ OutOfMemory };
+
     fn from(_error: AllocError) -> Fault {
         Fault::OutOfMemory
     }
 }
 
 impl<T: Drop> From<AllocFailed<T>> for Fault {
+    ghost use Rattle.std.specs.Prelude.{◌≡◌};
+    ghost use Rattle.midiseq.specs.declared.fault.Fault.TheVariants.{OutOfMemory};
+
+    ghost from_gives = { λ _ e. e ≡ OutOfMemory };
+
     fn from(_error: AllocFailed<T>) -> Fault {
         Fault::OutOfMemory
     }

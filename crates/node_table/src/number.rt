@@ -39,7 +39,8 @@ impl ClientId {
         ensures low { 128 ≤ self }
         ensures high { self ≤ 191 }
     {
-        self.0
+        let ClientId(number) = self;
+        number
     }
 }
 
@@ -87,7 +88,8 @@ impl PortNo {
         ensures value { result ≡ self }
         ensures small { self < 16 }
     {
-        self.0
+        let PortNo(number) = self;
+        number
     }
 }
 
@@ -135,7 +137,8 @@ impl FilterNo {
         ensures value { result ≡ self }
         ensures small { self < 16 }
     {
-        self.0
+        let FilterNo(number) = self;
+        number
     }
 }
 
@@ -183,7 +186,8 @@ impl QueueNo {
         ensures value { result ≡ self }
         ensures small { self < 8 }
     {
-        self.0
+        let QueueNo(number) = self;
+        number
     }
 }
 

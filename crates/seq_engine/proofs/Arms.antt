@@ -16,8 +16,8 @@ use Rattle.seq_engine.specs.declared.patchbay.StepOut.{StepOut}
 use Rattle.seq_engine.specs.Turns.{IsAnswer, Gives}
 use Rattle.seq_state.specs.declared.refusal.Refusal.{Refusal}
 use Rattle.seq_state.specs.Refusals.{number_of}
-use Rattle.seq_state.specs.declared.input.Command.{Command}
-use Rattle.seq_state.specs.declared.input.Command.TheVariants.{Open, Close, CreatePort, DeletePort, Connect, Disconnect, Bytes, Send}
+use Rattle.seq_ports.specs.declared.input.Command.{Command}
+use Rattle.seq_ports.specs.declared.input.Command.TheVariants.{Open, Close, CreatePort, DeletePort, Connect, Disconnect, Bytes, Send}
 use Rattle.node_table.specs.Addresses.{same_node}
 use Rattle.node_table.specs.declared.number.Node.TheVariants.{Port}
 use Rattle.patch_graph.specs.declared.edge.Edge.{Edge}
@@ -25,11 +25,11 @@ use Rattle.patch_graph.specs.Edges.{touches, touches_client, without_edge}
 use Rattle.std.proofs.lemmas.List.Elements.{filter_agree}
 use Rattle.std.proofs.lemmas.Bool.Decides.{nat_tests}
 use Rattle.seq_state.specs.declared.log.Delivery.{Delivery}
-use Rattle.seq_state.specs.declared.log.Reply.TheVariants.{Done, Messages, Refused}
-use Rattle.seq_state.specs.State.{Client, State}
-use Rattle.seq_state.specs.Own.{Own, Row, own_command, first_refusal, opened, changed, put_port, drop_port, feed_port, fed_of, has_port, port_of, no_port}
-use Rattle.seq_state.specs.Step.{port_addr, copies, sent, Stepped, unless, loses, put, with_own, after_own, after_row, refusal_of, command_step, IsRefusal}
-use Rattle.seq_state.proofs.Kin.{get-put}
+use Rattle.seq_ports.specs.declared.log.Reply.TheVariants.{Done, Messages, Refused}
+use Rattle.seq_ports.specs.State.{Client, State}
+use Rattle.seq_ports.specs.Own.{Own, Row, own_command, first_refusal, opened, changed, put_port, drop_port, feed_port, fed_of, has_port, port_of, no_port}
+use Rattle.seq_ports.specs.Step.{port_addr, copies, sent, Stepped, unless, loses, put, with_own, after_own, after_row, refusal_of, command_step, IsRefusal}
+use Rattle.seq_ports.proofs.Kin.{get-put}
 
 -- ---- where nothing goes
 

@@ -5,8 +5,8 @@ use Rattle.std.proofs.lemmas.List.{take_more}
 use Rattle.midi_wire.specs.Writings.{written, written_after, status_after, status_after_all, status_in_force}
 use Rattle.midi_wire.proofs.WrittenInTwo.{writes-in-two}
 use Rattle.node_table.specs.declared.number.PortAddr.{PortAddr}
-use Rattle.seq_state.specs.declared.log.LogEntry.{LogEntry}
-use Rattle.seq_state.specs.Heard.{message_at, messages_at}
+use Rattle.seq_ports.specs.declared.log.LogEntry.{LogEntry}
+use Rattle.seq_ports.specs.Heard.{message_at, messages_at}
 use Rattle.seq_engine.proofs.Sending.{filter_map-snoc}
 
 status_after_all-append : (q : Option ℕ) (ms ns : List (List ℕ)) → status_after_all q (ms ++ ns) ≡ status_after_all (status_after_all q ms) ns

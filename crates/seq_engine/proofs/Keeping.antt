@@ -12,9 +12,9 @@ use Rattle.node_table.specs.declared.number.Node.TheVariants.{Port}
 use Rattle.seq_engine.specs.Clients.{port_seen, no_sizes, client_seen, clients_seen}
 use Rattle.seq_engine.specs.declared.clients.PoolSizes.{PoolSizes}
 use Rattle.seq_engine.proofs.Mapped.{get-mapped, mapped-empty, mapped-insert, mapped-remove}
-use Rattle.seq_state.specs.State.{Client, PortInfo}
-use Rattle.seq_state.specs.Own.{opened, has_port, port_of, fed_of, changed, put_port, drop_port, feed_port}
-use Rattle.seq_state.specs.Step.{port_addr, put, caps_of}
+use Rattle.seq_ports.specs.State.{Client, PortInfo}
+use Rattle.seq_ports.specs.Own.{opened, has_port, port_of, fed_of, changed, put_port, drop_port, feed_port}
+use Rattle.seq_ports.specs.Step.{port_addr, put, caps_of}
 
 abbrev pub Nodes : Type 0
 Nodes = FinMap nat_cmp (ClientNodes (List ℕ))

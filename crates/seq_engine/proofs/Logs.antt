@@ -1,13 +1,13 @@
 -- The log of a run, step by step.
 use Rattle.std.proofs.Common.{◌≡◌, ℕ, zero, suc, ◌+◌, ◌<◌, ◌≤◌, List, [], ◌∷◌, ◌++◌, map, length, take, drop, get_or, refl, sym, ap, ◌∙◌, arith, add-one, append_assoc, drop-cons}
 use Rattle.std.proofs.lemmas.List.{take_more}
-use Rattle.seq_state.specs.declared.input.Input.{Input}
+use Rattle.seq_ports.specs.declared.input.Input.{Input}
 use Rattle.seq_state.specs.declared.log.Delivery.{Delivery}
-use Rattle.seq_state.specs.declared.log.LogEntry.{LogEntry}
-use Rattle.seq_state.specs.declared.log.LogEntry.TheVariants.{Delivered, Replied}
-use Rattle.seq_state.specs.declared.log.Reply.{Reply}
-use Rattle.seq_state.specs.State.{State, start}
-use Rattle.seq_state.specs.Step.{step, settle, state_after, log_from, plain, IsTimedFrom}
+use Rattle.seq_ports.specs.declared.log.LogEntry.{LogEntry}
+use Rattle.seq_ports.specs.declared.log.LogEntry.TheVariants.{Delivered, Replied}
+use Rattle.seq_ports.specs.declared.log.Reply.{Reply}
+use Rattle.seq_ports.specs.State.{State, start}
+use Rattle.seq_ports.specs.Step.{step, settle, state_after, log_from, plain, IsTimedFrom}
 
 -- the moment of the last of the inputs
 abbrev pub moment_after : ℕ → List Input → ℕ

@@ -7,7 +7,7 @@ use Rattle.node_table.specs.declared.number.Addr.{Addr}
 use Rattle.patch_graph.specs.declared.edge.Edge.{Edge}
 use Rattle.patch_graph.specs.Index.{targets_of}
 use Rattle.node_table.specs.Addresses.{same}
-use Rattle.seq_state.specs.Step.{delivery, copies}
+use Rattle.seq_ports.specs.Step.{delivery, copies}
 
 -- one more at the end
 pub filter_map-snoc : {X Y : Type 0} (f : X → Option Y) (xs : List X) (x : X) → filter_map f (xs ++ x ∷ []) ≡ filter_map f xs ++ option_to_list (f x)

@@ -5,7 +5,7 @@ use Rattle.std.specs.FinMap
 use Rattle.std.specs.FinMap.{FinMap}
 use Rattle.node_table.specs.Nodes.{NodeSeen, ClientNodes}
 use Rattle.seq_engine.specs.declared.clients.PoolSizes.{PoolSizes}
-use Rattle.seq_state.specs.State.{Client, PortInfo}
+use Rattle.seq_ports.specs.State.{Client, PortInfo}
 
 -- a map with other values, made of the numbers and the values
 abbrev pub mapped : {X Y : Type 0} → (ℕ → X → Y) → FinMap nat_cmp X → FinMap nat_cmp Y

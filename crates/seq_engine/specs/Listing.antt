@@ -7,7 +7,7 @@ use Rattle.node_table.specs.Text.{addr_text}
 use Rattle.node_table.specs.declared.number.Addr.{Addr}
 use Rattle.node_table.specs.declared.number.Node.TheVariants.{Port}
 use Rattle.patch_graph.specs.declared.edge.Edge.{Edge}
-use Rattle.seq_state.specs.State.{Client, PortInfo, State}
+use Rattle.seq_ports.specs.State.{Client, PortInfo, State}
 
 -- `client 128 drums in 8 out 8`
 abbrev pub client_line : ℕ → List ℕ → ℕ → ℕ → List ℕ

@@ -1,7 +1,7 @@
 -- What an engine is seen as.
 use Rattle.std.specs.Prelude.{ℕ, Bool, refl}
 use Rattle.std.specs.Coded.{Coded, code_by, coded×, coded_ℕ, coded_bool}
-use Rattle.seq_state.specs.State.{State, coded_state}
+use Rattle.seq_ports.specs.State.{State, coded_state}
 
 -- the state, the moment of the last step, the number of steps, and whether an earlier call found no memory
 pub record Seen : Type 0 where

@@ -2,8 +2,8 @@
 use Rattle.std.specs.Prelude.{◌≡◌, Result, Ok, Err}
 use Rattle.memory.specs.declared.out_of_memory.OutOfMemory.{OutOfMemory}
 use Rattle.seq_engine.specs.declared.patchbay.StepOut.{StepOut}
-use Rattle.seq_state.specs.State.{State}
-use Rattle.seq_state.specs.Step.{Stepped, IsRefusal}
+use Rattle.seq_ports.specs.State.{State}
+use Rattle.seq_ports.specs.Step.{Stepped, IsRefusal}
 
 -- the state and the answer are those of a step
 abbrev pub IsAnswer : StepOut → State → Stepped → Type 0

@@ -5,9 +5,9 @@ ghost use Rattle.std.specs.FinMap as map;
 ghost use Rattle.std.specs.Option.{option_copied, option_map};
 ghost use Rattle.midi_wire.specs.Readings.{reading, rest};
 ghost use Rattle.seq_engine.specs.Clients.{port_seen};
-ghost use Rattle.seq_state.specs.State.{Client};
-ghost use Rattle.seq_state.specs.Own.{opened, has_port, port_of, fed_of, changed, put_port, drop_port, feed_port};
-ghost use Rattle.seq_state.specs.Step.{port_addr, node_caps, caps_of, put};
+ghost use Rattle.seq_ports.specs.State.{Client};
+ghost use Rattle.seq_ports.specs.Own.{opened, has_port, port_of, fed_of, changed, put_port, drop_port, feed_port};
+ghost use Rattle.seq_ports.specs.Step.{port_addr, node_caps, caps_of, put};
 
 use crate::port::PortStream;
 use memory::OutOfMemory;
@@ -39,7 +39,7 @@ impl Model for Clients {
     ghost use Rattle.std.specs.Coded.{coded_ℕ};
     ghost use Rattle.std.specs.FinMap as map;
     ghost use Rattle.seq_engine.specs.Clients.{clients_seen};
-    ghost use Rattle.seq_state.specs.State.{Client, coded_client};
+    ghost use Rattle.seq_ports.specs.State.{Client, coded_client};
 
     ghost Value = { map.FinMap nat_cmp Client };
 

@@ -2,12 +2,12 @@
 
 ghost use Rattle.std.specs.Prelude.{◌≡◌, ◌≤◌, ◌<◌, ◌+◌, ◌-◌, ◌^◌, ◌↔◌, true, false, IsTrue, IsOk, IsErrOf, IfOk, OnOk, OnErr};
 ghost use Rattle.seq_engine.specs.Listing.{listing};
-ghost use Rattle.seq_state.specs.State.{start};
-ghost use Rattle.seq_state.specs.Step.{step, settle, IsRefusal};
+ghost use Rattle.seq_ports.specs.State.{start};
+ghost use Rattle.seq_ports.specs.Step.{step, settle, IsRefusal};
 
 use crate::fault::EngineFault;
 use crate::patchbay::{Patchbay, StepOut, Turn};
-use seq_state::{Delivery, Input};
+use seq_ports::{Delivery, Input};
 use std::alloc::Global;
 use std::marker::Model;
 

@@ -1,6 +1,6 @@
 //! The sequencer: one step for each input, and the run of a whole list.
 //!
-//! Every contract here is an equation with the definitions of `seq_state`.
+//! Every contract here is an equation with the definitions of `seq_ports`.
 #![tactic(auto)]
 
 mod clients;
@@ -19,7 +19,7 @@ pub use node_table::{Addr, Caps, ClientId, FilterNo, Node, PortAddr, PortNo};
 pub use patch_graph::Edge;
 pub use patchbay::StepOut;
 pub use runs::{RunLog, is_timed, run};
-pub use seq_state::{Command, Delivery, Input, LogEntry, Refusal, Reply};
+pub use seq_ports::{Command, Delivery, Input, LogEntry, Refusal, Reply};
 
 #[cfg(test)]
 mod patch_tests;

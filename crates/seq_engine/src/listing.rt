@@ -4,7 +4,7 @@ ghost use Rattle.std.specs.Prelude.{◌≡◌, ◌++◌, OnOk, slice_get};
 ghost use Rattle.std.specs.List.{flat_map};
 ghost use Rattle.std.specs.FinMap as map;
 ghost use Rattle.seq_engine.specs.Listing.{client_line, port_line, port_lines, client_lines, edge_line, edge_lines, texts};
-ghost use Rattle.seq_state.specs.Own.{port_of};
+ghost use Rattle.seq_ports.specs.Own.{port_of};
 
 use crate::clients::Clients;
 use bitflags::Flags;

@@ -2,8 +2,8 @@
 
 ghost use Rattle.std.specs.Prelude.{◌≡◌, [], ◌++◌, map, None, OnOk, IfOk, option_to_list};
 ghost use Rattle.seq_engine.specs.Listing.{listing};
-ghost use Rattle.seq_state.specs.State.{start};
-ghost use Rattle.seq_state.specs.Step.{port_addr, delivery, copies, sent, refusal_of, command_step};
+ghost use Rattle.seq_ports.specs.State.{start};
+ghost use Rattle.seq_ports.specs.Step.{port_addr, delivery, copies, sent, refusal_of, command_step};
 
 use crate::clients::{Clients, port_addr};
 use crate::listing::{list_clients, list_edges};
@@ -12,7 +12,7 @@ use memory::{Items, OutOfMemory};
 use midi_wire::Message;
 use node_table::{Addr, Caps, ClientId, PortAddr, PortNo};
 use patch_graph::PatchGraph;
-use seq_state::{Command, Delivery, Reply};
+use seq_ports::{Command, Delivery, Reply};
 use std::alloc::Global;
 use std::marker::Model;
 
@@ -40,7 +40,7 @@ pub(crate) struct Patchbay {
 }
 
 impl Model for Patchbay {
-    ghost use Rattle.seq_state.specs.State.{State, coded_state};
+    ghost use Rattle.seq_ports.specs.State.{State, coded_state};
 
     ghost Value = { State };
 

@@ -6,18 +6,18 @@ ghost use Rattle.std.specs.Prelude.{◌≡◌, ℕ, Bool, List, [], ◌∷◌, n
 ghost use Rattle.std.specs.FinMap as map;
 ghost use Rattle.std.specs.Option.{option_map};
 ghost use Rattle.node_table.specs.Names.{is_name};
-ghost use Rattle.seq_state.specs.Own.{first_refusal, is_size, not_open, no_port, has_port};
+ghost use Rattle.seq_ports.specs.Own.{first_refusal, is_size, not_open, no_port, has_port};
 ghost use Rattle.seq_state.specs.Refusals.{number_of};
 ghost use Rattle.patch_graph.specs.declared.edge.Edge as declared;
-ghost use Rattle.seq_state.specs.Step.{patch_refusal, connect_refusal, disconnect_refusal, refusal_of};
+ghost use Rattle.seq_ports.specs.Step.{patch_refusal, connect_refusal, disconnect_refusal, refusal_of};
 
 use crate::clients::Clients;
 use node_table::{Addr, ClientId, PortNo, is_name, permitted};
 use patch_graph::{MOST_SOURCES, PatchGraph};
-use seq_state::{Command, Refusal};
+use seq_ports::{Command, Refusal};
 
 /// The refusal with the lowest number of those that stand.
-#[tactic(auto, unfolding(seq_state::specs::Own::own_command))]
+#[tactic(auto, unfolding(seq_ports::specs::Own::own_command))]
 pub(crate) fn refusal(
     clients: &Clients,
     graph: &PatchGraph,

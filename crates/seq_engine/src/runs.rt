@@ -2,10 +2,10 @@
 
 ghost use Rattle.std.specs.Prelude.{◌≡◌, ℕ, Bool, [], ◌∷◌, ◌++◌, map, option_to_list, IsTrue, ◌↔◌, IfOk, IfErr, OnOk};
 ghost use Rattle.seq_engine.specs.Listing.{listing};
-ghost use Rattle.seq_state.specs.State.{start};
-ghost use Rattle.seq_state.specs.Step.{plain, state_after, IsTimed};
-ghost use Rattle.seq_state.specs.Circle.{IsClosed, only, view};
-ghost use Rattle.seq_state.specs.Heard.{port_of, comes_to, message_at, port_bytes};
+ghost use Rattle.seq_ports.specs.State.{start};
+ghost use Rattle.seq_ports.specs.Step.{plain, state_after, IsTimed};
+ghost use Rattle.seq_ports.specs.Circle.{IsClosed, only, view};
+ghost use Rattle.seq_ports.specs.Heard.{port_of, comes_to, message_at, port_bytes};
 ghost use Rattle.midi_wire.specs.Writings.{written_after, status_after_all};
 
 use crate::engine::Engine;
@@ -14,7 +14,7 @@ use crate::patchbay::StepOut;
 use memory::{Items, OutOfMemory};
 use midi_wire::StreamWriter;
 use node_table::PortAddr;
-use seq_state::{Delivery, Input, LogEntry};
+use seq_ports::{Delivery, Input, LogEntry};
 use std::alloc::Global;
 
 /// What a run gives.

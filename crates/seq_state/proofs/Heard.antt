@@ -1,18 +1,18 @@
 -- What comes to a port of the owner is part of what the owner sees.
 use Rattle.std.proofs.Common.{◌≡◌, ℕ, Bool, true, false, cond, eqb, ◌&&◌, List, [], ◌∷◌, ◌++◌, Option, Some, None, refl, sym, ap, ◌∙◌}
 use Rattle.std.specs.Prelude.{slice_get}
-use Rattle.std.specs.List.{filter_map, cons_option, flat_map}
+use Rattle.std.specs.List.{filter_map, cons_option}
 use Rattle.midi_wire.specs.Writings.{written}
 use Rattle.node_table.specs.declared.number.PortAddr.{PortAddr}
 use Rattle.seq_state.specs.declared.input.Input.{Input}
-use Rattle.seq_state.specs.declared.log.Delivery.{Delivery}
 use Rattle.seq_state.specs.declared.log.LogEntry.{LogEntry}
-use Rattle.seq_state.specs.declared.log.LogEntry.TheVariants.{Delivered, Replied}
 use Rattle.seq_state.specs.declared.log.Reply.{Reply}
+use Rattle.seq_state.specs.declared.log.LogEntry.TheVariants.{Delivered, Replied}
 use Rattle.seq_state.specs.Step.{plain}
-use Rattle.seq_state.specs.Circle.{only, aims_outside, Sight, Came, Told, Outside, sight_of_reply, sight, view}
-use Rattle.seq_state.specs.Heard.{message_at, messages_at, PortBytesLaw}
-use Rattle.seq_state.proofs.Kin.{isolation_law}
+use Rattle.seq_state.specs.Circle.{Sight, Came, Told, Outside, sight_of_reply, sight, aims_outside, view, only}
+use Rattle.seq_state.specs.Heard.{port_of, message_at, messages_at, port_bytes, PortBytesLaw}
+use Rattle.seq_state.specs.Laws.{AgreeLaw}
+use Rattle.seq_state.proofs.Run.{isolation_law}
 
 module _ (owner : ℕ) (member : ℕ → Bool) (port : ℕ) where
   abbrev here : PortAddr
@@ -50,7 +50,17 @@ module _ (owner : ℕ) (member : ℕ → Bool) (port : ℕ) where
   all_seen inputs (e ∷ log) = ap (cons_option (message_at here e)) (all_seen inputs log) ∙ sym (one_seen inputs e (view owner member inputs log))
 
 pub port_bytes_law : PortBytesLaw
-port_bytes_law owner member inputs end port timed closed =
-    ap written (all_seen owner member port inputs (plain inputs end)
-    ∙ ap (filter_map (seen_at owner member port)) (isolation_law owner member inputs end timed closed)
-    ∙ sym (all_seen owner member port (only member inputs) (plain (only member inputs) end)))
+port_bytes_law files owner member inputs end port timed closed =
+    ap written (all_seen owner member port inputs (plain files inputs end)
+    ∙ ap (filter_map (seen_at owner member port)) (isolation_law files owner member inputs end timed closed)
+    ∙ sym (all_seen owner member port (only member inputs) (plain files (only member inputs) end)))
+
+pub agree_law : AgreeLaw
+agree_law files owner member inputs others end timed timed' closed closed' same =
+    let run : List Input → List Sight = λ is. view owner member is (plain files is end) in
+    let heard : List Input → ℕ → List ℕ = λ is port. port_bytes (port_of owner port) (plain files is end) in (
+      isolation_law files owner member inputs end timed closed ∙ ap run same ∙ sym (isolation_law files owner member others end timed' closed'),
+      λ port.
+          port_bytes_law files owner member inputs end port timed closed ∙ ap (λ is. heard is port) same
+          ∙ sym (port_bytes_law files owner member others end port timed' closed'),
+    )

@@ -1,32 +1,34 @@
--- Two states that are alike within a circle, and that each input keeps them so.
-use Rattle.std.proofs.Common.{◌≡◌, ℕ, ◌+◌, Bool, true, false, not, cond, eqb, ◌&&◌, List, [], ◌∷◌, ◌++◌, map, drop, Option, Some, None, refl, sym, ap, subst, ◌∙◌, arith, append-nil}
-use Rattle.std.specs.Prelude.{is_some, nat_le, length}
-use Rattle.std.specs.List.{filter, filter_map, list_any, list_all, flat_map}
+-- Two states that are alike within a circle, and that settling and each command keep them so.
+use Rattle.std.proofs.Common.{◌≡◌, ℕ, zero, suc, Bool, true, false, not, cond, eqb, ◌&&◌, ◌||◌, List, [], ◌∷◌, ◌++◌, map, length, Option, Some, None, refl, sym, ap, subst, ◌∙◌, arith, append-nil}
+use Rattle.std.specs.Prelude.{is_some, nat_le}
+use Rattle.std.specs.List.{filter, list_any, list_all, flat_map}
 use Rattle.std.specs.Ordering.{nat_cmp, eq_by_cmp}
 use Rattle.std.specs.Cmp.{nat_cmp_total}
 use Rattle.std.specs.FinMap
 use Rattle.std.specs.FinMap.{FinMap}
 use Rattle.std.proofs.lemmas.Bool.Decides.{nat_tests}
-use Rattle.std.proofs.lemmas.Bool.{false≢true, eqb-true}
+use Rattle.std.proofs.lemmas.Bool.{false≢true, eqb-true, eq-eqb}
+use Rattle.node_table.specs.Addresses.{same, is_filter}
+use Rattle.patch_graph.specs.Chains.{makes_cycle, joined}
+use Rattle.patch_graph.specs.Edges.{edge, is_edge, has_edge, sources_of, most_sources}
 use Rattle.node_table.specs.declared.caps.Caps.{Caps}
 use Rattle.node_table.specs.declared.number.Addr.{Addr}
 use Rattle.node_table.specs.declared.number.Node.{Node}
-use Rattle.node_table.specs.declared.number.Node.TheVariants.{Port, Filter}
-use Rattle.seq_state.specs.declared.input.Command.{Command}
-use Rattle.seq_state.specs.declared.input.Command.TheVariants.{Connect, Disconnect}
-use Rattle.node_table.specs.Addresses.{same_node, same}
 use Rattle.patch_graph.specs.declared.edge.Edge.{Edge}
-use Rattle.patch_graph.specs.Edges.{edge, is_edge, has_edge, sources_of, most_sources}
-use Rattle.seq_state.specs.declared.input.Input.{Input}
+use Rattle.seq_state.specs.declared.input.Command.{Command}
+use Rattle.seq_state.specs.declared.input.QueueAddr.{QueueAddr}
 use Rattle.seq_state.specs.declared.log.Delivery.{Delivery}
-use Rattle.seq_state.specs.declared.log.LogEntry.{LogEntry}
-use Rattle.seq_state.specs.declared.log.LogEntry.TheVariants.{Delivered, Replied}
 use Rattle.seq_state.specs.declared.log.Reply.{Reply}
-use Rattle.seq_state.specs.State.{Client, State, start}
-use Rattle.seq_state.specs.Own.{Own, Row, first_refusal, own_command}
-use Rattle.seq_state.specs.Step.{port_addr, delivery, copies, sent, Stepped, unless, loses, put, with_own, after_own, after_row, caps_at, node_caps, permitted, patch_refusal, connect_refusal, disconnect_refusal, connected, disconnected, after_patch, command_step, step, log_from, plain, IsTimed, IsRefusal}
-use Rattle.seq_state.specs.Circle.{only, is_inner, inner_node, aims_outside, IsClosedAt, IsClosedFrom, Sight, Came, Told, Outside, sight, sight_of_reply, is_to, view, IsolationLaw}
-use Rattle.seq_state.proofs.Lists.{both_left, both_right, filter-filter, filter-wider, list_any-wider, filter-under, filter-never, list_all-one, not_by, filter-outside, refuted, list_all-filter, list_all-append, filter-append, filter-filter_map, filter-flat_map, flat_map-agree, flat_map-none, flat_map-append, slice_get-drop, drop-next}
+use Rattle.seq_state.specs.declared.input.Command.TheVariants.{Connect, Disconnect, Receive, PoolStatus}
+use Rattle.seq_state.specs.Files.{File}
+use Rattle.seq_state.specs.State.{put, Pool, Pending, State, Client, Event, queues_of, Playback}
+use Rattle.seq_state.specs.Copies.{copies}
+use Rattle.seq_state.specs.Own.{Own, PoolAnswer, first_refusal, visible, queue_named, received, receive_refusal, pool_status, status_refusal, Row, own_command}
+use Rattle.seq_state.specs.Step.{delivered, upto, offer, has_room, offered, sent, Timed, playback_at, is_at, event_moment, moment_in, playback_after, is_by, due, all_at, event_copies, port_addr, without_due, is_left, settle, loses, drops, pending_of, with_own, send_copies, Stepped, unless, after_own, after_pool, used, caps_at, node_caps, patch_refusal, permitted, connected, disconnected, after_patch, IsRefusal, named_queue, command_step, connect_refusal, disconnect_refusal, after_row}
+use Rattle.seq_state.specs.Circle.{is_to, NamesWithin, Sight, aims_outside, Outside, Told, is_inner, IsClosedAt}
+use Rattle.seq_state.specs.Laws.{is_mine, AreKin, into}
+use Rattle.seq_state.proofs.Lists.{both_right, filter-filter, filter-wider, list_any-wider, filter-under, filter-outside, list_all-filter, list_all-append, list_all-one, not_by, refuted, filter-map, filter-append, filter-flat_map, flat_map-agree, flat_map-filter, map-agree_all, flat_map-agree_all, list_all-always, list_all-map, filter-flat_map_by, filter-constant}
+use Rattle.seq_state.proofs.Paths.{from_member, AreWithin, inner_member, heard, same_heard, none_heard, same_inner, inner_filter, are_within, joined_within}
 
 same_number : (q c : ℕ) → eq_by_cmp nat_cmp q c ≡ eqb q c
 same_number q c = grind (arith, nat_tests)
@@ -35,144 +37,413 @@ pub get-put : {X : Type 0} (m : FinMap nat_cmp X) (c : ℕ) (o : Option X) (q : 
 get-put m c None q = FinMap.get-remove nat_cmp_total m c q ∙ ap (λ b. cond b None (FinMap.get m q)) (same_number q c)
 get-put m c (Some x) q = FinMap.get-insert nat_cmp_total m c x q ∙ ap (λ b. cond b (Some x) (FinMap.get m q)) (same_number q c)
 
-same_client : (a b : Addr) → same a b ≡ true → a.client ≡ b.client
-same_client a b h = let k : eqb a.client b.client ≡ true = both_left (eqb a.client b.client) (same_node a.node b.node) h in eqb-true a.client b.client k
-
--- the same test on addresses
-same_inner : (owner : ℕ) (member : ℕ → Bool) (a b : Addr) → same a b ≡ true → is_inner owner member a ≡ is_inner owner member b
-same_inner owner member a b h = go a.node b.node (same_client a b h) (both_right (eqb a.client b.client) (same_node a.node b.node) h)
-  where
-    go : (m n : Node) → a.client ≡ b.client → same_node m n ≡ true → inner_node owner member a.client m ≡ inner_node owner member b.client n
-    go (Port m) (Port n) e h = ap (λ c. eqb c owner) e
-    go (Filter m) (Filter n) e h = ap member e
-    go (Port m) (Filter n) e h = absurd (false≢true h)
-    go (Filter m) (Port n) e h = absurd (false≢true h)
-
 none_some : (n : ℕ) → None ≡ Some n → ⊥
 none_some n e = cc
 
-module _ (owner : ℕ) (member : ℕ → Bool) where
-  abbrev pub into : Edge → Bool
-  into e = is_inner owner member e.target
+filter-upto : {X : Type 0} (p : X → Bool) (f : ℕ → List X) (m : ℕ) → filter p (upto f m) ≡ upto (λ k. filter p (f k)) m
+unfolding upto
+filter-upto p f zero = refl
+filter-upto p f (suc m) = filter-append p (upto f m) (f (suc m)) ∙ ap (λ xs. xs ++ filter p (f (suc m))) (filter-upto p f m)
 
-  -- alike within the circle
-  pub record Kin (s t : State) : Type 0 where
-    pub clients : (c : ℕ) → member c ≡ true → FinMap.get s.clients c ≡ FinMap.get t.clients c
-    pub edges : filter into s.edges ≡ filter into t.edges
+pub upto-agree : {X : Type 0} (f g : ℕ → List X) → ((k : ℕ) → f k ≡ g k) → (m : ℕ) → upto f m ≡ upto g m
+unfolding upto
+upto-agree f g h zero = h zero
+upto-agree f g h (suc m) = ap (λ xs. xs ++ f (suc m)) (upto-agree f g h m) ∙ ap (λ xs. upto g m ++ xs) (h (suc m))
 
-  -- edges into the circle come from members
-  abbrev pub Within : State → Type 0
-  Within s = list_all (λ e. member e.source.client) (filter into s.edges) ≡ true
+-- ---- one client's input
 
-  is_edge_into : (source target : Addr) (e : Edge) → is_inner owner member target ≡ true → is_edge source target e ≡ true → into e ≡ true
-  is_edge_into source target e h k = sym (same_inner owner member target e.target (both_right (same source e.source) (same target e.target) k)) ∙ h
+offers : Option Pool → List Delivery → Option Pool
+offers p [] = p
+offers p (d ∷ ds) = offers (offer p d) ds
 
-  inner_member : member owner ≡ true → (a : Addr) → is_inner owner member a ≡ true → member a.client ≡ true
-  inner_member o a h = go a.node h
+takes : Option Pool → List Delivery → List Delivery
+takes p [] = []
+takes p (d ∷ ds) = cond (has_room p) (d ∷ takes (offer p d) ds) (takes (offer p d) ds)
+
+abbrev after_one : FinMap nat_cmp Pool → Delivery → FinMap nat_cmp Pool
+after_one pools d = put pools d.target.client (offer (FinMap.get pools d.target.client) d)
+
+-- at one number the two are one
+turned : {X : Type 0} (f : ℕ → X) (x : X) (m n : ℕ) → cond (eqb m n) (f n) x ≡ cond (eqb n m) (f m) x
+turned f x m n = go (eqb m n) refl
+  where
+    go : (b : Bool) → eqb m n ≡ b → cond (eqb m n) (f n) x ≡ cond (eqb n m) (f m) x
+    go true h = let e : m ≡ n = eqb-true m n h in ap (λ b. cond b (f n) x) (h ∙ sym (eq-eqb n m (sym e))) ∙ ap (λ k. cond (eqb n m) (f k) x) (sym e)
+    go false h = let k : eqb n m ≡ false = grind (arith, nat_tests) in ap (λ b. cond b (f n) x) h ∙ sym (ap (λ b. cond b (f m) x) k)
+
+module _ (owner : ℕ) where
+  -- the owner's input after one copy
+  one_offer : (pools : FinMap nat_cmp Pool) (d : Delivery) → FinMap.get (after_one pools d) owner ≡ cond (is_to owner d) (offer (FinMap.get pools owner) d) (FinMap.get pools owner)
+  one_offer pools d = get-put pools d.target.client (offer (FinMap.get pools d.target.client) d) owner ∙ turned (λ c. offer (FinMap.get pools c) d) (FinMap.get pools owner) owner d.target.client
+
+  get-offered : (pools : FinMap nat_cmp Pool) (ds : List Delivery) → FinMap.get (offered pools ds) owner ≡ offers (FinMap.get pools owner) (heard owner ds)
+  unfolding offers heard
+  get-offered pools [] = refl
+  get-offered pools (d ∷ ds) = get-offered (after_one pools d) ds ∙ ap (λ p. offers p (heard owner ds)) (one_offer pools d) ∙ go (is_to owner d)
     where
-      go : (n : Node) → inner_node owner member a.client n ≡ true → member a.client ≡ true
-      go (Port n) h = grind (arith, nat_tests)
-      go (Filter n) h = h
+      go : (b : Bool) → offers (cond b (offer (FinMap.get pools owner) d) (FinMap.get pools owner)) (heard owner ds) ≡ offers (FinMap.get pools owner) (cond b (d ∷ heard owner ds) (heard owner ds))
+      go true = refl
+      go false = refl
+
+  heard-delivered : (pools : FinMap nat_cmp Pool) (ds : List Delivery) → heard owner (delivered pools ds) ≡ takes (FinMap.get pools owner) (heard owner ds)
+  unfolding takes heard
+  heard-delivered pools [] = refl
+  heard-delivered pools (d ∷ ds) = go (has_room (FinMap.get pools d.target.client)) (is_to owner d) refl refl (heard-delivered (after_one pools d) ds)
+    where
+      rest : List Delivery
+      rest = delivered (after_one pools d) ds
+
+      P : Option Pool
+      P = FinMap.get pools owner
+
+      go : (r b : Bool) → has_room (FinMap.get pools d.target.client) ≡ r → is_to owner d ≡ b → heard owner rest ≡ takes (FinMap.get (after_one pools d) owner) (heard owner ds) →
+          heard owner (cond r (d ∷ rest) rest) ≡ takes P (cond b (d ∷ heard owner ds) (heard owner ds))
+      go r true h k more =
+          let here : d.target.client ≡ owner = eqb-true d.target.client owner k in
+          let room : r ≡ has_room P = sym h ∙ ap (λ c. has_room (FinMap.get pools c)) here in
+          let more : heard owner rest ≡ takes (offer P d) (heard owner ds) = more ∙ ap (λ o. takes o (heard owner ds)) (one_offer pools d ∙ ap (λ b. cond b (offer P d) P) k) in
+          mine r k ∙ ap (λ xs. cond r (d ∷ xs) xs) more ∙ ap (λ x. cond x (d ∷ takes (offer P d) (heard owner ds)) (takes (offer P d) (heard owner ds))) room
+        where
+          mine : (r : Bool) → is_to owner d ≡ true → heard owner (cond r (d ∷ rest) rest) ≡ cond r (d ∷ heard owner rest) (heard owner rest)
+          mine true k = ap (λ b. cond b (d ∷ heard owner rest) (heard owner rest)) k
+          mine false k = refl
+      go r false h k more =
+          others r k ∙ more ∙ ap (λ o. takes o (heard owner ds)) (one_offer pools d ∙ ap (λ b. cond b (offer P d) P) k)
+        where
+          others : (r : Bool) → is_to owner d ≡ false → heard owner (cond r (d ∷ rest) rest) ≡ heard owner rest
+          others true k = ap (λ b. cond b (d ∷ heard owner rest) (heard owner rest)) k
+          others false k = refl
+
+module _ (owner : ℕ) (member : ℕ → Bool) where
+  abbrev pub mine : Pending → Bool
+  mine p = is_mine member p
+
+  abbrev pub Kin : State → State → Type 0
+  Kin s t = AreKin owner member s t
+
+  -- a playback on a member's queue
+  abbrev pub on_member : Pending → Bool
+  on_member p = member p.queue.client
+
+  -- edges into the circle come from members, and members' playbacks are on members' queues
+  pub record Within (s : State) : Type 0 where
+    pub edges : AreWithin owner member s.edges
+    pub playbacks : list_all on_member (filter mine s.pending) ≡ true
+
+  pub kin_same : (s : State) → Kin s s
+  kin_same s = record { clients = λ c m. refl; pool = refl; edges = refl; pending = refl }
+
+  pub kin_trans : (s t u : State) → Kin s t → Kin t u → Kin s u
+  kin_trans s t u k l = record { clients = λ c m. k.clients c m ∙ l.clients c m; pool = k.pool ∙ l.pool; edges = k.edges ∙ l.edges; pending = k.pending ∙ l.pending }
+
+  -- ---- sending
+
+  kin_sent : (s t : State) (ds es : List Delivery) → Kin s t → heard owner ds ≡ heard owner es → Kin (sent s ds).state (sent t es).state
+  kin_sent s t ds es k h = record {
+    clients = k.clients;
+    pool = get-offered owner s.pools ds ∙ ap (λ p. offers p (heard owner ds)) k.pool ∙ ap (offers (FinMap.get t.pools owner)) h ∙ sym (get-offered owner t.pools es);
+    edges = k.edges;
+    pending = k.pending;
+  }
+
+  heard_sent : (s t : State) (ds es : List Delivery) → Kin s t → heard owner ds ≡ heard owner es → heard owner (sent s ds).delivered ≡ heard owner (sent t es).delivered
+  heard_sent s t ds es k h =
+      heard-delivered owner s.pools ds ∙ ap (λ p. takes p (heard owner ds)) k.pool ∙ ap (takes (FinMap.get t.pools owner)) h ∙ sym (heard-delivered owner t.pools es)
+
+  kin_unheard : (s : State) (ds : List Delivery) → heard owner ds ≡ [] → Kin (sent s ds).state s
+  unfolding offers
+  kin_unheard s ds h = record {
+    clients = λ c m. refl;
+    pool = get-offered owner s.pools ds ∙ ap (offers (FinMap.get s.pools owner)) h;
+    edges = refl;
+    pending = refl;
+  }
+
+  heard_unheard : (s : State) (ds : List Delivery) → heard owner ds ≡ [] → heard owner (sent s ds).delivered ≡ []
+  unfolding takes
+  heard_unheard s ds h = heard-delivered owner s.pools ds ∙ ap (takes (FinMap.get s.pools owner)) h
+
+  -- ---- settling
+
+  timed_mine : Timed → Bool
+  timed_mine t = member t.client
+
+  playback_mine : (clients : FinMap nat_cmp Client) (k : ℕ) (p : Pending) → filter timed_mine (playback_at clients k p) ≡ cond (mine p) (playback_at clients k p) []
+  unfolding timed_mine
+  playback_mine clients k p =
+      let f : Event → Timed = λ e. record { moment = k; client = p.client; port = p.playback.port; message = e.message } in
+      let es : List Event = filter (λ e. is_at k (event_moment clients p e)) p.playback.events in
+      filter-map (λ t. member t.client) f es ∙ ap (map f) (filter-constant (mine p) es) ∙ go f es (mine p)
+    where
+      go : (f : Event → Timed) (es : List Event) (b : Bool) → map f (cond b es []) ≡ cond b (map f es) []
+      go f es true = refl
+      go f es false = refl
+
+  -- a member's playback is the same in both
+  same_playback_at : (s t : State) → Kin s t → (k : ℕ) (p : Pending) → on_member p ≡ true → playback_at s.clients k p ≡ playback_at t.clients k p
+  same_playback_at s t kin k p m =
+      ap (λ o. map (λ e. record { moment = k; client = p.client; port = p.playback.port; message = e.message }) (filter (λ e. is_at k (moment_in (FinMap.get (queues_of o) p.queue.queue) p.playback.accepted e)) p.playback.events)) (kin.clients p.queue.client m)
+
+  same_playback_after : (s t : State) → Kin s t → (k : ℕ) (p : Pending) → on_member p ≡ true → playback_after s.clients k p ≡ playback_after t.clients k p
+  same_playback_after s t kin k p m =
+      ap (λ o. record { client = p.client; queue = p.queue; playback = record { port = p.playback.port; accepted = p.playback.accepted; events = filter (λ e. not (is_by k (moment_in (FinMap.get (queues_of o) p.queue.queue) p.playback.accepted e))) p.playback.events } }) (kin.clients p.queue.client m)
+
+  same_due : (s t : State) → Kin s t → Within s → (m : ℕ) → filter timed_mine (due s m) ≡ filter timed_mine (due t m)
+  same_due s t kin w m =
+      filter-upto timed_mine (all_at s.clients s.pending) m
+      ∙ upto-agree (λ k. filter timed_mine (all_at s.clients s.pending k)) (λ k. filter timed_mine (all_at t.clients t.pending k)) (λ k.
+      filter-flat_map_by mine timed_mine (playback_at s.clients k) (playback_mine s.clients k) s.pending
+      ∙ flat_map-agree_all on_member (playback_at s.clients k) (playback_at t.clients k) (same_playback_at s t kin k) (filter mine s.pending) w.playbacks
+      ∙ ap (flat_map (playback_at t.clients k)) kin.pending
+      ∙ sym (filter-flat_map_by mine timed_mine (playback_at t.clients k) (playback_mine t.clients k) t.pending)) m
+      ∙ sym (filter-upto timed_mine (all_at t.clients t.pending) m)
+
+  -- what the owner hears of what is due
+  heard_event : State → Timed → List Delivery
+  heard_event s t = heard owner (event_copies s t)
+
+  heard_due : (s : State) → Within s → (m : ℕ) → heard owner (flat_map (event_copies s) (due s m)) ≡ flat_map (heard_event s) (filter timed_mine (due s m))
+  unfolding heard heard_event timed_mine
+  heard_due s w m =
+      filter-flat_map (is_to owner) (event_copies s) (due s m)
+      ∙ flat_map-filter timed_mine (heard_event s) (heard_event s) (λ t h. refl) (λ t h. none_heard owner member s w.edges t.moment (port_addr t.client t.port) t.message h) (due s m)
+
+  same_heard_due : (s t : State) → Kin s t → Within s → Within t → (m : ℕ) → heard owner (flat_map (event_copies s) (due s m)) ≡ heard owner (flat_map (event_copies t) (due t m))
+  unfolding heard_event
+  same_heard_due s t kin w v m =
+      heard_due s w m
+      ∙ flat_map-agree (heard_event s) (heard_event t) (λ e. same_heard owner member s t kin.clients kin.edges w.edges e.moment (port_addr e.client e.port) e.message) (filter timed_mine (due s m))
+      ∙ ap (flat_map (heard_event t)) (same_due s t kin w m)
+      ∙ sym (heard_due t v m)
+
+  pub within_kin : (s t : State) → Kin s t → Within s → Within t
+  within_kin s t kin w = record {
+    edges = subst (λ es. list_all (from_member owner member) es ≡ true) kin.edges w.edges;
+    playbacks = subst (λ ps. list_all on_member ps ≡ true) kin.pending w.playbacks;
+  }
+
+  kin_without_due : (s t : State) → Kin s t → Within s → (m : ℕ) → Kin (without_due s m) (without_due t m)
+  kin_without_due s t kin w m = record { clients = kin.clients; pool = kin.pool; edges = kin.edges; pending = left s ∙ ap (filter is_left) same_left ∙ sym (left t) }
+    where
+      left : (u : State) → filter mine (filter is_left (map (playback_after u.clients m) u.pending)) ≡ filter is_left (map (playback_after u.clients m) (filter mine u.pending))
+      left u = filter-filter mine is_left (map (playback_after u.clients m) u.pending) ∙ ap (filter is_left) (filter-map mine (playback_after u.clients m) u.pending)
+
+      same_left : map (playback_after s.clients m) (filter mine s.pending) ≡ map (playback_after t.clients m) (filter mine t.pending)
+      same_left = map-agree_all on_member (playback_after s.clients m) (playback_after t.clients m) (same_playback_after s t kin m) (filter mine s.pending) w.playbacks ∙ ap (map (playback_after t.clients m)) kin.pending
+
+  pub kin_settle : (s t : State) → Kin s t → Within s → (m : ℕ) → Kin (settle s m).state (settle t m).state
+  kin_settle s t kin w m = kin_sent (without_due s m) (without_due t m) (flat_map (event_copies s) (due s m)) (flat_map (event_copies t) (due t m)) (kin_without_due s t kin w m) (same_heard_due s t kin w (within_kin s t kin w) m)
+
+  pub heard_settle : (s t : State) → Kin s t → Within s → (m : ℕ) → heard owner (settle s m).delivered ≡ heard owner (settle t m).delivered
+  heard_settle s t kin w m = heard_sent (without_due s m) (without_due t m) (flat_map (event_copies s) (due s m)) (flat_map (event_copies t) (due t m)) (kin_without_due s t kin w m) (same_heard_due s t kin w (within_kin s t kin w) m)
+
+  pub within_settle : (s : State) → Within s → (m : ℕ) → Within (settle s m).state
+  within_settle s w m = record {
+    edges = w.edges;
+    playbacks =
+        subst (λ ps. list_all on_member ps ≡ true)
+        (sym (filter-filter mine is_left (map (playback_after s.clients m) s.pending) ∙ ap (filter is_left) (filter-map mine (playback_after s.clients m) s.pending)))
+        (list_all-filter on_member is_left (map (playback_after s.clients m) (filter mine s.pending)) (list_all-map on_member on_member (playback_after s.clients m) (λ p h. h) (filter mine s.pending) w.playbacks));
+  }
 
   -- ---- a command on the actor's own
 
-  own_kin : (s t : State) (moment actor : ℕ) (own : Own) → Kin s t → Kin (after_own s moment actor own).state (after_own t moment actor own).state
-  own_kin s t moment actor own k = record {
-    clients = λ c m. get-put s.clients actor own.client c ∙ ap (cond (eqb c actor) own.client) (k.clients c m) ∙ sym (get-put t.clients actor own.client c);
-    edges =
-        let keep : Edge → Bool = λ e. not (loses actor own.gone e) in
-        filter-filter into keep s.edges ∙ ap (filter keep) k.edges ∙ sym (filter-filter into keep t.edges);
-  }
+  keeps : ℕ → (Node → Bool) → Edge → Bool
+  keeps actor gone e = not (loses actor gone e)
 
-  own_within : (s : State) (moment actor : ℕ) (own : Own) → Within s → Within (after_own s moment actor own).state
-  own_within s moment actor own w =
-      let keep : Edge → Bool = λ e. not (loses actor own.gone e) in
-      let r : Edge → Bool = λ e. member e.source.client in
-      subst (λ es. list_all r es ≡ true) (sym (filter-filter into keep s.edges)) (list_all-filter r keep (filter into s.edges) w)
+  stays : ℕ → Own → Pending → Bool
+  stays actor own p = not (drops actor own p)
+
+  got : ℕ → Option QueueAddr → List Playback → List Pending
+  got actor q added = filter is_left (map (pending_of actor q) added)
+
+  kin_own : (s t : State) (actor : ℕ) (q : Option QueueAddr) (own : Own) → Kin s t → Kin (with_own s actor q own) (with_own t actor q own)
+  unfolding keeps stays got
+  kin_own s t actor q own k = record {
+    clients = λ c m. get-put s.clients actor own.client c ∙ ap (cond (eqb c actor) own.client) (k.clients c m) ∙ sym (get-put t.clients actor own.client c);
+    pool = at_owner s ∙ ap (λ p. cond (eqb actor owner) (own.pool p) p) k.pool ∙ sym (at_owner t);
+    edges = filter-filter (into owner member) (keeps actor own.gone) s.edges ∙ ap (filter (keeps actor own.gone)) k.edges ∙ sym (filter-filter (into owner member) (keeps actor own.gone) t.edges);
+    pending = at_pending s ∙ ap (λ ps. filter (stays actor own) ps ++ filter mine (got actor q own.added)) k.pending ∙ sym (at_pending t);
+  }
+    where
+      at_owner : (u : State) → FinMap.get (put u.pools actor (own.pool (FinMap.get u.pools actor))) owner ≡ cond (eqb actor owner) (own.pool (FinMap.get u.pools owner)) (FinMap.get u.pools owner)
+      at_owner u = get-put u.pools actor (own.pool (FinMap.get u.pools actor)) owner ∙ turned (λ c. own.pool (FinMap.get u.pools c)) (FinMap.get u.pools owner) owner actor
+
+      at_pending : (u : State) → filter mine (filter (stays actor own) u.pending ++ got actor q own.added) ≡ filter (stays actor own) (filter mine u.pending) ++ filter mine (got actor q own.added)
+      at_pending u = filter-append mine (filter (stays actor own) u.pending) (got actor q own.added) ∙ ap (λ ps. ps ++ filter mine (got actor q own.added)) (filter-filter mine (stays actor own) u.pending)
+
+  within_own : (s : State) (actor : ℕ) (q : Option QueueAddr) (own : Own) → AreWithin owner member s.edges → AreWithin owner member (with_own s actor q own).edges
+  unfolding keeps
+  within_own s actor q own w =
+      subst (λ es. list_all (from_member owner member) es ≡ true) (sym (filter-filter (into owner member) (keeps actor own.gone) s.edges))
+      (list_all-filter (from_member owner member) (keeps actor own.gone) (filter (into owner member) s.edges) w)
 
   -- a stranger's leaves the circle as it was
-  own_stranger : member owner ≡ true → (s : State) (moment actor : ℕ) (own : Own) → member actor ≡ false → Within s → Kin (after_own s moment actor own).state s
-  own_stranger o s moment actor own m w = record {
-    clients = λ c mc. get-put s.clients actor own.client c ∙ apart c mc;
-    edges = filter-under keep into (λ e. member e.source.client) kept s.edges w;
+  kin_stranger : member owner ≡ true → (s : State) (actor : ℕ) (q : Option QueueAddr) (own : Own) → member actor ≡ false → Within s → Kin (with_own s actor q own) s
+  unfolding keeps stays got
+  kin_stranger o s actor q own m w = record {
+    clients = λ c mc. get-put s.clients actor own.client c ∙ ap (λ b. cond b own.client (FinMap.get s.clients c)) (apart c mc);
+    pool = get-put s.pools actor (own.pool (FinMap.get s.pools actor)) owner ∙ ap (λ b. cond b (own.pool (FinMap.get s.pools actor)) (FinMap.get s.pools owner)) (apart owner o);
+    edges = filter-under (keeps actor own.gone) (into owner member) (from_member owner member) kept s.edges w.edges;
+    pending =
+        filter-append mine (filter (stays actor own) s.pending) (got actor q own.added)
+        ∙ ap (λ ps. filter mine (filter (stays actor own) s.pending) ++ ps) none_got
+        ∙ append-nil (filter mine (filter (stays actor own) s.pending))
+        ∙ filter-under (stays actor own) mine on_member stay s.pending w.playbacks;
   }
     where
-      keep : Edge → Bool
-      keep e = not (loses actor own.gone e)
-
-      apart : (c : ℕ) → member c ≡ true → cond (eqb c actor) own.client (FinMap.get s.clients c) ≡ FinMap.get s.clients c
+      apart : (c : ℕ) → member c ≡ true → eqb c actor ≡ false
       apart c mc = grind (arith, nat_tests)
 
-      kept : (e : Edge) → into e ≡ true → member e.source.client ≡ true → keep e ≡ true
-      kept e i r = let t : member e.target.client ≡ true = inner_member o e.target i in grind (arith, nat_tests)
+      kept : (e : Edge) → into owner member e ≡ true → member e.source.client ≡ true → keeps actor own.gone e ≡ true
+      kept e i r =
+          let t : eqb e.target.client actor ≡ false = apart e.target.client (inner_member owner member o e.target i) in
+          let f : eqb e.source.client actor ≡ false = apart e.source.client r in
+          ap (λ b. not ((b && own.gone e.source.node) || ((eqb e.target.client actor) && own.gone e.target.node))) f
+          ∙ ap (λ b. not (b && own.gone e.target.node)) t
 
-  -- ---- what the owner hears
+      stay : (p : Pending) → mine p ≡ true → on_member p ≡ true → stays actor own p ≡ true
+      stay p h l =
+          ap (λ b. not ((b && own.dropped p.playback) || ((eqb p.queue.client actor) && own.queue_gone p.queue.queue))) (apart p.client h)
+          ∙ ap (λ b. not (b && own.queue_gone p.queue.queue)) (apart p.queue.client l)
 
-  pub heard : List Delivery → List Delivery
-  heard ds = filter (is_to owner) ds
+      of_actor : (x : Option QueueAddr) → filter (λ t. mine (pending_of actor x t)) own.added ≡ filter (λ t. member actor) own.added
+      of_actor None = refl
+      of_actor (Some x) = refl
 
-  to_owner : Edge → Bool
-  to_owner e = eqb e.target.client owner
+      none_got : filter mine (got actor q own.added) ≡ []
+      none_got =
+          filter-filter mine is_left (map (pending_of actor q) own.added)
+          ∙ ap (filter is_left) (filter-map mine (pending_of actor q) own.added ∙ ap (map (pending_of actor q)) (of_actor q ∙ filter-constant (member actor) own.added ∙ ap (λ b. cond b own.added []) m))
 
-  to_owner_into : member owner ≡ true → (e : Edge) → to_owner e ≡ true → into e ≡ true
-  unfolding to_owner
-  to_owner_into o e h = go e.target.node
+  -- a member's new playbacks are on members' queues
+  playbacks_own : (s : State) (actor : ℕ) (q : Option QueueAddr) (own : Own) → Within s → member actor ≡ true → NamesWithin member actor q → list_all on_member (filter mine (with_own s actor q own).pending) ≡ true
+  unfolding stays got
+  playbacks_own s actor q own w m n =
+      subst (λ ps. list_all on_member ps ≡ true)
+      (sym (filter-append mine (filter (stays actor own) s.pending) (got actor q own.added) ∙ ap (λ ps. ps ++ filter mine (got actor q own.added)) (filter-filter mine (stays actor own) s.pending)))
+      (list_all-append on_member (filter (stays actor own) (filter mine s.pending)) (filter mine (got actor q own.added))
+      (list_all-filter on_member (stays actor own) (filter mine s.pending) w.playbacks)
+      (list_all-filter on_member mine (got actor q own.added) (list_all-filter on_member is_left (map (pending_of actor q) own.added) (list_all-map on_member (λ t. true) (pending_of actor q) (λ t h. on q n t) own.added (list_all-always (λ t. true) (λ t. refl) own.added)))))
     where
-      go : (n : Node) → inner_node owner member e.target.client n ≡ true
-      go (Port n) = h
-      go (Filter n) = let same_one : e.target.client ≡ owner = eqb-true e.target.client owner h in ap member same_one ∙ o
+      on : (x : Option QueueAddr) → NamesWithin member actor x → (t : Playback) → on_member (pending_of actor x t) ≡ true
+      on None h t = m
+      on (Some x) h t = h m
 
-  -- a message along one subscription
-  abbrev along : ℕ → List ℕ → Edge → Option Delivery
-  along moment message e = delivery moment message e.target.client e.target.node
+  -- what the owner hears of what a command sends
+  heard_sends : (s t : State) → Kin s t → Within s → (moment actor : ℕ) (sends : List (ℕ × List ℕ)) → heard owner (send_copies s moment actor sends) ≡ heard owner (send_copies t moment actor sends)
+  unfolding heard
+  heard_sends s t k w moment actor sends =
+      let f : State → ℕ × List ℕ → List Delivery = λ u m. copies u moment (port_addr actor m.0) m.1 in
+      filter-flat_map (is_to owner) (f s) sends
+      ∙ flat_map-agree (λ m. heard owner (f s m)) (λ m. heard owner (f t m)) (λ m. same_heard owner member s t k.clients k.edges w.edges moment (port_addr actor m.0) m.1) sends
+      ∙ sym (filter-flat_map (is_to owner) (f t) sends)
 
-  along_to_owner : (moment : ℕ) (message : List ℕ) (e : Edge) (d : Delivery) → along moment message e ≡ Some d → is_to owner d ≡ to_owner e
-  unfolding to_owner
-  along_to_owner moment message e d is = go e.target.node is
+  none_sent : (s : State) → Within s → (moment actor : ℕ) (sends : List (ℕ × List ℕ)) → member actor ≡ false → heard owner (send_copies s moment actor sends) ≡ []
+  unfolding heard
+  none_sent s w moment actor sends m =
+      let f : ℕ × List ℕ → List Delivery = λ n. copies s moment (port_addr actor n.0) n.1 in
+      filter-flat_map (is_to owner) f sends
+      ∙ flat_map-agree (λ n. heard owner (f n)) (λ n. []) (λ n. none_heard owner member s w.edges moment (port_addr actor n.0) n.1 m) sends
+      ∙ none sends
     where
-      go : (n : Node) → delivery moment message e.target.client n ≡ Some d → is_to owner d ≡ eqb e.target.client owner
-      go (Port p) h = let there : record { moment = moment; target = record { client = e.target.client; port = p }; message = message } ≡ d = cc in ap (is_to owner) (sym there)
-      go (Filter f) h = cc
+      none : (xs : List (ℕ × List ℕ)) → let no : List Delivery = [] in flat_map (λ n. no) xs ≡ no
+      none [] = refl
+      none (x ∷ xs) = none xs
 
-  heard_copies : member owner ≡ true → (edges : List Edge) (moment : ℕ) (source : Addr) (message : List ℕ) → heard (copies edges moment source message) ≡ heard (copies (filter into edges) moment source message)
-  unfolding heard
-  heard_copies o edges moment source message =
-      let f : Edge → Option Delivery = along moment message in
-      let from : Edge → Bool = λ e. same source e.source in
-      let h : (es : List Edge) → filter (is_to owner) (filter_map f (filter from es)) ≡ filter_map f (filter from (filter to_owner es)) =
-      λ es. filter-filter_map (is_to owner) to_owner f (along_to_owner moment message) (filter from es) ∙ ap (filter_map f) (filter-filter to_owner from es) in
-      h edges ∙ ap (λ es. filter_map f (filter from es)) (sym (filter-wider to_owner into (to_owner_into o) edges)) ∙ sym (h (filter into edges))
+  -- ---- one command
 
-  heard_stranger : member owner ≡ true → (edges : List Edge) (moment actor port : ℕ) (message : List ℕ) → member actor ≡ false → list_all (λ e. member e.source.client) (filter into edges) ≡ true → heard (copies edges moment (port_addr actor port) message) ≡ []
+  -- what the owner sees of a reply
+  abbrev pub told : ℕ → ℕ → Command → Reply → List Sight
+  told moment actor command reply = cond (eqb actor owner) (cond (aims_outside owner member command) (Outside moment) (Told moment reply) ∷ []) []
+
+  -- two steps that the owner can't tell apart
+  pub record Alike (a b : Stepped) : Type 0 where
+    pub kin : Kin a.state b.state
+    pub within : Within a.state
+    pub heard : heard owner a.delivered ≡ heard owner b.delivered
+
+  -- a command that leaves the circle as it was
+  pub record Aside (a : Stepped) (s : State) : Type 0 where
+    pub kin : Kin a.state s
+    pub within : Within a.state
+    pub heard : heard owner a.delivered ≡ []
+
+  unless_alike : (s t : State) → Kin s t → Within s → (o : Option ℕ) (a b : Stepped) → Alike a b → Alike (unless o s a) (unless o t b)
+  unless_alike s t k w None a b h = h
+  unless_alike s t k w (Some n) a b h = record { kin = k; within = w; heard = refl }
+
+  unless_aside : (s : State) → Within s → (o : Option ℕ) (a : Stepped) → Aside a s → Aside (unless o s a) s
   unfolding heard
-  heard_stranger o edges moment actor port message m w =
-      let from : Edge → Bool = λ e. same (port_addr actor port) e.source in
-      let r : Edge → Bool = λ e. member e.source.client in
-      let never : filter from (filter into edges) ≡ [] = filter-never from r (λ e a b. stranger_apart e a b m) (filter into edges) w in
-      heard_copies o edges moment (port_addr actor port) message ∙ ap (λ es. filter (is_to owner) (filter_map (along moment message) es)) never
+  unless_aside s w None a h = h
+  unless_aside s w (Some n) a h = record { kin = kin_same s; within = w; heard = refl }
+
+  unless_told : (s t : State) (moment actor : ℕ) (command : Command) (o : Option ℕ) (a b : Stepped) → told moment actor command a.reply ≡ told moment actor command b.reply → told moment actor command (unless o s a).reply ≡ told moment actor command (unless o t b).reply
+  unless_told s t moment actor command None a b h = h
+  unless_told s t moment actor command (Some n) a b h = refl
+
+  own_alike : (s t : State) (moment actor : ℕ) (q : Option QueueAddr) (own : Own) → Kin s t → Within s → member actor ≡ true → NamesWithin member actor q → Alike (after_own s moment actor q own) (after_own t moment actor q own)
+  own_alike s t moment actor q own k w m n =
+      let ds : List Delivery = send_copies s moment actor own.sends in
+      let es : List Delivery = send_copies t moment actor own.sends in
+      let h : heard owner ds ≡ heard owner es = heard_sends s t k w moment actor own.sends in
+      record {
+        kin = kin_sent (with_own s actor q own) (with_own t actor q own) ds es (kin_own s t actor q own k) h;
+        within = record { edges = within_own s actor q own w.edges; playbacks = playbacks_own s actor q own w m n };
+        heard = heard_sent (with_own s actor q own) (with_own t actor q own) ds es (kin_own s t actor q own k) h;
+      }
+
+  own_aside : member owner ≡ true → (s : State) (moment actor : ℕ) (q : Option QueueAddr) (own : Own) → Within s → member actor ≡ false → Aside (after_own s moment actor q own) s
+  own_aside o s moment actor q own w m =
+      let ds : List Delivery = send_copies s moment actor own.sends in
+      let h : heard owner ds ≡ [] = none_sent s w moment actor own.sends m in
+      let u : State = with_own s actor q own in
+      record {
+        kin = kin_trans (sent u ds).state u s (kin_unheard u ds h) (kin_stranger o s actor q own m w);
+        within = record { edges = within_own s actor q own w.edges; playbacks = subst (λ ps. list_all on_member ps ≡ true) (sym (kin_stranger o s actor q own m w).pending) w.playbacks };
+        heard = heard_unheard u ds h;
+      }
+
+  -- ---- a command on the actor's input
+
+  kin_pool : (s t : State) (actor : ℕ) (a b : PoolAnswer) → Kin s t → (eqb actor owner ≡ true → a ≡ b) → Kin (after_pool s actor a).state (after_pool t actor b).state
+  kin_pool s t actor a b k h = record { clients = k.clients; pool = get-put s.pools actor a.pool owner ∙ go (eqb owner actor) refl ∙ sym (get-put t.pools actor b.pool owner); edges = k.edges; pending = k.pending }
     where
-      stranger_apart : (e : Edge) → same (port_addr actor port) e.source ≡ true → member e.source.client ≡ true → member actor ≡ false → ⊥
-      stranger_apart e a b c = let here : actor ≡ e.source.client = same_client (port_addr actor port) e.source a in false≢true (sym c ∙ ap member here ∙ b)
+      go : (x : Bool) → eqb owner actor ≡ x → cond x a.pool (FinMap.get s.pools owner) ≡ cond x b.pool (FinMap.get t.pools owner)
+      go true e = ap (λ r. r.pool) (h (eq-eqb actor owner (sym (eqb-true owner actor e))))
+      go false e = k.pool
 
-  -- what the owner hears of all that a command sends
-  pub heard_sent : member owner ≡ true → (s t : State) (moment actor : ℕ) (sends : List (ℕ × List ℕ)) → Kin s t → heard (sent s.edges moment actor sends) ≡ heard (sent t.edges moment actor sends)
+  pool_alike : (s t : State) (actor : ℕ) (a b : PoolAnswer) → Kin s t → Within s → (eqb actor owner ≡ true → a ≡ b) → Alike (after_pool s actor a) (after_pool t actor b)
+  pool_alike s t actor a b k w h = record { kin = kin_pool s t actor a b k h; within = record { edges = w.edges; playbacks = w.playbacks }; heard = refl }
+
+  pool_aside : member owner ≡ true → (s : State) (actor : ℕ) (a : PoolAnswer) → Within s → member actor ≡ false → Aside (after_pool s actor a) s
   unfolding heard
-  heard_sent o s t moment actor sends k =
-      let f : List Edge → ℕ × List ℕ → List Delivery = λ es m. copies es moment (port_addr actor m.0) m.1 in
-      filter-flat_map (is_to owner) (f s.edges) sends
-      ∙ flat_map-agree (λ m. heard (f s.edges m)) (λ m. heard (f t.edges m)) (λ m.
-      heard_copies o s.edges moment (port_addr actor m.0) m.1
-      ∙ ap (λ es. heard (copies es moment (port_addr actor m.0) m.1)) k.edges
-      ∙ sym (heard_copies o t.edges moment (port_addr actor m.0) m.1)) sends
-      ∙ sym (filter-flat_map (is_to owner) (f t.edges) sends)
+  pool_aside o s actor a w m = record {
+    kin = record { clients = λ c n. refl; pool = get-put s.pools actor a.pool owner ∙ ap (λ b. cond b a.pool (FinMap.get s.pools owner)) apart; edges = refl; pending = refl };
+    within = record { edges = w.edges; playbacks = w.playbacks };
+    heard = refl;
+  }
+    where
+      apart : eqb owner actor ≡ false
+      apart = grind (arith, nat_tests)
 
-  pub heard_none : member owner ≡ true → (s : State) (moment actor : ℕ) (sends : List (ℕ × List ℕ)) → member actor ≡ false → Within s → heard (sent s.edges moment actor sends) ≡ []
-  unfolding heard
-  heard_none o s moment actor sends m w =
-      filter-flat_map (is_to owner) (λ n. copies s.edges moment (port_addr actor n.0) n.1) sends
-      ∙ flat_map-none (λ n. heard (copies s.edges moment (port_addr actor n.0) n.1)) (λ n. heard_stranger o s.edges moment actor n.0 n.1 m w) sends
+  told_pool : (moment actor : ℕ) (command : Command) (a b : Reply) → (eqb actor owner ≡ true → a ≡ b) → told moment actor command a ≡ told moment actor command b
+  told_pool moment actor command a b h = go (eqb actor owner) h
+    where
+      go : (x : Bool) → (x ≡ true → a ≡ b) → cond x (cond (aims_outside owner member command) (Outside moment) (Told moment a) ∷ []) [] ≡ cond x (cond (aims_outside owner member command) (Outside moment) (Told moment b) ∷ []) []
+      go true h = ap (λ r. cond (aims_outside owner member command) (Outside moment) (Told moment r) ∷ []) (h refl)
+      go false h = refl
 
-  -- ---- subscriptions
+  same_used : (s t : State) → Kin s t → (actor : ℕ) → member actor ≡ true → used s actor ≡ used t actor
+  same_used s t k actor m =
+      let p : Pending → Bool = λ x. eqb x.client actor in
+      let w : (x : Pending) → p x ≡ true → mine x ≡ true = λ x h. ap member (eqb-true x.client actor h) ∙ m in
+      ap length (sym (filter-wider p mine w s.pending) ∙ ap (filter p) k.pending ∙ filter-wider p mine w t.pending)
+
+  -- ---- Connect and Disconnect
+
+  is_edge_into : (source target : Addr) (e : Edge) → is_inner owner member target ≡ true → is_edge source target e ≡ true → into owner member e ≡ true
+  is_edge_into source target e h k = sym (same_inner owner member target e.target (both_right (same source e.source) (same target e.target) k)) ∙ h
 
   same_caps : (s t : State) → Kin s t → (a : Addr) → member a.client ≡ true → caps_at s a ≡ caps_at t a
   same_caps s t k a m = ap (λ c. node_caps c a.node) (k.clients a.client m)
@@ -180,15 +451,31 @@ module _ (owner : ℕ) (member : ℕ → Bool) where
   same_edge : (s t : State) → Kin s t → (source target : Addr) → is_inner owner member target ≡ true → has_edge s.edges source target ≡ has_edge t.edges source target
   same_edge s t k source target i =
       let p : Edge → Bool = is_edge source target in
-      sym (list_any-wider p into (λ e h. is_edge_into source target e i h) s.edges)
-      ∙ ap (list_any p) k.edges
-      ∙ list_any-wider p into (λ e h. is_edge_into source target e i h) t.edges
+      let w : (e : Edge) → p e ≡ true → into owner member e ≡ true = λ e h. is_edge_into source target e i h in
+      sym (list_any-wider p (into owner member) w s.edges) ∙ ap (list_any p) k.edges ∙ list_any-wider p (into owner member) w t.edges
 
-  same_sources : (s t : State) → Kin s t → (target : Addr) → is_inner owner member target ≡ true → sources_of s.edges target ≡ sources_of t.edges target
-  same_sources s t k target i =
+  same_sources_of : (s t : State) → Kin s t → (target : Addr) → is_inner owner member target ≡ true → sources_of s.edges target ≡ sources_of t.edges target
+  same_sources_of s t k target i =
       let p : Edge → Bool = λ e. same target e.target in
-      let inside : (e : Edge) → p e ≡ true → into e ≡ true = λ e h. sym (same_inner owner member target e.target h) ∙ i in
-      ap length (sym (filter-wider p into inside s.edges) ∙ ap (filter p) k.edges ∙ filter-wider p into inside t.edges)
+      let w : (e : Edge) → p e ≡ true → into owner member e ≡ true = λ e h. sym (same_inner owner member target e.target h) ∙ i in
+      ap length (sym (filter-wider p (into owner member) w s.edges) ∙ ap (filter p) k.edges ∙ filter-wider p (into owner member) w t.edges)
+
+  same_cycle : (s t : State) → Kin s t → Within s → Within t → (source target : Addr) → member source.client ≡ true → makes_cycle s.edges source target ≡ makes_cycle t.edges source target
+  same_cycle s t k w v source target m = go (is_filter source) refl
+    where
+      rest : State → Bool
+      rest u = joined u.edges target source
+
+      same_joined : is_filter source ≡ true → rest s ≡ rest t
+      same_joined h =
+          let i : is_inner owner member source ≡ true = inner_filter owner member source h ∙ m in
+          joined_within owner member s.edges (are_within owner member s.edges w.edges) target source i
+          ∙ ap (λ es. joined es target source) k.edges
+          ∙ sym (joined_within owner member t.edges (are_within owner member t.edges v.edges) target source i)
+
+      go : (b : Bool) → is_filter source ≡ b → (b && is_filter target && rest s) ≡ (b && is_filter target && rest t)
+      go true h = ap (λ x. is_filter target && x) (same_joined h)
+      go false h = refl
 
   -- inside the circle the refusals are the same
   same_refusal : (s t : State) → Kin s t → (actor : ℕ) (source target : Addr) (more : List (ℕ × Bool)) → member actor ≡ true → member source.client ≡ true → member target.client ≡ true → patch_refusal s actor source target more ≡ patch_refusal t actor source target more
@@ -201,120 +488,58 @@ module _ (owner : ℕ) (member : ℕ → Bool) where
 
   -- a change of the edges that touches those from source to target alone
   record Edit (f : List Edge → List Edge) (source target : Addr) : Type 0 where
-    outside : is_inner owner member target ≡ false → (es : List Edge) → filter into (f es) ≡ filter into es
-    inside : (es fs : List Edge) → filter into es ≡ filter into fs → filter into (f es) ≡ filter into (f fs)
-    within : (is_inner owner member target ≡ true → member source.client ≡ true) → (es : List Edge) → list_all (λ e. member e.source.client) (filter into es) ≡ true → list_all (λ e. member e.source.client) (filter into (f es)) ≡ true
+    outside : is_inner owner member target ≡ false → (es : List Edge) → filter (into owner member) (f es) ≡ filter (into owner member) es
+    inside : (es fs : List Edge) → filter (into owner member) es ≡ filter (into owner member) fs → filter (into owner member) (f es) ≡ filter (into owner member) (f fs)
+    within : (is_inner owner member target ≡ true → member source.client ≡ true) → (es : List Edge) → AreWithin owner member es → AreWithin owner member (f es)
 
   connecting : (source target : Addr) → Edit (connected source target) source target
-  connecting source target = record {
-    outside = λ o es. filter-append into es (edge source target ∷ []) ∙ ap (λ b. filter into es ++ cond b (edge source target ∷ []) []) o ∙ append-nil (filter into es);
-    inside = λ es fs k. filter-append into es (edge source target ∷ []) ∙ ap (λ gs. gs ++ filter into (edge source target ∷ [])) k ∙ sym (filter-append into fs (edge source target ∷ []));
-    within = λ h es w.
-        let r : Edge → Bool = λ e. member e.source.client in
-        subst (λ gs. list_all r gs ≡ true) (sym (filter-append into es (edge source target ∷ [])))
-        (list_all-append r (filter into es) (filter into (edge source target ∷ [])) w (list_all-one into r (edge source target) h));
-  }
+  connecting source target =
+      let i : Edge → Bool = into owner member in
+      let r : Edge → Bool = from_member owner member in
+      record {
+        outside = λ o es. filter-append i es (edge source target ∷ []) ∙ ap (λ b. filter i es ++ cond b (edge source target ∷ []) []) o ∙ append-nil (filter i es);
+        inside = λ es fs k. filter-append i es (edge source target ∷ []) ∙ ap (λ gs. gs ++ filter i (edge source target ∷ [])) k ∙ sym (filter-append i fs (edge source target ∷ []));
+        within = λ h es w.
+            subst (λ gs. list_all r gs ≡ true) (sym (filter-append i es (edge source target ∷ [])))
+            (list_all-append r (filter i es) (filter i (edge source target ∷ [])) w (list_all-one i r (edge source target) h));
+      }
 
   disconnecting : (source target : Addr) → Edit (disconnected source target) source target
-  disconnecting source target = record {
-    outside = λ o es. filter-outside other into (λ e h. not_by (is_edge source target e) (λ k. false≢true (sym o ∙ is_edge_into_same source target e k ∙ h))) es;
-    inside = λ es fs k. filter-filter into other es ∙ ap (filter other) k ∙ sym (filter-filter into other fs);
-    within = λ h es w.
-        let r : Edge → Bool = λ e. member e.source.client in
-        subst (λ gs. list_all r gs ≡ true) (sym (filter-filter into other es)) (list_all-filter r other (filter into es) w);
-  }
-    where
-      other : Edge → Bool
-      other e = not (is_edge source target e)
+  disconnecting source target =
+      let i : Edge → Bool = into owner member in
+      let r : Edge → Bool = from_member owner member in
+      let keep : Edge → Bool = λ e. not (is_edge source target e) in
+      record {
+        outside = λ o es. filter-outside keep i (λ e h. not_by (is_edge source target e) (λ k. false≢true (sym o ∙ same_inner owner member target e.target (both_right (same source e.source) (same target e.target) k) ∙ h))) es;
+        inside = λ es fs k. filter-filter i keep es ∙ ap (filter keep) k ∙ sym (filter-filter i keep fs);
+        within = λ h es w. subst (λ gs. list_all r gs ≡ true) (sym (filter-filter i keep es)) (list_all-filter r keep (filter i es) w);
+      }
 
-      is_edge_into_same : (source target : Addr) (e : Edge) → is_edge source target e ≡ true → is_inner owner member target ≡ into e
-      is_edge_into_same source target e k = same_inner owner member target e.target (both_right (same source e.source) (same target e.target) k)
-
-  -- ---- one step
-
-  -- what the owner sees of a reply
-  abbrev pub told : Input → Reply → List Sight
-  told i reply = cond (eqb i.actor owner) (cond (aims_outside owner member i.command) (Outside i.moment) (Told i.moment reply) ∷ []) []
-
-  -- two steps that the owner can't tell apart
-  pub record Alike (a b : Stepped) : Type 0 where
-    pub kin : Kin a.state b.state
-    pub within : Within a.state
-    pub heard : heard a.delivered ≡ heard b.delivered
-
-  -- a step that leaves the circle as it was
-  pub record Aside (a : Stepped) (s : State) : Type 0 where
-    pub kin : Kin a.state s
-    pub within : Within a.state
-    pub heard : heard a.delivered ≡ []
-
-  kin_trans : (s t u : State) → Kin s t → Kin t u → Kin s u
-  kin_trans s t u k l = record { clients = λ c m. k.clients c m ∙ l.clients c m; edges = k.edges ∙ l.edges }
-
-  kin_same : (s : State) → Kin s s
-  kin_same s = record { clients = λ c m. refl; edges = refl }
-
-  row_alike : member owner ≡ true → (s t : State) (moment actor : ℕ) (row : Row) → Kin s t → Within s → Alike (after_row s moment actor row) (after_row t moment actor row)
-  row_alike o s t moment actor row k w = go row.refusal
-    where
-      own : Own
-      own = row.own
-
-      go : (x : Option ℕ) → Alike (unless x s (after_own s moment actor own)) (unless x t (after_own t moment actor own))
-      go None = record { kin = own_kin s t moment actor own k; within = own_within s moment actor own w; heard = heard_sent o s t moment actor own.sends k }
-      go (Some n) = record { kin = k; within = w; heard = refl }
-
-  row_reply : (s t : State) (moment actor : ℕ) (row : Row) → (after_row s moment actor row).reply ≡ (after_row t moment actor row).reply
-  row_reply s t moment actor row = go row.refusal
-    where
-      go : (o : Option ℕ) → (unless o s (after_own s moment actor row.own)).reply ≡ (unless o t (after_own t moment actor row.own)).reply
-      go None = refl
-      go (Some n) = refl
-
-  own_member : member owner ≡ true → (s t : State) (moment actor : ℕ) (command : Command) → Kin s t → Within s → member actor ≡ true → (let a : Stepped = after_row s moment actor (own_command (FinMap.get s.clients actor) command) in let b : Stepped = after_row t moment actor (own_command (FinMap.get t.clients actor) command) in Alike a b × (a.reply ≡ b.reply))
-  own_member o s t moment actor command k w m =
-      let P : Option Client → Type 0 = λ x.
-      let a : Stepped = after_row s moment actor (own_command (FinMap.get s.clients actor) command) in let b : Stepped = after_row t moment actor (own_command x command) in Alike a b × (a.reply ≡ b.reply) in
-      let row : Row = own_command (FinMap.get s.clients actor) command in
-      subst P (k.clients actor m) (row_alike o s t moment actor row k w, row_reply s t moment actor row)
-
-  own_aside : member owner ≡ true → (s : State) (moment actor : ℕ) (own : Own) → Within s → member actor ≡ false → Aside (after_own s moment actor own) s
-  own_aside o s moment actor own w m = record { kin = own_stranger o s moment actor own m w; within = own_within s moment actor own w; heard = heard_none o s moment actor own.sends m w }
-
-  row_aside : member owner ≡ true → (s : State) (moment actor : ℕ) (row : Row) → Within s → member actor ≡ false → Aside (after_row s moment actor row) s
-  unfolding heard
-  row_aside o s moment actor row w m = go row.refusal
-    where
-      go : (x : Option ℕ) → Aside (unless x s (after_own s moment actor row.own)) s
-      go None = own_aside o s moment actor row.own w m
-      go (Some n) = record { kin = kin_same s; within = w; heard = refl }
-
-  -- a Connect or Disconnect of a member
-  patch_member : member owner ≡ true → (f : List Edge → List Edge) (source target : Addr) → Edit f source target → (s t : State) → Kin s t → Within s → (p q : Option ℕ) → (is_inner owner member target ≡ true → member source.client ≡ true) → (is_inner owner member target ≡ true → p ≡ q) → Alike (after_patch s p (f s.edges)) (after_patch t q (f t.edges))
-  patch_member o f source target e s t k w None None c r = record {
-    kin = record { clients = k.clients; edges = e.inside s.edges t.edges k.edges };
-    within = e.within c s.edges w;
+  patch_alike : (f : List Edge → List Edge) (source target : Addr) → Edit f source target → (s t : State) → Kin s t → Within s → (p q : Option ℕ) → (is_inner owner member target ≡ true → member source.client ≡ true) → (is_inner owner member target ≡ true → p ≡ q) → Alike (after_patch s p (f s.edges)) (after_patch t q (f t.edges))
+  patch_alike f source target e s t k w None None c r = record {
+    kin = record { clients = k.clients; pool = k.pool; edges = e.inside s.edges t.edges k.edges; pending = k.pending };
+    within = record { edges = e.within c s.edges w.edges; playbacks = w.playbacks };
     heard = refl;
   }
-  patch_member o f source target e s t k w None (Some n) c r = record {
-    kin = record { clients = k.clients; edges = e.outside (refuted (is_inner owner member target) (λ h. none_some n (r h))) s.edges ∙ k.edges };
-    within = e.within c s.edges w;
+  patch_alike f source target e s t k w None (Some n) c r = record {
+    kin = record { clients = k.clients; pool = k.pool; edges = e.outside (refuted (is_inner owner member target) (λ h. none_some n (r h))) s.edges ∙ k.edges; pending = k.pending };
+    within = record { edges = e.within c s.edges w.edges; playbacks = w.playbacks };
     heard = refl;
   }
-  patch_member o f source target e s t k w (Some n) None c r = record {
-    kin = record { clients = k.clients; edges = k.edges ∙ sym (e.outside (refuted (is_inner owner member target) (λ h. none_some n (sym (r h)))) t.edges) };
+  patch_alike f source target e s t k w (Some n) None c r = record {
+    kin = record { clients = k.clients; pool = k.pool; edges = k.edges ∙ sym (e.outside (refuted (is_inner owner member target) (λ h. none_some n (sym (r h)))) t.edges); pending = k.pending };
     within = w;
     heard = refl;
   }
-  patch_member o f source target e s t k w (Some m) (Some n) c r = record { kin = k; within = w; heard = refl }
+  patch_alike f source target e s t k w (Some m) (Some n) c r = record { kin = k; within = w; heard = refl }
 
   patch_aside : (f : List Edge → List Edge) (source target : Addr) → Edit f source target → (s : State) → Within s → (p : Option ℕ) → (is_inner owner member target ≡ true → IsRefusal (after_patch s p (f s.edges)).reply) → Aside (after_patch s p (f s.edges)) s
   unfolding heard
   patch_aside f source target e s w None r =
       let outside : is_inner owner member target ≡ false = refuted (is_inner owner member target) r in
       record {
-        kin = record { clients = λ c m. refl; edges = e.outside outside s.edges };
-        within = e.within (λ h. absurd (r h)) s.edges w;
+        kin = record { clients = λ c m. refl; pool = refl; edges = e.outside outside s.edges; pending = refl };
+        within = record { edges = e.within (λ h. absurd (r h)) s.edges w.edges; playbacks = w.playbacks };
         heard = refl;
       }
   patch_aside f source target e s w (Some n) r = record { kin = kin_same s; within = w; heard = refl }
@@ -329,108 +554,87 @@ module _ (owner : ℕ) (member : ℕ → Bool) where
       reply_of (Some n) = refl
   patch_told s t moment actor p q es fs false e = refl
 
-  command_alike : member owner ≡ true → (s t : State) → Kin s t → Within s → (moment actor : ℕ) (command : Command) → member actor ≡ true → IsClosedAt owner member actor command (command_step s moment actor command).reply →
-      Alike (command_step s moment actor command) (command_step t moment actor command) × (told (record { moment = moment; actor = actor; command = command }) (command_step s moment actor command).reply ≡ told (record { moment = moment; actor = actor; command = command }) (command_step t moment actor command).reply)
-  command_alike o s t k w moment actor (Connect source target) m c =
+  same_pool : (s t : State) → Kin s t → (c : ℕ) → eqb c owner ≡ true → FinMap.get s.pools c ≡ FinMap.get t.pools c
+  same_pool s t k c h = subst (λ n. FinMap.get s.pools n ≡ FinMap.get t.pools n) (sym (eqb-true c owner h)) k.pool
+
+  as_it_is : (s : State) (reply : Reply) → Within s → Aside (record { state = s; delivered = []; reply = reply }) s
+  unfolding heard
+  as_it_is s reply w = record { kin = kin_same s; within = record { edges = w.edges; playbacks = w.playbacks }; heard = refl }
+
+  same_named : (s t : State) → Kin s t → (actor : ℕ) (q : Option QueueAddr) → member actor ≡ true → NamesWithin member actor q → named_queue s.clients actor q ≡ named_queue t.clients actor q
+  same_named s t k actor None m n = refl
+  same_named s t k actor (Some q) m n = ap (λ c. visible actor q.client (FinMap.get (queues_of c) q.queue)) (k.clients q.client (n m))
+
+  -- ---- each command
+
+  pub command_alike : member owner ≡ true → (files : List File) (s t : State) → Kin s t → Within s → (moment actor : ℕ) (command : Command) → member actor ≡ true → IsClosedAt owner member actor command (command_step files s moment actor command).reply → NamesWithin member actor (queue_named command) →
+      Alike (command_step files s moment actor command) (command_step files t moment actor command) × (told moment actor command (command_step files s moment actor command).reply ≡ told moment actor command (command_step files t moment actor command).reply)
+  command_alike o files s t k w moment actor (Connect source target) m c n =
       let p : Option ℕ = connect_refusal s actor source target in
       let q : Option ℕ = connect_refusal t actor source target in
-      let full : List Edge → ℕ × Bool = λ es. (13, nat_le most_sources (sources_of es target)) in
+      let more : Bool → ℕ → Bool → List (ℕ × Bool) = λ x n y. (11, x) ∷ (13, nat_le most_sources n) ∷ (14, y) ∷ [] in
       let same_pq : is_inner owner member target ≡ true → p ≡ q = λ i.
-      same_refusal s t k actor source target ((11, has_edge s.edges source target) ∷ full s.edges ∷ []) m ((c i).0 m) (inner_member o target i)
-      ∙ ap (λ b. patch_refusal t actor source target ((11, b) ∷ full s.edges ∷ [])) (same_edge s t k source target i)
-      ∙ ap (λ n. patch_refusal t actor source target ((11, has_edge t.edges source target) ∷ (13, nat_le most_sources n) ∷ [])) (same_sources s t k target i) in (
-        patch_member o (connected source target) source target (connecting source target) s t k w p q (λ i. (c i).0 m) same_pq,
+      same_refusal s t k actor source target (more (has_edge s.edges source target) (sources_of s.edges target) (makes_cycle s.edges source target)) m ((c i).0 m) (inner_member owner member o target i)
+      ∙ ap (λ x. patch_refusal t actor source target (more x (sources_of s.edges target) (makes_cycle s.edges source target))) (same_edge s t k source target i)
+      ∙ ap (λ n. patch_refusal t actor source target (more (has_edge t.edges source target) n (makes_cycle s.edges source target))) (same_sources_of s t k target i)
+      ∙ ap (λ y. patch_refusal t actor source target (more (has_edge t.edges source target) (sources_of t.edges target) y)) (same_cycle s t k w (within_kin s t k w) source target ((c i).0 m)) in (
+        patch_alike (connected source target) source target (connecting source target) s t k w p q (λ i. (c i).0 m) same_pq,
         patch_told s t moment actor p q (connected source target s.edges) (connected source target t.edges) (is_inner owner member target) same_pq,
       )
-  command_alike o s t k w moment actor (Disconnect source target) m c =
+  command_alike o files s t k w moment actor (Disconnect source target) m c n =
       let p : Option ℕ = disconnect_refusal s actor source target in
       let q : Option ℕ = disconnect_refusal t actor source target in
       let same_pq : is_inner owner member target ≡ true → p ≡ q = λ i.
-      same_refusal s t k actor source target ((12, not (has_edge s.edges source target)) ∷ []) m ((c i).0 m) (inner_member o target i)
+      same_refusal s t k actor source target ((12, not (has_edge s.edges source target)) ∷ []) m ((c i).0 m) (inner_member owner member o target i)
       ∙ ap (λ b. patch_refusal t actor source target ((12, not b) ∷ [])) (same_edge s t k source target i) in (
-        patch_member o (disconnected source target) source target (disconnecting source target) s t k w p q (λ i. (c i).0 m) same_pq,
+        patch_alike (disconnected source target) source target (disconnecting source target) s t k w p q (λ i. (c i).0 m) same_pq,
         patch_told s t moment actor p q (disconnected source target s.edges) (disconnected source target t.edges) (is_inner owner member target) same_pq,
       )
-  command_alike o s t k w moment actor command m c =
-      let h = own_member o s t moment actor command k w m in
-      (h.0, ap (λ r. told (record { moment = moment; actor = actor; command = command }) r) h.1)
+  command_alike o files s t k w moment actor (Receive max) m c n =
+      let a : PoolAnswer = received max (FinMap.get s.pools actor) in
+      let b : PoolAnswer = received max (FinMap.get t.pools actor) in
+      let same_ab : eqb actor owner ≡ true → a ≡ b = λ h. ap (received max) (same_pool s t k actor h) in
+      let p : Option ℕ = receive_refusal (FinMap.get s.clients actor) max in
+      let same_p : p ≡ receive_refusal (FinMap.get t.clients actor) max = ap (λ x. receive_refusal x max) (k.clients actor m) in (
+        subst (λ q. Alike (unless p s (after_pool s actor a)) (unless q t (after_pool t actor b))) same_p (unless_alike s t k w p (after_pool s actor a) (after_pool t actor b) (pool_alike s t actor a b k w same_ab)),
+        unless_told s t moment actor (Receive max) p (after_pool s actor a) (after_pool t actor b) (told_pool moment actor (Receive max) a.reply b.reply (λ h. ap (λ r. r.reply) (same_ab h)))
+            ∙ ap (λ q. told moment actor (Receive max) (unless q t (after_pool t actor b)).reply) same_p,
+      )
+  command_alike o files s t k w moment actor PoolStatus m c n =
+      let a : Reply = pool_status (FinMap.get s.pools actor) (used s actor) in
+      let b : Reply = pool_status (FinMap.get t.pools actor) (used t actor) in
+      let x : Stepped = record { state = s; delivered = []; reply = a } in
+      let y : Stepped = record { state = t; delivered = []; reply = b } in
+      let same_ab : eqb actor owner ≡ true → a ≡ b = λ h.
+      ap (λ z. pool_status z (used s actor)) (same_pool s t k actor h) ∙ ap (pool_status (FinMap.get t.pools actor)) (same_used s t k actor m) in
+      let p : Option ℕ = status_refusal (FinMap.get s.clients actor) in
+      let same_p : p ≡ status_refusal (FinMap.get t.clients actor) = ap status_refusal (k.clients actor m) in (
+        subst (λ q. Alike (unless p s x) (unless q t y)) same_p (unless_alike s t k w p x y (record { kin = k; within = w; heard = refl })),
+        unless_told s t moment actor PoolStatus p x y (told_pool moment actor PoolStatus a b same_ab) ∙ ap (λ q. told moment actor PoolStatus (unless q t y).reply) same_p,
+      )
+  command_alike o files s t k w moment actor command m c n =
+      let q : Option QueueAddr = queue_named command in
+      let r : State → Row = λ u. own_command files moment actor (FinMap.get u.clients actor) (named_queue u.clients actor q) (used u actor) command in
+      let e : r s ≡ r t =
+      ap (λ x. own_command files moment actor x (named_queue s.clients actor q) (used s actor) command) (k.clients actor m)
+      ∙ ap (λ x. own_command files moment actor (FinMap.get t.clients actor) x (used s actor) command) (same_named s t k actor q m n)
+      ∙ ap (λ x. own_command files moment actor (FinMap.get t.clients actor) (named_queue t.clients actor q) x command) (same_used s t k actor m) in
+      let own : Own = (r s).own in
+      let x : Stepped = after_own s moment actor q own in
+      let y : Stepped = after_own t moment actor q own in (
+        subst (λ z. Alike (after_row s moment actor q (r s)) (after_row t moment actor q z)) e (unless_alike s t k w (r s).refusal x y (own_alike s t moment actor q own k w m n)),
+        unless_told s t moment actor command (r s).refusal x y refl ∙ ap (λ z. told moment actor command (after_row t moment actor q z).reply) e,
+      )
 
-  member_step : member owner ≡ true → (s t : State) → Kin s t → Within s → (i : Input) → member i.actor ≡ true → IsClosedAt owner member i.actor i.command (step s i).reply → Alike (step s i) (step t i) × (told i (step s i).reply ≡ told i (step t i).reply)
-  member_step o s t k w i m c = command_alike o s t k w i.moment i.actor i.command m c
-
-  command_aside : member owner ≡ true → (s : State) → Within s → (moment actor : ℕ) (command : Command) → member actor ≡ false → IsClosedAt owner member actor command (command_step s moment actor command).reply → Aside (command_step s moment actor command) s
-  command_aside o s w moment actor (Connect source target) m c =
-      patch_aside (connected source target) source target (connecting source target) s w (connect_refusal s actor source target) (λ i. (c i).1 m)
-  command_aside o s w moment actor (Disconnect source target) m c =
-      patch_aside (disconnected source target) source target (disconnecting source target) s w (disconnect_refusal s actor source target) (λ i. (c i).1 m)
-  command_aside o s w moment actor command m c = row_aside o s moment actor (own_command (FinMap.get s.clients actor) command) w m
-
-  stranger_step : member owner ≡ true → (s : State) → Within s → (i : Input) → member i.actor ≡ false → IsClosedAt owner member i.actor i.command (step s i).reply → Aside (step s i) s
-  stranger_step o s w i m c = command_aside o s w i.moment i.actor i.command m c
-
-  -- ---- a whole run
-
-  -- what the owner sees, step by step
-  sights : State → List Input → List Sight
-  sights s [] = []
-  sights s (i ∷ inputs) = map Came (heard (step s i).delivered) ++ (told i (step s i).reply ++ sights (step s i).state inputs)
-
-  view_delivered : (all : List Input) (ds : List Delivery) → flat_map (sight owner member all) (map Delivered ds) ≡ map Came (heard ds)
-  unfolding heard
-  view_delivered all [] = refl
-  view_delivered all (d ∷ ds) = grind (arith, view_delivered all ds)
-
-  view_sights : (all inputs : List Input) (s : State) (place end : ℕ) → drop place all ≡ inputs → view owner member all (log_from s place inputs end) ≡ sights s inputs
-  unfolding sights
-  view_sights all [] s place end e = refl
-  view_sights all (i ∷ inputs) s place end e =
-      let f : LogEntry → List Sight = sight owner member all in
-      let r : Reply = (step s i).reply in
-      let rest : List LogEntry = log_from (step s i).state (place + 1) inputs end in
-      let first : flat_map f (map Delivered (step s i).delivered) ≡ map Came (heard (step s i).delivered) = view_delivered all (step s i).delivered in
-      let reply : f (Replied place i.moment i.actor r) ≡ told i r =
-      ap (λ x. cond (eqb i.actor owner) (sight_of_reply owner member i.moment r x ∷ []) []) (slice_get-drop all inputs place i e) in
-      let later : flat_map f rest ≡ sights (step s i).state inputs = view_sights all inputs (step s i).state (place + 1) end (drop-next all inputs place i e) in
-      flat_map-append f (map Delivered (step s i).delivered) (Replied place i.moment i.actor r ∷ rest)
-      ∙ ap (λ xs. xs ++ (f (Replied place i.moment i.actor r) ++ flat_map f rest)) first
-      ∙ ap (λ xs. map Came (heard (step s i).delivered) ++ (xs ++ flat_map f rest)) reply
-      ∙ ap (λ xs. map Came (heard (step s i).delivered) ++ (told i r ++ xs)) later
-
-  -- one more input in front of a run, of a member or of a stranger
-  law_member : (i : Input) (inputs rest : List Input) (s t : State) → Alike (step s i) (step t i) → told i (step s i).reply ≡ told i (step t i).reply → sights (step s i).state inputs ≡ sights (step t i).state rest → sights s (i ∷ inputs) ≡ sights t (i ∷ rest)
-  unfolding sights
-  law_member i inputs rest s t a r later =
-      ap (λ ds. map Came ds ++ (told i (step s i).reply ++ sights (step s i).state inputs)) a.heard
-      ∙ ap (λ xs. map Came (heard (step t i).delivered) ++ (xs ++ sights (step s i).state inputs)) r
-      ∙ ap (λ xs. map Came (heard (step t i).delivered) ++ (told i (step t i).reply ++ xs)) later
-
-  quiet : member owner ≡ true → (i : Input) (r : Reply) → member i.actor ≡ false → told i r ≡ []
-  quiet o i r m = grind (arith, nat_tests)
-
-  law_stranger : member owner ≡ true → (i : Input) (inputs rest : List Input) (s t : State) → member i.actor ≡ false → Aside (step s i) s → sights (step s i).state inputs ≡ sights t rest → sights s (i ∷ inputs) ≡ sights t rest
-  unfolding sights
-  law_stranger o i inputs rest s t m a later =
-      ap (λ ds. map Came ds ++ (told i (step s i).reply ++ sights (step s i).state inputs)) a.heard
-      ∙ ap (λ xs. xs ++ sights (step s i).state inputs) (quiet o i (step s i).reply m)
-      ∙ later
-
-  law_step : member owner ≡ true → (i : Input) (inputs : List Input) (s t : State) → Kin s t → Within s → IsClosedFrom owner member s (i ∷ inputs) →
-      ((s' t' : State) → Kin s' t' → Within s' → IsClosedFrom owner member s' inputs → sights s' inputs ≡ sights t' (only member inputs)) →
-      (b : Bool) → member i.actor ≡ b → sights s (i ∷ inputs) ≡ sights t (cond b (i ∷ only member inputs) (only member inputs))
-  law_step o i inputs s t k w c later true m =
-      let a : Alike (step s i) (step t i) × (told i (step s i).reply ≡ told i (step t i).reply) = member_step o s t k w i m c.0 in
-      law_member i inputs (only member inputs) s t a.0 a.1 (later (step s i).state (step t i).state a.0.kin a.0.within c.1)
-  law_step o i inputs s t k w c later false m =
-      let a : Aside (step s i) s = stranger_step o s w i m c.0 in
-      law_stranger o i inputs (only member inputs) s t m a (later (step s i).state t (kin_trans (step s i).state s t a.kin k) a.within c.1)
-
-  law_from : member owner ≡ true → (inputs : List Input) (s t : State) → Kin s t → Within s → IsClosedFrom owner member s inputs → sights s inputs ≡ sights t (only member inputs)
-  unfolding sights
-  law_from o [] s t k w c = refl
-  law_from o (i ∷ inputs) s t k w c = law_step o i inputs s t k w c (λ s' t' k' w' c'. law_from o inputs s' t' k' w' c') (member i.actor) refl
-
-pub isolation_law : IsolationLaw
-isolation_law owner member inputs end timed c =
-    view_sights owner member inputs inputs start 0 end refl
-    ∙ law_from owner member c.0 inputs start start (kin_same owner member start) refl c.1
-    ∙ sym (view_sights owner member (only member inputs) (only member inputs) start 0 end refl)
+  pub command_aside : member owner ≡ true → (files : List File) (s : State) → Within s → (moment actor : ℕ) (command : Command) → member actor ≡ false → IsClosedAt owner member actor command (command_step files s moment actor command).reply → Aside (command_step files s moment actor command) s
+  command_aside o files s w moment actor (Connect source target) m c = patch_aside (connected source target) source target (connecting source target) s w (connect_refusal s actor source target) (λ i. (c i).1 m)
+  command_aside o files s w moment actor (Disconnect source target) m c = patch_aside (disconnected source target) source target (disconnecting source target) s w (disconnect_refusal s actor source target) (λ i. (c i).1 m)
+  command_aside o files s w moment actor (Receive max) m c =
+      unless_aside s w (receive_refusal (FinMap.get s.clients actor) max) (after_pool s actor (received max (FinMap.get s.pools actor))) (pool_aside o s actor (received max (FinMap.get s.pools actor)) w m)
+  command_aside o files s w moment actor PoolStatus m c =
+      let reply : Reply = pool_status (FinMap.get s.pools actor) (used s actor) in
+      unless_aside s w (status_refusal (FinMap.get s.clients actor)) (record { state = s; delivered = []; reply = reply }) (as_it_is s reply w)
+  command_aside o files s w moment actor command m c =
+      let q : Option QueueAddr = queue_named command in
+      let r : Row = own_command files moment actor (FinMap.get s.clients actor) (named_queue s.clients actor q) (used s actor) command in
+      unless_aside s w r.refusal (after_own s moment actor q r.own) (own_aside o s moment actor q r.own w m)

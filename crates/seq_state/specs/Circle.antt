@@ -7,11 +7,14 @@ use Rattle.node_table.specs.declared.number.Node.TheVariants.{Port, Filter}
 use Rattle.seq_state.specs.declared.input.Command.{Command}
 use Rattle.seq_state.specs.declared.input.Command.TheVariants.{Connect, Disconnect}
 use Rattle.seq_state.specs.declared.input.Input.{Input}
+use Rattle.seq_state.specs.declared.input.QueueAddr.{QueueAddr}
 use Rattle.seq_state.specs.declared.log.Delivery.{Delivery}
 use Rattle.seq_state.specs.declared.log.LogEntry.{LogEntry}
 use Rattle.seq_state.specs.declared.log.LogEntry.TheVariants.{Delivered, Replied}
 use Rattle.seq_state.specs.declared.log.Reply.{Reply}
+use Rattle.seq_state.specs.Files.{File}
 use Rattle.seq_state.specs.State.{State, start}
+use Rattle.seq_state.specs.Own.{queue_named}
 use Rattle.seq_state.specs.Step.{step, plain, IsTimed, IsRefusal}
 
 -- the circle's inputs
@@ -26,7 +29,7 @@ inner_node owner member client (Filter n) = member client
 abbrev pub is_inner : ℕ → (ℕ → Bool) → Addr → Bool
 is_inner owner member a = inner_node owner member a.client a.node
 
--- a change of the subscriptions of a node outside
+-- the target of a Connect or Disconnect lies outside
 abbrev pub aims_outside : ℕ → (ℕ → Bool) → Command → Bool
 aims_outside owner member (Connect source target) = not (is_inner owner member target)
 aims_outside owner member (Disconnect source target) = not (is_inner owner member target)
@@ -42,15 +45,19 @@ IsClosedAt owner member actor (Connect source target) reply = JoinsWithin owner 
 IsClosedAt owner member actor (Disconnect source target) reply = JoinsWithin owner member actor source target reply
 IsClosedAt owner member actor _ reply = Unit {0}
 
--- each of the inputs keeps the circle closed, from this state on
-abbrev pub IsClosedFrom : ℕ → (ℕ → Bool) → State → List Input → Type 0
-IsClosedFrom owner member s [] = Unit {0}
-IsClosedFrom owner member s (i ∷ inputs) =
-    IsClosedAt owner member i.actor i.command (step s i).reply × IsClosedFrom owner member (step s i).state inputs
+-- a member's input names members' queues alone
+abbrev pub NamesWithin : (ℕ → Bool) → ℕ → Option QueueAddr → Type 0
+NamesWithin member actor None = Unit {0}
+NamesWithin member actor (Some q) = IsTrue (member actor) → IsTrue (member q.client)
 
--- the owner is a member, and the inputs keep the circle closed
-abbrev pub IsClosed : ℕ → (ℕ → Bool) → List Input → Type 0
-IsClosed owner member inputs = IsTrue (member owner) × IsClosedFrom owner member start inputs
+-- each of the inputs keeps the circle closed, from this state on
+abbrev pub IsClosedFrom : List File → ℕ → (ℕ → Bool) → State → List Input → Type 0
+IsClosedFrom files owner member s [] = Unit {0}
+IsClosedFrom files owner member s (i ∷ inputs) =
+    IsClosedAt owner member i.actor i.command (step files s i).reply × NamesWithin member i.actor (queue_named i.command) × IsClosedFrom files owner member (step files s i).state inputs
+
+abbrev pub IsClosed : List File → ℕ → (ℕ → Bool) → List Input → Type 0
+IsClosed files owner member inputs = IsTrue (member owner) × IsClosedFrom files owner member start inputs
 
 -- ---- what the owner sees
 
@@ -72,7 +79,6 @@ sight owner member inputs (Delivered d) = if is_to owner d then Came d ∷ [] el
 sight owner member inputs (Replied place moment client reply) =
     if client == owner then sight_of_reply owner member moment reply (slice_get inputs place) ∷ [] else []
 
--- what the owner sees of a log of these inputs
 abbrev pub view : ℕ → (ℕ → Bool) → List Input → List LogEntry → List Sight
 view owner member inputs log = flat_map (sight owner member inputs) log
 
@@ -81,6 +87,6 @@ view owner member inputs log = flat_map (sight owner member inputs) log
 -- what the owner of a closed circle sees of a run is what it sees of the plain run of the circle's inputs alone
 abbrev pub IsolationLaw : Type 0
 IsolationLaw =
-    (owner : ℕ) (member : ℕ → Bool) (inputs : List Input) (end : ℕ) →
-    IsTimed inputs end → IsClosed owner member inputs →
-    view owner member inputs (plain inputs end) ≡ view owner member (only member inputs) (plain (only member inputs) end)
+    (files : List File) (owner : ℕ) (member : ℕ → Bool) (inputs : List Input) (end : ℕ) →
+    IsTimed inputs end → IsClosed files owner member inputs →
+    view owner member inputs (plain files inputs end) ≡ view owner member (only member inputs) (plain files (only member inputs) end)

@@ -7,6 +7,7 @@ use Rattle.seq_state.specs.declared.input.Input.{Input}
 use Rattle.seq_state.specs.declared.log.Delivery.{Delivery}
 use Rattle.seq_state.specs.declared.log.LogEntry.{LogEntry}
 use Rattle.seq_state.specs.declared.log.LogEntry.TheVariants.{Delivered, Replied}
+use Rattle.seq_state.specs.Files.{File}
 use Rattle.seq_state.specs.Step.{plain, IsTimed}
 use Rattle.seq_state.specs.Circle.{only, is_to, IsClosed}
 
@@ -32,6 +33,6 @@ port_bytes port log = written (messages_at port log)
 -- what comes to a port of the owner of a closed circle, byte for byte, is what comes to it in the plain run of the circle's inputs alone
 abbrev pub PortBytesLaw : Type 0
 PortBytesLaw =
-    (owner : ℕ) (member : ℕ → Bool) (inputs : List Input) (end port : ℕ) →
-    IsTimed inputs end → IsClosed owner member inputs →
-    port_bytes (port_of owner port) (plain inputs end) ≡ port_bytes (port_of owner port) (plain (only member inputs) end)
+    (files : List File) (owner : ℕ) (member : ℕ → Bool) (inputs : List Input) (end port : ℕ) →
+    IsTimed inputs end → IsClosed files owner member inputs →
+    port_bytes (port_of owner port) (plain files inputs end) ≡ port_bytes (port_of owner port) (plain files (only member inputs) end)

@@ -1,15 +1,22 @@
--- The plain state: who is open, with which ports, and the subscriptions.
-use Rattle.std.specs.Prelude.{◌≡◌, ℕ, List, [], ◌⊎◌, refl}
+-- The plain state: who is open, with which nodes and queues, what waits, the subscriptions, and what is still to be sent.
+use Rattle.std.specs.Prelude.{◌≡◌, ℕ, ℤ, Bool, List, [], Option, Some, None, ◌⊎◌, refl}
 use Rattle.std.proofs.Common.{inl, inr}
 use Rattle.std.specs.Ordering.{nat_cmp}
-use Rattle.std.specs.Coded.{Coded, code_by, coded×, coded⊎, coded_list, coded_ℕ}
+use Rattle.std.specs.Coded.{Coded, code_by, coded×, coded⊎, coded_list, coded_option, coded_bool, coded_ℕ, coded_ℤ}
 use Rattle.std.specs.FinMap
 use Rattle.std.specs.FinMap.{FinMap}
+use Rattle.tempo_clock.specs.Clocks.{Clock}
+use Rattle.tempo_clock.specs.declared.due.Due.{Due}
+use Rattle.tempo_clock.specs.declared.due.Due.TheVariants.{Tick, Nanos}
+use Rattle.tempo_clock.specs.declared.entry.TempoEntry.{TempoEntry}
+use Rattle.route_filter.specs.declared.rule_args.RuleArgs.{RuleArgs}
 use Rattle.node_table.specs.declared.caps.Caps.{Caps}
 use Rattle.node_table.specs.declared.number.Addr.{Addr}
 use Rattle.node_table.specs.declared.number.Node.{Node}
 use Rattle.node_table.specs.declared.number.Node.TheVariants.{Port, Filter}
 use Rattle.patch_graph.specs.declared.edge.Edge.{Edge}
+use Rattle.seq_state.specs.declared.input.QueueAddr.{QueueAddr}
+use Rattle.seq_state.specs.declared.log.Arrival.{Arrival}
 
 -- A port, with what still matters of the bytes it was fed.
 pub record PortInfo : Type 0 where
@@ -17,46 +24,129 @@ pub record PortInfo : Type 0 where
   pub caps : Caps
   pub fed : List ℕ
 
--- What a client has of its own.
+pub record FilterInfo : Type 0 where
+  pub caps : Caps
+  pub rule : RuleArgs
+
+-- A queue, and whether other clients may use it.
+pub record Queue : Type 0 where
+  pub clock : Clock
+  pub shared : Bool
+
+-- What a client has of its own, but for its input pool.
 pub record Client : Type 0 where
   pub name : List ℕ
   pub in_size : ℕ
   pub out_size : ℕ
   pub ports : FinMap nat_cmp PortInfo
+  pub filters : FinMap nat_cmp FilterInfo
+  pub queues : FinMap nat_cmp Queue
 
--- The open clients, and the subscriptions, oldest first.
+-- A client's input pool: what waits, the oldest first, and how many messages found no room.
+pub record Pool : Type 0 where
+  pub size : ℕ
+  pub waiting : List Arrival
+  pub lost : ℕ
+
+-- A message that waits for its due time.
+pub record Event : Type 0 where
+  pub due : Due
+  pub message : List ℕ
+
+-- What one Schedule or Play has still to send from a port of its client, in the order of the file, and when it was accepted.
+pub record Playback : Type 0 where
+  pub port : ℕ
+  pub accepted : ℕ
+  pub events : List Event
+
+-- A playback of a client, on a queue that may be another's.
+pub record Pending : Type 0 where
+  pub client : ℕ
+  pub queue : QueueAddr
+  pub playback : Playback
+
+-- The open clients, their input pools, the subscriptions, oldest first, and what is pending, in the order of the commands.
 pub record State : Type 0 where
   pub clients : FinMap nat_cmp Client
+  pub pools : FinMap nat_cmp Pool
   pub edges : List Edge
+  pub pending : List Pending
 
 -- nobody is there
 abbrev pub start : State
-start = record { clients = FinMap.empty; edges = [] }
+start = record { clients = FinMap.empty; pools = FinMap.empty; edges = []; pending = [] }
+
+-- ---- what a client that may be open has
+
+abbrev pub ports_of : Option Client → FinMap nat_cmp PortInfo
+ports_of None = FinMap.empty
+ports_of (Some c) = c.ports
+
+abbrev pub filters_of : Option Client → FinMap nat_cmp FilterInfo
+filters_of None = FinMap.empty
+filters_of (Some c) = c.filters
+
+abbrev pub queues_of : Option Client → FinMap nat_cmp Queue
+queues_of None = FinMap.empty
+queues_of (Some c) = c.queues
+
+-- the map with this at the key, or with nothing there
+abbrev pub put : {X : Type 0} → FinMap nat_cmp X → ℕ → Option X → FinMap nat_cmp X
+put m k None = FinMap.remove m k
+put m k (Some x) = FinMap.insert m k x
 
 -- ---- their codes
 
 abbrev pub coded_port : Coded PortInfo
 coded_port = code_by (List ℕ × (ℕ × List ℕ)) (coded× (coded_list coded_ℕ) (coded× coded_ℕ (coded_list coded_ℕ))) (λ p. (p.name, (p.caps.0, p.fed))) (λ c. record { name = c.0; caps = record { 0 = c.1.0 }; fed = c.1.1 }) (λ _. refl)
 
+abbrev pub coded_rule : Coded RuleArgs
+coded_rule =
+    code_by (ℕ × (ℕ × (ℕ × (ℕ × (ℤ × Option ℕ))))) (coded× coded_ℕ (coded× coded_ℕ (coded× coded_ℕ (coded× coded_ℕ (coded× coded_ℤ (coded_option coded_ℕ))))))
+    (λ r. (r.channels, (r.kinds, (r.low, (r.high, (r.shift, r.channel))))))
+    (λ c. record { channels = c.0; kinds = c.1.0; low = c.1.1.0; high = c.1.1.1.0; shift = c.1.1.1.1.0; channel = c.1.1.1.1.1 }) (λ _. refl)
+
+abbrev pub coded_filter : Coded FilterInfo
+coded_filter = code_by (ℕ × RuleArgs) (coded× coded_ℕ coded_rule) (λ f. (f.caps.0, f.rule)) (λ c. record { caps = record { 0 = c.0 }; rule = c.1 }) (λ _. refl)
+
+abbrev pub coded_entry : Coded TempoEntry
+coded_entry = code_by (ℕ × ℕ) (coded× coded_ℕ coded_ℕ) (λ e. (e.tick, e.tempo)) (λ c. record { tick = c.0; tempo = c.1 }) (λ _. refl)
+
+abbrev pub coded_clock : Coded Clock
+coded_clock =
+    code_by (ℕ × (List TempoEntry × (ℕ × Option ℕ))) (coded× coded_ℕ (coded× (coded_list coded_entry) (coded× coded_ℕ (coded_option coded_ℕ)))) (λ c. (c.map.division, (c.map.entries, (c.time, c.since))))
+    (λ p. record { map = record { division = p.0; entries = p.1.0 }; time = p.1.1.0; since = p.1.1.1 }) (λ _. refl)
+
+abbrev pub coded_queue : Coded Queue
+coded_queue = code_by (Clock × Bool) (coded× coded_clock coded_bool) (λ q. (q.clock, q.shared)) (λ p. record { clock = p.0; shared = p.1 }) (λ _. refl)
+
 abbrev pub coded_client : Coded Client
 coded_client =
-    code_by (List ℕ × (ℕ × (ℕ × FinMap nat_cmp PortInfo))) (coded× (coded_list coded_ℕ) (coded× coded_ℕ (coded× coded_ℕ (FinMap.code coded_ℕ coded_port)))) (λ c. (c.name, (c.in_size, (c.out_size, c.ports))))
-    (λ c. record { name = c.0; in_size = c.1.0; out_size = c.1.1.0; ports = c.1.1.1 }) (λ _. refl)
+    code_by (List ℕ × (ℕ × (ℕ × (FinMap nat_cmp PortInfo × (FinMap nat_cmp FilterInfo × FinMap nat_cmp Queue)))))
+    (coded× (coded_list coded_ℕ) (coded× coded_ℕ (coded× coded_ℕ (coded× (FinMap.code coded_ℕ coded_port) (coded× (FinMap.code coded_ℕ coded_filter) (FinMap.code coded_ℕ coded_queue))))))
+    (λ c. (c.name, (c.in_size, (c.out_size, (c.ports, (c.filters, c.queues))))))
+    (λ p. record { name = p.0; in_size = p.1.0; out_size = p.1.1.0; ports = p.1.1.1.0; filters = p.1.1.1.1.0; queues = p.1.1.1.1.1 }) (λ _. refl)
 
-abbrev pub to_either : Node → ℕ ⊎ ℕ
-to_either (Port n) = inl n
-to_either (Filter n) = inr n
+abbrev pub coded_arrival : Coded Arrival
+coded_arrival = code_by (ℕ × (ℕ × List ℕ)) (coded× coded_ℕ (coded× coded_ℕ (coded_list coded_ℕ))) (λ a. (a.moment, (a.port, a.message))) (λ p. record { moment = p.0; port = p.1.0; message = p.1.1 }) (λ _. refl)
 
-abbrev pub of_either : ℕ ⊎ ℕ → Node
-of_either (inl n) = Port n
-of_either (inr n) = Filter n
+abbrev pub coded_pool : Coded Pool
+coded_pool = code_by (ℕ × (List Arrival × ℕ)) (coded× coded_ℕ (coded× (coded_list coded_arrival) coded_ℕ)) (λ p. (p.size, (p.waiting, p.lost))) (λ c. record { size = c.0; waiting = c.1.0; lost = c.1.1 }) (λ _. refl)
 
-pub back : (n : Node) → of_either (to_either n) ≡ n
-back (Port n) = refl
-back (Filter n) = refl
+abbrev pub node_either : Node → ℕ ⊎ ℕ
+node_either (Port n) = inl n
+node_either (Filter n) = inr n
+
+abbrev pub either_node : ℕ ⊎ ℕ → Node
+either_node (inl n) = Port n
+either_node (inr n) = Filter n
+
+pub node_back : (n : Node) → either_node (node_either n) ≡ n
+node_back (Port n) = refl
+node_back (Filter n) = refl
 
 abbrev pub coded_node : Coded Node
-coded_node = code_by (ℕ ⊎ ℕ) (coded⊎ coded_ℕ coded_ℕ) to_either of_either back
+coded_node = code_by (ℕ ⊎ ℕ) (coded⊎ coded_ℕ coded_ℕ) node_either either_node node_back
 
 abbrev pub coded_addr : Coded Addr
 coded_addr = code_by (ℕ × Node) (coded× coded_ℕ coded_node) (λ a. (a.client, a.node)) (λ p. record { client = p.0; node = p.1 }) (λ _. refl)
@@ -64,5 +154,34 @@ coded_addr = code_by (ℕ × Node) (coded× coded_ℕ coded_node) (λ a. (a.clie
 abbrev pub coded_edge : Coded Edge
 coded_edge = code_by (Addr × Addr) (coded× coded_addr coded_addr) (λ e. (e.source, e.target)) (λ p. record { source = p.0; target = p.1 }) (λ _. refl)
 
+abbrev pub due_either : Due → ℕ ⊎ ℕ
+due_either (Tick n) = inl n
+due_either (Nanos n) = inr n
+
+abbrev pub either_due : ℕ ⊎ ℕ → Due
+either_due (inl n) = Tick n
+either_due (inr n) = Nanos n
+
+pub due_back : (d : Due) → either_due (due_either d) ≡ d
+due_back (Tick n) = refl
+due_back (Nanos n) = refl
+
+abbrev pub coded_due : Coded Due
+coded_due = code_by (ℕ ⊎ ℕ) (coded⊎ coded_ℕ coded_ℕ) due_either either_due due_back
+
+abbrev pub coded_event : Coded Event
+coded_event = code_by (Due × List ℕ) (coded× coded_due (coded_list coded_ℕ)) (λ e. (e.due, e.message)) (λ p. record { due = p.0; message = p.1 }) (λ _. refl)
+
+abbrev pub coded_playback : Coded Playback
+coded_playback = code_by (ℕ × (ℕ × List Event)) (coded× coded_ℕ (coded× coded_ℕ (coded_list coded_event))) (λ p. (p.port, (p.accepted, p.events))) (λ c. record { port = c.0; accepted = c.1.0; events = c.1.1 }) (λ _. refl)
+
+abbrev pub coded_pending : Coded Pending
+coded_pending =
+    code_by (ℕ × (ℕ × (ℕ × Playback))) (coded× coded_ℕ (coded× coded_ℕ (coded× coded_ℕ coded_playback))) (λ p. (p.client, (p.queue.client, (p.queue.queue, p.playback))))
+    (λ c. record { client = c.0; queue = record { client = c.1.0; queue = c.1.1.0 }; playback = c.1.1.1 }) (λ _. refl)
+
 abbrev pub coded_state : Coded State
-coded_state = code_by (FinMap nat_cmp Client × List Edge) (coded× (FinMap.code coded_ℕ coded_client) (coded_list coded_edge)) (λ s. (s.clients, s.edges)) (λ p. record { clients = p.0; edges = p.1 }) (λ _. refl)
+coded_state =
+    code_by (FinMap nat_cmp Client × (FinMap nat_cmp Pool × (List Edge × List Pending)))
+    (coded× (FinMap.code coded_ℕ coded_client) (coded× (FinMap.code coded_ℕ coded_pool) (coded× (coded_list coded_edge) (coded_list coded_pending)))) (λ s. (s.clients, (s.pools, (s.edges, s.pending))))
+    (λ p. record { clients = p.0; pools = p.1.0; edges = p.1.1.0; pending = p.1.1.1 }) (λ _. refl)

@@ -1,34 +1,25 @@
 //! What the sequencer means: the words of its commands, replies and logs, its plain state, the step of one input, the
 //! plain run of a list of inputs, and what the owner of a circle of clients sees of a run.
 //!
-//! The definitions stand in `specs/`; the laws about them are the contracts of the functions below, which have no body.
+//! The definitions stand in `specs/`; the laws about them are the contracts of the functions in `laws`, which do nothing.
 #![tactic(auto)]
 
 mod input;
+mod laws;
 mod log;
 mod refusal;
+mod rows;
 
-ghost use Rattle.seq_state.specs.Circle.{IsolationLaw};
-ghost use Rattle.seq_state.specs.Heard.{PortBytesLaw};
-ghost use Rattle.seq_state.specs.Rows.{FirstNote};
-
-pub use input::{Command, Input};
-pub use log::{Delivery, LogEntry, Reply};
+pub use input::{Command, DueAt, Input, QueueAddr};
+pub use laws::{
+    circle_alone, circle_heard_alone, circles_meet, due_in_order, lists_that_agree, one_input,
+    paths_within, refused_changes_nothing, settling_in_two,
+};
+pub use log::{Arrival, Delivery, LogEntry, Reply};
 pub use patch_graph::Edge;
 pub use refusal::Refusal;
-
-/// What the owner of a closed circle sees of a run is what it sees of the plain run of the circle's inputs alone.
-pub fn circle_alone()
-    ensures { IsolationLaw }
-{}
-
-/// What comes to a port of the owner of a closed circle is, byte for byte, what comes to it in the plain run of the
-/// circle's inputs alone.
-pub fn circle_heard_alone()
-    ensures { PortBytesLaw }
-{}
-
-/// One note from one client to another, computed from the definitions.
-pub fn first_note()
-    ensures { FirstNote }
-{}
+pub use rows::{
+    changed_filter, circles_of_runs, closed_client, copies_by_edge_age, deleted_port,
+    dropped_output, each_refusal, equal_moments, input_overflow, output_full, played_file,
+    queue_clock, shared_queue, third_clients,
+};

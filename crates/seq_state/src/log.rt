@@ -1,16 +1,46 @@
 //! What clients hear.
 
+use memory::Items;
 use midi_wire::Message;
-use node_table::{ClientId, PortAddr};
+use node_table::{ClientId, PortAddr, PortNo};
 
 /// What became of a command.
-#[derive(Clone, Copy, Debug, PartialEq, Eq)]
+#[derive(Drop)]
 pub enum Reply {
     Done,
     /// So many messages were completed and sent.
     Messages(u64),
+    /// What a queue shows.
+    Queue {
+        running: bool,
+        /// The last tick that has come.
+        tick: u64,
+        /// How long the queue has run since its last start.
+        nanos: u64,
+    },
+    /// What was taken from the input pool, the oldest first.
+    Received(Items<Arrival>),
+    /// How full the pools are.
+    Pools {
+        /// How many messages wait in the input pool.
+        waiting: u32,
+        /// How many found no room there. The count stays at its greatest value once it comes to it.
+        lost: u64,
+        /// How many scheduled messages and files the client has still to send.
+        used: u32,
+    },
     /// The number of a `Refusal`. The command changed nothing.
     Refused(u8),
+}
+
+/// A message that waits in a client's input pool.
+#[derive(Drop)]
+pub struct Arrival {
+    /// When it came, in nanoseconds from the beginning of the run.
+    pub moment: u64,
+    /// The client's port that it came to.
+    pub port: PortNo,
+    pub message: Message,
 }
 
 /// A message that came to a port.

@@ -1,6 +1,6 @@
 //! Why a command is refused.
 
-ghost use Rattle.std.specs.Prelude.{◌≡◌};
+ghost use Rattle.std.specs.Prelude.{◌≡◌, ◌≤◌, ◌↔◌, IsSome, IfSome, codes};
 
 use std::fmt;
 
@@ -34,7 +34,7 @@ pub enum Refusal {
 }
 
 impl Refusal {
-    ghost use Rattle.seq_state.specs.Refusals.{number_of};
+    ghost use Rattle.seq_state.specs.Refusals.{number_of, name_of};
 
     /// 1 to 24, as a reply has it.
     pub fn number(self) -> u8
@@ -42,12 +42,84 @@ impl Refusal {
     {
         self as u8
     }
+
+    /// The refusal with this number, if there is one.
+    pub fn from_number(number: u8) -> Option<Refusal>
+        ensures there { IsSome result ↔ ((1 ≤ number) × (number ≤ 24)) }
+        ensures value { IfSome result (λ r. number_of r ≡ number) }
+    {
+        Some(match number {
+            1 => Refusal::NotOpen,
+            2 => Refusal::AlreadyOpen,
+            3 => Refusal::BadName,
+            4 => Refusal::BadSize,
+            5 => Refusal::BadRule,
+            6 => Refusal::NodeExists,
+            7 => Refusal::NoNode,
+            8 => Refusal::NoSender,
+            9 => Refusal::NoDest,
+            10 => Refusal::NotPermitted,
+            11 => Refusal::AlreadyConnected,
+            12 => Refusal::NotConnected,
+            13 => Refusal::SourcesFull,
+            14 => Refusal::Cycle,
+            15 => Refusal::QueueExists,
+            16 => Refusal::NotYours,
+            17 => Refusal::NoQueue,
+            18 => Refusal::QueueRunning,
+            19 => Refusal::QueueStopped,
+            20 => Refusal::NoFile,
+            21 => Refusal::DivisionDiffers,
+            22 => Refusal::BadTempo,
+            23 => Refusal::BadTime,
+            24 => Refusal::OutFull,
+            _ => return None,
+        })
+    }
+
+    /// Its name, as in `Cycle`.
+    pub fn name(self) -> &'static str
+        ensures { result.now ≡ name_of self }
+    {
+        match self {
+            Refusal::NotOpen => "NotOpen",
+            Refusal::AlreadyOpen => "AlreadyOpen",
+            Refusal::BadName => "BadName",
+            Refusal::BadSize => "BadSize",
+            Refusal::BadRule => "BadRule",
+            Refusal::NodeExists => "NodeExists",
+            Refusal::NoNode => "NoNode",
+            Refusal::NoSender => "NoSender",
+            Refusal::NoDest => "NoDest",
+            Refusal::NotPermitted => "NotPermitted",
+            Refusal::AlreadyConnected => "AlreadyConnected",
+            Refusal::NotConnected => "NotConnected",
+            Refusal::SourcesFull => "SourcesFull",
+            Refusal::Cycle => "Cycle",
+            Refusal::QueueExists => "QueueExists",
+            Refusal::NotYours => "NotYours",
+            Refusal::NoQueue => "NoQueue",
+            Refusal::QueueRunning => "QueueRunning",
+            Refusal::QueueStopped => "QueueStopped",
+            Refusal::NoFile => "NoFile",
+            Refusal::DivisionDiffers => "DivisionDiffers",
+            Refusal::BadTempo => "BadTempo",
+            Refusal::BadTime => "BadTime",
+            Refusal::OutFull => "OutFull",
+        }
+    }
 }
 
 /// As in `14 Cycle`.
 impl fmt::Display for Refusal {
+    ghost use Rattle.std.specs.Prelude.{Some};
+    ghost use Rattle.seq_state.specs.Refusals.{refusal_text};
+
+    ghost output = { λ r. Some (refusal_text r) };
+
     fn fmt<W: fmt::Write>(&self, f: &mut fmt::Formatter<W>) -> fmt::Result {
         let number = self.number();
-        write!(f, "{number} {self:?}")
+        let name = self.name();
+        write!(f, "{number} {name}")
     }
 }

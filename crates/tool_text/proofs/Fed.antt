@@ -7,15 +7,15 @@ use Rattle.std.specs.Cmp.{nat_cmp_total}
 use Rattle.std.specs.FinMap
 use Rattle.std.proofs.lemmas.Bool.{false≢true}
 use Rattle.midi_wire.specs.Readings.{reading, rest}
-use Rattle.seq_state.specs.declared.input.Command.TheVariants.{Bytes}
+use Rattle.seq_ports.specs.declared.input.Command.TheVariants.{Bytes}
 use Rattle.patch_graph.specs.declared.edge.Edge.{Edge}
 use Rattle.seq_state.specs.declared.log.Delivery.{Delivery}
-use Rattle.seq_state.specs.Rows.{at}
-use Rattle.seq_state.specs.State.{Client, PortInfo, State}
-use Rattle.seq_state.specs.Own.{Own, own_command, first_refusal, port_of, has_port, fed_of, changed, feed_port}
+use Rattle.seq_ports.specs.Rows.{at}
+use Rattle.seq_ports.specs.State.{Client, PortInfo, State}
+use Rattle.seq_ports.specs.Own.{Own, own_command, first_refusal, port_of, has_port, fed_of, changed, feed_port}
 use Rattle.patch_graph.specs.Edges.{edge}
-use Rattle.seq_state.specs.Step.{port_addr, sent, unless, after_own, with_own, refusal_of, step}
-use Rattle.seq_state.proofs.Kin.{get-put}
+use Rattle.seq_ports.specs.Step.{port_addr, sent, unless, after_own, with_own, refusal_of, step}
+use Rattle.seq_ports.proofs.Kin.{get-put}
 use Rattle.seq_engine.proofs.Arms.{none_lost}
 use Rattle.tool_text.specs.Thru.{thru_line, thru_text, stream_of, IsJoined}
 

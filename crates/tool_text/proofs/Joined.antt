@@ -3,17 +3,17 @@ use Rattle.std.proofs.Common.{◌≡◌, ℕ, drop, ◌+◌, true, false, [], �
 use Rattle.std.specs.Prelude.{IfSome}
 use Rattle.node_table.specs.declared.caps.Caps.{Caps}
 use Rattle.seq_engine.specs.Seen.{Seen}
-use Rattle.seq_state.specs.declared.input.Command.{Command}
+use Rattle.seq_ports.specs.declared.input.Command.{Command}
 use Rattle.std.specs.Ordering.{nat_cmp}
 use Rattle.std.specs.Cmp.{nat_cmp_total}
 use Rattle.std.specs.FinMap
 use Rattle.std.specs.FinMap.{FinMap}
-use Rattle.seq_state.specs.declared.input.Command.TheVariants.{Open, CreatePort, Connect}
-use Rattle.seq_state.specs.Rows.{at}
-use Rattle.seq_state.specs.State.{Client, PortInfo, State, start}
-use Rattle.seq_state.specs.Own.{own_command, opened, has_port, put_port}
+use Rattle.seq_ports.specs.declared.input.Command.TheVariants.{Open, CreatePort, Connect}
+use Rattle.seq_ports.specs.Rows.{at}
+use Rattle.seq_ports.specs.State.{Client, PortInfo, State, start}
+use Rattle.seq_ports.specs.Own.{own_command, opened, has_port, put_port}
 use Rattle.patch_graph.specs.Edges.{edge, most_sources}
-use Rattle.seq_state.specs.Step.{port_addr, after_row, after_patch, step, state_after}
+use Rattle.seq_ports.specs.Step.{port_addr, after_row, after_patch, step, state_after}
 use Rattle.tool_text.specs.Thru.{stream_of, joining, IsJoined}
 
 -- clients and ports by their numbers

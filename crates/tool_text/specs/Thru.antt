@@ -3,13 +3,13 @@ use Rattle.std.specs.Prelude.{◌≡◌, ℕ, true, List, [], ◌∷◌, ◌++�
 use Rattle.std.specs.List.{flat_map}
 use Rattle.std.specs.FinMap
 use Rattle.midi_wire.specs.Readings.{reading}
-use Rattle.seq_state.specs.declared.input.Command.TheVariants.{Open, CreatePort, Connect}
-use Rattle.seq_state.specs.declared.input.Input.{Input}
-use Rattle.seq_state.specs.Rows.{at}
-use Rattle.seq_state.specs.Own.{has_port, port_of, fed_of}
-use Rattle.seq_state.specs.State.{State}
+use Rattle.seq_ports.specs.declared.input.Command.TheVariants.{Open, CreatePort, Connect}
+use Rattle.seq_ports.specs.declared.input.Input.{Input}
+use Rattle.seq_ports.specs.Rows.{at}
+use Rattle.seq_ports.specs.Own.{has_port, port_of, fed_of}
+use Rattle.seq_ports.specs.State.{State}
 use Rattle.patch_graph.specs.Edges.{edge}
-use Rattle.seq_state.specs.Step.{port_addr}
+use Rattle.seq_ports.specs.Step.{port_addr}
 use Rattle.tool_text.specs.Hex.{spaced}
 
 -- clients "source" and "sink" with ports "out" and "in"; the second subscribes its port to the first's

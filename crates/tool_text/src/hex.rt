@@ -6,6 +6,9 @@ ghost use Rattle.tool_text.specs.Wire.{in_hex};
 
 use memory::OutOfMemory;
 
+/// A look-up takes fewer instructions than a comparison.
+const DIGITS: &[u8; 16] = b"0123456789ABCDEF";
+
 /// Adds a space and two upper-case digits for each byte.
 pub(crate) fn push_spaced(text: &mut Vec<u8>, bytes: &[u8]) -> Result<(), OutOfMemory>
     ensures { OnOk result (text.new.items ≡ text.old.items ++ spaced bytes.now) }
@@ -31,5 +34,5 @@ fn digit(n: u8) -> u8
     requires { n < 16 }
     ensures { result ≡ digit n }
 {
-    if n < 10 { b'0' + n } else { b'A' + (n - 10) }
+    DIGITS[n as usize]
 }

@@ -3,9 +3,9 @@
 ghost use Rattle.std.specs.Prelude.{◌≡◌, ◌≤◌, ◌<◌, ◌+◌, ◌++◌, ◌⊎◌, ◌^◌, [], true, false, length, IfOk, IfErr, OnOk, OnErr, IsErrOf};
 ghost use Rattle.std.specs.List.{flat_map};
 ghost use Rattle.midi_wire.specs.Readings.{rest};
-ghost use Rattle.seq_state.specs.State.{start};
-ghost use Rattle.seq_state.specs.Step.{port_addr, step, state_after};
-ghost use Rattle.seq_state.specs.Rows.{at};
+ghost use Rattle.seq_ports.specs.State.{start};
+ghost use Rattle.seq_ports.specs.Step.{port_addr, step, state_after};
+ghost use Rattle.seq_ports.specs.Rows.{at};
 ghost use Rattle.tool_text.specs.declared.limits.TheConstants.{MOST};
 ghost use Rattle.tool_text.specs.Thru.{thru_line, thru_text, stream_of, joining, IsJoined, StopsShort};
 

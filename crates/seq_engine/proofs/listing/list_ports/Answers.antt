@@ -3,7 +3,7 @@ use Rattle.std.specs.Prelude.{IfSome}
 use Rattle.std.specs.FinMap as map
 use Rattle.seq_engine.specs.Listing.{port_lines}
 use Rattle.seq_engine.proofs.Texts.{texts_more, texts_none}
-use Rattle.seq_state.specs.Own.{port_of}
+use Rattle.seq_ports.specs.Own.{port_of}
 use Rattle.seq_engine.proofs.listing.list_ports.Goals as goal
 
 pub loop-number-init : goal.loop-number-init

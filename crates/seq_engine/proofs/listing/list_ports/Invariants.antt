@@ -1,7 +1,7 @@
 use Rattle.std.proofs.Common.{◌≡◌, ◌++◌}
 use Rattle.std.specs.FinMap as map
 use Rattle.seq_engine.specs.Listing.{port_lines, texts}
-use Rattle.seq_state.specs.Own.{port_of}
+use Rattle.seq_ports.specs.Own.{port_of}
 use Rattle.seq_engine.proofs.listing.list_ports.Given as goal
 
 abbrev pub invariant-loop-number : goal.invariant-loop-number

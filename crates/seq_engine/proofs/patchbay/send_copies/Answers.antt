@@ -3,7 +3,7 @@ use Rattle.std.specs.List.{filter_map}
 use Rattle.std.proofs.lemmas.List.{take_all}
 use Rattle.node_table.specs.declared.number.Addr.{Addr}
 use Rattle.seq_state.specs.declared.log.Delivery.{Delivery}
-use Rattle.seq_state.specs.Step.{delivery}
+use Rattle.seq_ports.specs.Step.{delivery}
 use Rattle.seq_engine.proofs.Sending.{copies_so_far, one_more}
 use Rattle.seq_engine.proofs.patchbay.send_copies.Goals as goal
 

@@ -2,7 +2,7 @@ use Rattle.std.proofs.Common.{◌≡◌, ◌++◌, take}
 use Rattle.std.specs.List.{filter_map}
 use Rattle.node_table.specs.declared.number.Addr.{Addr}
 use Rattle.patch_graph.specs.Index.{targets_of}
-use Rattle.seq_state.specs.Step.{delivery}
+use Rattle.seq_ports.specs.Step.{delivery}
 use Rattle.seq_engine.proofs.patchbay.send_copies.Given as goal
 
 abbrev pub invariant-loop-target : goal.invariant-loop-target

@@ -3,7 +3,7 @@ use Rattle.std.specs.Prelude.{nat_le}
 use Rattle.std.proofs.lemmas.Bool.{le-leb}
 use Rattle.std.proofs.lemmas.Bool.Decides.{nat_tests}
 use Rattle.patch_graph.specs.Edges.{has_edge, sources_of, most_sources}
-use Rattle.seq_state.specs.Own.{first_refusal}
+use Rattle.seq_ports.specs.Own.{first_refusal}
 use Rattle.seq_engine.proofs.refusals.connect.Goals as goal
 
 abbrev full : ℕ → ℕ × Bool

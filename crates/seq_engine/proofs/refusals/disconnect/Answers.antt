@@ -1,6 +1,6 @@
 use Rattle.std.proofs.Common.{Bool, [], ◌∷◌, not, sym, ap, ◌∙◌}
 use Rattle.patch_graph.specs.Edges.{has_edge}
-use Rattle.seq_state.specs.Own.{first_refusal}
+use Rattle.seq_ports.specs.Own.{first_refusal}
 use Rattle.seq_engine.proofs.refusals.disconnect.Goals as goal
 
 pub returns-in-Some : goal.returns-in-Some

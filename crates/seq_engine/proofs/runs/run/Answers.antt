@@ -1,14 +1,14 @@
 use Rattle.std.proofs.Common.{◌≡◌, ℕ, ◌+◌, ◌≤◌, ◌++◌, List, map, false, take, drop, get_or, [], ◌∷◌, ap, sym, ◌∙◌, arith}
-use Rattle.seq_state.specs.declared.input.Input.{Input}
+use Rattle.seq_ports.specs.declared.input.Input.{Input}
 use Rattle.seq_state.specs.declared.log.Delivery.{Delivery}
-use Rattle.seq_state.specs.declared.log.LogEntry.{LogEntry}
-use Rattle.seq_state.specs.declared.log.LogEntry.TheVariants.{Delivered, Replied}
-use Rattle.seq_state.specs.State.{State, start}
-use Rattle.seq_state.specs.Step.{step, settle, state_after, log_from, plain}
-use Rattle.seq_state.specs.Circle.{view}
-use Rattle.seq_state.specs.Heard.{port_of, port_bytes}
-use Rattle.seq_state.proofs.Heard.{port_bytes_law}
-use Rattle.seq_state.proofs.Kin.{isolation_law}
+use Rattle.seq_ports.specs.declared.log.LogEntry.{LogEntry}
+use Rattle.seq_ports.specs.declared.log.LogEntry.TheVariants.{Delivered, Replied}
+use Rattle.seq_ports.specs.State.{State, start}
+use Rattle.seq_ports.specs.Step.{step, settle, state_after, log_from, plain}
+use Rattle.seq_ports.specs.Circle.{view}
+use Rattle.seq_ports.specs.Heard.{port_of, port_bytes}
+use Rattle.seq_ports.proofs.Heard.{port_bytes_law}
+use Rattle.seq_ports.proofs.Kin.{isolation_law}
 use Rattle.seq_engine.specs.Seen.{Seen}
 use Rattle.seq_engine.proofs.Logs.{moment_after, moment_more, next_in_time, end_in_time, state_more, told_more, told_all}
 use Rattle.seq_engine.proofs.runs.run.Goals as goal

@@ -1,6 +1,6 @@
 use Rattle.std.proofs.Common.{◌≡◌, ◌++◌, false, drop, take}
-use Rattle.seq_state.specs.State.{start}
-use Rattle.seq_state.specs.Step.{state_after, log_from, plain}
+use Rattle.seq_ports.specs.State.{start}
+use Rattle.seq_ports.specs.Step.{state_after, log_from, plain}
 use Rattle.seq_engine.proofs.Logs.{moment_after}
 use Rattle.seq_engine.proofs.runs.run.Given as goal
 

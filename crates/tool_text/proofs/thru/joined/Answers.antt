@@ -1,7 +1,7 @@
 use Rattle.std.proofs.Common.{◌≡◌, [], ◌∷◌, ap, ◌∙◌}
 use Rattle.node_table.specs.declared.caps.Caps.{Caps}
-use Rattle.seq_state.specs.declared.input.Command.TheVariants.{CreatePort, Connect}
-use Rattle.seq_state.specs.Step.{port_addr}
+use Rattle.seq_ports.specs.declared.input.Command.TheVariants.{CreatePort, Connect}
+use Rattle.seq_ports.specs.Step.{port_addr}
 use Rattle.tool_text.proofs.Joined.{said_next, unwrapped, caps_unwrapped}
 use Rattle.tool_text.proofs.thru.joined.Goals as goal
 

@@ -1,10 +1,10 @@
 use Rattle.std.proofs.Common.{◌≡◌, ◌++◌, ℕ, List, ap, sym, subst, ◌∙◌}
 use Rattle.std.specs.List.{flat_map}
-use Rattle.seq_state.specs.declared.input.Command.TheVariants.{Bytes}
+use Rattle.seq_ports.specs.declared.input.Command.TheVariants.{Bytes}
 use Rattle.seq_state.specs.declared.log.Delivery.{Delivery}
-use Rattle.seq_state.specs.Rows.{at}
-use Rattle.seq_state.specs.State.{State}
-use Rattle.seq_state.specs.Step.{step}
+use Rattle.seq_ports.specs.Rows.{at}
+use Rattle.seq_ports.specs.State.{State}
+use Rattle.seq_ports.specs.Step.{step}
 use Rattle.seq_engine.specs.Seen.{Seen}
 use Rattle.tool_text.specs.Thru.{thru_line, stream_of, IsJoined}
 use Rattle.tool_text.proofs.Fed.{fed_delivers, fed_joined, fed_stream}

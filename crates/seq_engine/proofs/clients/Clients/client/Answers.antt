@@ -2,7 +2,7 @@ use Rattle.std.proofs.Common.{◌≡◌, ◌∙◌, ℕ, List, Some, ap, sym, su
 use Rattle.std.specs.Prelude.{slice_index_or}
 use Rattle.std.specs.Ordering.{nat_cmp}
 use Rattle.std.specs.FinMap as map
-use Rattle.seq_state.specs.State.{Client}
+use Rattle.seq_ports.specs.State.{Client}
 use Rattle.seq_engine.specs.Clients.{no_sizes, clients_seen}
 use Rattle.seq_engine.proofs.Keeping.{client_named, client_unnamed}
 use Rattle.seq_engine.proofs.clients.Clients.client.Goals as goal

@@ -1,7 +1,7 @@
 use Rattle.std.proofs.Common.{ap, ◌∙◌}
 use Rattle.std.specs.Ordering.{nat_cmp}
 use Rattle.std.specs.FinMap as map
-use Rattle.seq_state.specs.State.{Client}
+use Rattle.seq_ports.specs.State.{Client}
 use Rattle.seq_engine.specs.Clients.{clients_seen}
 use Rattle.seq_engine.proofs.Keeping.{Nodes, closed}
 use Rattle.seq_engine.proofs.clients.Clients.close.Goals as goal

@@ -2,13 +2,13 @@ use Rattle.std.proofs.Common.{◌≡◌, ap, ◌∙◌}
 use Rattle.std.specs.Prelude.{is_some}
 use Rattle.std.specs.Ordering.{nat_cmp}
 use Rattle.std.specs.FinMap as map
-use Rattle.seq_state.specs.State.{Client}
+use Rattle.seq_ports.specs.State.{Client}
 use Rattle.std.proofs.Common.{true, [], List, ℕ, subst}
 use Rattle.node_table.specs.Nodes.{with_node}
 use Rattle.node_table.specs.declared.number.Addr.{Addr}
-use Rattle.seq_state.specs.State.{PortInfo}
-use Rattle.seq_state.specs.Own.{changed, put_port}
-use Rattle.seq_state.specs.Step.{port_addr, put}
+use Rattle.seq_ports.specs.State.{PortInfo}
+use Rattle.seq_ports.specs.Own.{changed, put_port}
+use Rattle.seq_ports.specs.Step.{port_addr, put}
 use Rattle.seq_engine.specs.Clients.{clients_seen}
 use Rattle.seq_engine.proofs.Keeping.{Nodes, created}
 use Rattle.seq_engine.proofs.clients.Clients.create_port.Goals as goal

@@ -2,12 +2,12 @@ use Rattle.std.proofs.Common.{◌≡◌, ap, ◌∙◌}
 use Rattle.std.specs.Prelude.{is_some}
 use Rattle.std.specs.Ordering.{nat_cmp}
 use Rattle.std.specs.FinMap as map
-use Rattle.seq_state.specs.State.{Client}
+use Rattle.seq_ports.specs.State.{Client}
 use Rattle.node_table.specs.Nodes.{without_node}
 use Rattle.node_table.specs.declared.number.Addr.{Addr}
 use Rattle.std.proofs.Common.{true, subst}
-use Rattle.seq_state.specs.Own.{changed, drop_port}
-use Rattle.seq_state.specs.Step.{port_addr, put}
+use Rattle.seq_ports.specs.Own.{changed, drop_port}
+use Rattle.seq_ports.specs.Step.{port_addr, put}
 use Rattle.seq_engine.specs.Clients.{clients_seen}
 use Rattle.seq_engine.proofs.Keeping.{Nodes, deleted}
 use Rattle.seq_engine.proofs.clients.Clients.delete_port.Goals as goal

@@ -6,9 +6,9 @@ use Rattle.midi_wire.specs.Readings.{reading}
 use Rattle.node_table.specs.declared.number.Addr.{Addr}
 use Rattle.node_table.specs.Nodes.{node_at, with_body}
 use Rattle.std.specs.Option.{option_map}
-use Rattle.seq_state.specs.State.{Client}
-use Rattle.seq_state.specs.Own.{changed, feed_port, fed_of, has_port, port_of}
-use Rattle.seq_state.specs.Step.{put}
+use Rattle.seq_ports.specs.State.{Client}
+use Rattle.seq_ports.specs.Own.{changed, feed_port, fed_of, has_port, port_of}
+use Rattle.seq_ports.specs.Step.{put}
 use Rattle.seq_engine.specs.Clients.{clients_seen}
 use Rattle.seq_engine.proofs.Outcomes.{on_ok-map}
 use Rattle.seq_engine.proofs.Keeping.{fed, fed_there, none_there}

@@ -1,11 +1,11 @@
 use Rattle.std.proofs.Common.{◌≡◌, ap, sym, ◌∙◌}
 use Rattle.std.specs.Ordering.{nat_cmp}
 use Rattle.std.specs.FinMap as map
-use Rattle.seq_state.specs.State.{Client}
+use Rattle.seq_ports.specs.State.{Client}
 use Rattle.std.proofs.Common.{List, slice_set, arith}
 use Rattle.std.proofs.lemmas.Grind.{get_or-set_at}
 use Rattle.std.proofs.lemmas.List.{get_or-set_other}
-use Rattle.seq_state.specs.Own.{opened}
+use Rattle.seq_ports.specs.Own.{opened}
 use Rattle.seq_engine.specs.Clients.{no_sizes, clients_seen}
 use Rattle.seq_engine.specs.declared.clients.PoolSizes.{PoolSizes}
 use Rattle.seq_engine.proofs.Keeping.{Nodes, opened_one}

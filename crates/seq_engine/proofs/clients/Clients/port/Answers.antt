@@ -1,11 +1,11 @@
 use Rattle.std.proofs.Common.{ap, ◌∙◌}
 use Rattle.std.specs.Ordering.{nat_cmp}
 use Rattle.std.specs.FinMap as map
-use Rattle.seq_state.specs.State.{Client}
+use Rattle.seq_ports.specs.State.{Client}
 use Rattle.std.specs.Option.{option_map}
 use Rattle.node_table.specs.declared.number.Addr.{Addr}
 use Rattle.node_table.specs.Nodes.{node_at}
-use Rattle.seq_state.specs.Own.{port_of}
+use Rattle.seq_ports.specs.Own.{port_of}
 use Rattle.seq_engine.specs.Clients.{port_seen}
 use Rattle.seq_engine.proofs.Keeping.{get-port}
 use Rattle.seq_engine.proofs.clients.Clients.port.Goals as goal

@@ -1,15 +1,15 @@
 use Rattle.std.proofs.Common.{◌≡◌, ◌++◌, None, map, ap, subst, ◌∙◌}
 use Rattle.std.specs.FinMap
-use Rattle.seq_state.specs.declared.input.Command.TheVariants.{Bytes}
-use Rattle.seq_state.specs.State.{State}
-use Rattle.seq_state.specs.Step.{refusal_of, command_step}
+use Rattle.seq_ports.specs.declared.input.Command.TheVariants.{Bytes}
+use Rattle.seq_ports.specs.State.{State}
+use Rattle.seq_ports.specs.Step.{refusal_of, command_step}
 use Rattle.seq_engine.specs.declared.patchbay.StepOut.{StepOut}
 use Rattle.seq_engine.specs.Turns.{IsAnswer}
 use Rattle.std.proofs.Common.{true, List, ℕ, refl}
 use Rattle.midi_wire.specs.Readings.{reading}
-use Rattle.seq_state.specs.declared.log.Reply.TheVariants.{Messages}
-use Rattle.seq_state.specs.Own.{has_port, fed_of, port_of}
-use Rattle.seq_state.specs.Step.{sent}
+use Rattle.seq_ports.specs.declared.log.Reply.TheVariants.{Messages}
+use Rattle.seq_ports.specs.Own.{has_port, fed_of, port_of}
+use Rattle.seq_ports.specs.Step.{sent}
 use Rattle.seq_engine.proofs.Arms.{feeding, port_to_feed}
 use Rattle.seq_engine.proofs.patchbay.Patchbay.bytes.Goals as goal
 

@@ -1,7 +1,7 @@
 use Rattle.std.proofs.Common.{◌≡◌, None, subst}
-use Rattle.seq_state.specs.declared.input.Command.TheVariants.{Close}
-use Rattle.seq_state.specs.State.{State}
-use Rattle.seq_state.specs.Step.{refusal_of, command_step}
+use Rattle.seq_ports.specs.declared.input.Command.TheVariants.{Close}
+use Rattle.seq_ports.specs.State.{State}
+use Rattle.seq_ports.specs.Step.{refusal_of, command_step}
 use Rattle.seq_engine.specs.Turns.{IsAnswer}
 use Rattle.seq_engine.proofs.Arms.{closing}
 use Rattle.seq_engine.proofs.patchbay.Patchbay.close.Goals as goal

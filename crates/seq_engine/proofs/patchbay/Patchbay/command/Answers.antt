@@ -1,6 +1,6 @@
 use Rattle.std.proofs.Common.{ap, sym, ◌∙◌}
-use Rattle.seq_state.specs.State.{State}
-use Rattle.seq_state.specs.Step.{refusal_of}
+use Rattle.seq_ports.specs.State.{State}
+use Rattle.seq_ports.specs.Step.{refusal_of}
 use Rattle.seq_engine.proofs.Arms.{gives, not_refused}
 use Rattle.seq_engine.proofs.patchbay.Patchbay.command.Goals as goal
 

@@ -1,8 +1,8 @@
 use Rattle.std.proofs.Common.{◌≡◌, None, subst}
 use Rattle.std.specs.FinMap
-use Rattle.seq_state.specs.declared.input.Command.TheVariants.{CreatePort}
-use Rattle.seq_state.specs.State.{State}
-use Rattle.seq_state.specs.Step.{refusal_of, command_step}
+use Rattle.seq_ports.specs.declared.input.Command.TheVariants.{CreatePort}
+use Rattle.seq_ports.specs.State.{State}
+use Rattle.seq_ports.specs.Step.{refusal_of, command_step}
 use Rattle.seq_engine.specs.Turns.{IsAnswer}
 use Rattle.std.specs.Prelude.{IsSome}
 use Rattle.seq_engine.proofs.Arms.{creating, open_to_create}

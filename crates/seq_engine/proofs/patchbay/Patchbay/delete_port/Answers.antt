@@ -2,9 +2,9 @@ use Rattle.std.proofs.Common.{◌≡◌, None, true, not, subst}
 use Rattle.std.specs.Prelude.{is_some}
 use Rattle.std.specs.List.{filter}
 use Rattle.std.specs.FinMap
-use Rattle.seq_state.specs.declared.input.Command.TheVariants.{DeletePort}
-use Rattle.seq_state.specs.State.{State}
-use Rattle.seq_state.specs.Step.{refusal_of, command_step}
+use Rattle.seq_ports.specs.declared.input.Command.TheVariants.{DeletePort}
+use Rattle.seq_ports.specs.State.{State}
+use Rattle.seq_ports.specs.Step.{refusal_of, command_step}
 use Rattle.seq_engine.specs.Turns.{IsAnswer}
 use Rattle.seq_engine.proofs.Arms.{deleting, open_to_delete}
 use Rattle.node_table.specs.declared.number.Addr.{Addr}

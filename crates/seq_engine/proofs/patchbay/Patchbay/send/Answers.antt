@@ -1,11 +1,11 @@
 use Rattle.std.proofs.Common.{◌≡◌, ◌++◌, ap, ◌∙◌}
-use Rattle.seq_state.specs.State.{State}
+use Rattle.seq_ports.specs.State.{State}
 use Rattle.seq_engine.specs.declared.patchbay.StepOut.{StepOut}
 use Rattle.std.proofs.Common.{List, refl}
 use Rattle.node_table.specs.declared.number.Addr.{Addr}
 use Rattle.seq_state.specs.declared.log.Delivery.{Delivery}
-use Rattle.seq_state.specs.declared.log.Reply.TheVariants.{Done}
-use Rattle.seq_state.specs.Step.{copies, port_addr}
+use Rattle.seq_ports.specs.declared.log.Reply.TheVariants.{Done}
+use Rattle.seq_ports.specs.Step.{copies, port_addr}
 use Rattle.seq_engine.proofs.Arms.{sending}
 use Rattle.seq_engine.proofs.patchbay.Patchbay.send.Goals as goal
 

@@ -1,5 +1,5 @@
 use Rattle.std.proofs.Common.{◌≡◌, take, map}
-use Rattle.seq_state.specs.Step.{sent}
+use Rattle.seq_ports.specs.Step.{sent}
 use Rattle.seq_engine.proofs.patchbay.Patchbay.sent.Given as goal
 
 abbrev pub invariant-loop-message : goal.invariant-loop-message

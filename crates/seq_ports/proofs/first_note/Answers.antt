@@ -5,9 +5,9 @@ use Rattle.std.specs.FinMap
 use Rattle.midi_wire.specs.Messages.{begins}
 use Rattle.midi_wire.specs.Readings.{reading, rest}
 use Rattle.patch_graph.specs.Edges.{most_sources}
-use Rattle.seq_state.specs.Own.{own_command}
-use Rattle.seq_state.specs.State.{Client, PortInfo}
-use Rattle.seq_state.proofs.first_note.Goals as goal
+use Rattle.seq_ports.specs.Own.{own_command}
+use Rattle.seq_ports.specs.State.{Client, PortInfo}
+use Rattle.seq_ports.proofs.first_note.Goals as goal
 
 pub returns : goal.returns
 unfolding own_command most_sources reading rest begins

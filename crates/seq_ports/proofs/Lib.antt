@@ -1,0 +1,2 @@
+pub mod Kin
+pub mod Heard

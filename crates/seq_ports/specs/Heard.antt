@@ -1,0 +1,37 @@
+-- What came to a port, as one stream.
+use Rattle.std.specs.Prelude.{◌≡◌, ℕ, ◌==◌, Bool, ◌&&◌, if◌then◌else◌, List, Option, Some, None}
+use Rattle.std.specs.List.{filter_map}
+use Rattle.midi_wire.specs.Writings.{written}
+use Rattle.node_table.specs.declared.number.PortAddr.{PortAddr}
+use Rattle.seq_ports.specs.declared.input.Input.{Input}
+use Rattle.seq_state.specs.declared.log.Delivery.{Delivery}
+use Rattle.seq_ports.specs.declared.log.LogEntry.{LogEntry}
+use Rattle.seq_ports.specs.declared.log.LogEntry.TheVariants.{Delivered, Replied}
+use Rattle.seq_ports.specs.Step.{plain, IsTimed}
+use Rattle.seq_ports.specs.Circle.{only, is_to, IsClosed}
+
+abbrev pub port_of : ℕ → ℕ → PortAddr
+port_of client port = record { client = client; port = port }
+
+abbrev pub comes_to : PortAddr → Delivery → Bool
+comes_to port d = is_to port.client d && (d.target.port == port.port)
+
+-- the message of an entry, where it came to this port
+abbrev pub message_at : PortAddr → LogEntry → Option (List ℕ)
+message_at port (Delivered d) = if comes_to port d then Some d.message else None
+message_at port (Replied place moment client reply) = None
+
+-- the messages that came to a port
+abbrev pub messages_at : PortAddr → List LogEntry → List (List ℕ)
+messages_at port log = filter_map (message_at port) log
+
+-- their bytes as one stream writer writes them
+abbrev pub port_bytes : PortAddr → List LogEntry → List ℕ
+port_bytes port log = written (messages_at port log)
+
+-- what comes to a port of the owner of a closed circle, byte for byte, is what comes to it in the plain run of the circle's inputs alone
+abbrev pub PortBytesLaw : Type 0
+PortBytesLaw =
+    (owner : ℕ) (member : ℕ → Bool) (inputs : List Input) (end port : ℕ) →
+    IsTimed inputs end → IsClosed owner member inputs →
+    port_bytes (port_of owner port) (plain inputs end) ≡ port_bytes (port_of owner port) (plain (only member inputs) end)

@@ -1,0 +1,53 @@
+//! What holds of the step and of circles, for all lists of inputs. These functions do nothing: their contracts are the laws.
+
+ghost use Rattle.seq_state.specs.Circle.{IsolationLaw};
+ghost use Rattle.seq_state.specs.Heard.{PortBytesLaw};
+ghost use Rattle.seq_state.specs.Laws.{OneInputLaw, PathLaw, SettlingLaw, DueLaw, SortLaw, MeetLaw, RefusedLaw, AgreeLaw};
+
+/// What the owner of a closed circle sees of a run is what it sees of the plain run of the circle's inputs alone.
+pub fn circle_alone()
+    ensures { IsolationLaw }
+{}
+
+/// What comes to a port of the owner of a closed circle is, byte for byte, what comes to it in the plain run of the
+/// circle's inputs alone.
+pub fn circle_heard_alone()
+    ensures { PortBytesLaw }
+{}
+
+/// Where two lists of inputs agree in a closed circle, its owner sees the same, and the same bytes come to its ports.
+pub fn lists_that_agree()
+    ensures { AgreeLaw }
+{}
+
+/// Two states that are alike within a circle stay so, input by input, and the owner sees the same of both.
+pub fn one_input()
+    ensures { OneInputLaw }
+{}
+
+/// In a closed circle each path that ends at a port of the owner has all its nodes in the circle.
+pub fn paths_within()
+    ensures { PathLaw }
+{}
+
+/// Two circles closed round their owner meet in a circle closed round it: so there is a least.
+pub fn circles_meet()
+    ensures { MeetLaw }
+{}
+
+/// To settle up to a moment and then up to a later one is to settle up to the later one.
+pub fn settling_in_two()
+    ensures { SettlingLaw }
+{}
+
+/// What is due is sorted by moment, and within a moment by command and by place in the file: it is the stable sort of
+/// all events that have a moment, as far as it is due.
+pub fn due_in_order()
+    ensures moments { DueLaw }
+    ensures sort { SortLaw }
+{}
+
+/// A refused command leaves what settling left.
+pub fn refused_changes_nothing()
+    ensures { RefusedLaw }
+{}
