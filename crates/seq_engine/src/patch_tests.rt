@@ -321,3 +321,58 @@ fn sources_and_removal(rt: HostRuntime) -> Result<(), Fail> {
     assert_eq!(rt; log.listing.as_slice(), listed.as_slice());
     Ok(())
 }
+
+fn open_sized(
+    alloc: Global,
+    moment: u64,
+    actor: u8,
+    name: &[u8],
+    in_size: u32,
+    out_size: u32,
+) -> Result<Input, Fail> {
+    let name = items(alloc, name)?;
+    said(
+        moment,
+        actor,
+        Command::Open {
+            name,
+            in_size,
+            out_size,
+        },
+    )
+}
+
+/// Of several refusals that stand, the one with the lowest number is the reply.
+#[test]
+fn lowest_refusals(rt: HostRuntime) -> Result<(), Fail> {
+    let alloc = rt.alloc();
+    let mut inputs = Vec::new(alloc);
+    inputs.push(close(0, 128)?)?;
+    inputs.push(open_sized(alloc, 0, 128, b"a", 0, 8)?)?;
+    inputs.push(open_sized(alloc, 0, 128, b"a", 8, 8)?)?;
+    inputs.push(open_sized(alloc, 0, 128, b"a", 0, 8)?)?;
+    inputs.push(create(alloc, 0, 128, 0, b"o", 33)?)?;
+    inputs.push(create(alloc, 0, 128, 0, b"o", 33)?)?;
+    inputs.push(delete(0, 128, 1)?)?;
+    inputs.push(connect(0, 128, port_at(128, 1)?, port_at(128, 2)?)?)?;
+    let long = b"nnnnnnnnnnnnnnnnnnnnnnnnnnnnnnnnn";
+    inputs.push(create(alloc, 1, 128, 2, long.as_slice(), 33)?)?;
+    inputs.push(create(alloc, 1, 128, 2, &long[..32], 33)?)?;
+    let inputs = inputs.as_slice();
+    assert!(rt; is_timed(inputs, 1));
+    let log = run(alloc, inputs, 1)?;
+    let wanted = [
+        Reply::Refused(1),
+        Reply::Refused(4),
+        Reply::Done,
+        Reply::Refused(2),
+        Reply::Done,
+        Reply::Refused(6),
+        Reply::Refused(7),
+        Reply::Refused(8),
+        Reply::Refused(3),
+        Reply::Done,
+    ];
+    assert_replies(&rt, &log, &wanted);
+    Ok(())
+}

@@ -27,7 +27,7 @@ pub(crate) fn said(moment: u64, actor: u8, command: Command) -> Result<Input, Fa
     })
 }
 
-fn items(alloc: Global, bytes: &[u8]) -> Result<Items<u8>, Fail> {
+pub(crate) fn items(alloc: Global, bytes: &[u8]) -> Result<Items<u8>, Fail> {
     Ok(Items::new(Vec::from_slice(alloc, bytes)?))
 }
 
