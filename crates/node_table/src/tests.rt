@@ -55,6 +55,19 @@ fn numbers_have_limits(rt: HostRuntime) {
 }
 
 #[test]
+fn each_place_has_an_address(rt: HostRuntime) {
+    for place in 0..PLACES {
+        if let Some(addr) = addr_at(place) {
+            assert_eq!(rt; place_of(&addr), place);
+            assert_eq!(rt; addr.is_filter(), place % 32 >= 16);
+        }
+    }
+    assert_eq!(rt; place_of(&port(&rt, 128, 0)), 0);
+    assert_eq!(rt; place_of(&filter(&rt, 191, 15)), 2047);
+    assert!(rt; addr_at(PLACES).is_none());
+}
+
+#[test]
 fn addresses_print(rt: HostRuntime) -> Result<(), Fail> {
     assert_eq!(rt;
         format!(in rt.alloc(); "{}", port(&rt, 128, 0))?.as_str(),

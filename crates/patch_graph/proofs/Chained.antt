@@ -1,6 +1,5 @@
 -- What filters reach through filters.
-use Rattle.std.proofs.Common.{◌≡◌, ◌⊎◌, ◌↔◌, inl, inr, ℕ, Bool, true, false, ◌&&◌, ◌||◌, List, [], ◌∷◌, ◌++◌, refl, ap, sym, subst, ◌∙◌, arith}
-use Rattle.std.specs.List.{list_all, list_any}
+use Rattle.std.proofs.Common.{◌≡◌, ◌⊎◌, ◌↔◌, inl, inr, Bool, true, false, ◌&&◌, ◌||◌, List, [], ◌∷◌, ◌++◌, refl, ap, sym, subst, ◌∙◌, arith}
 use Rattle.std.proofs.lemmas.Bool.{false≢true, or_cases}
 use Rattle.std.proofs.lemmas.List.Folds.{list_any-append}
 use Rattle.node_table.specs.Addresses.{same, is_filter}
@@ -9,7 +8,7 @@ use Rattle.patch_graph.specs.declared.edge.Edge.{Edge}
 use Rattle.patch_graph.specs.Edges.{edge, is_edge, has_edge}
 use Rattle.patch_graph.specs.Chains.{is_chain, are_edges, Reaches, joined, makes_cycle, JoinedLaw}
 use Rattle.patch_graph.proofs.Lists.{both_left, both_right, and_both, both_ways}
-use Rattle.patch_graph.proofs.Same.{same-is, same-refl, same-from, same-swap}
+use Rattle.patch_graph.proofs.Same.{same-is, same-refl, same-from}
 
 -- a is b, or reaches it
 abbrev pub Joins : List Edge → Addr → Addr → Type 0

@@ -1,10 +1,10 @@
 -- How a graph's index follows its edges.
-use Rattle.std.proofs.Common.{◌≡◌, ◌≢◌, ◌⊎◌, inl, inr, ℕ, ◌+◌, ◌-◌, ◌<◌, ◌≤◌, Bool, true, false, not, cond, if◌then◌else◌, ◌&&◌, ◌||◌, List, [], ◌∷◌, ◌++◌, map, length, get_or, set, refl, ap, sym, subst, ◌∙◌, arith}
-use Rattle.std.specs.List.{filter, list_any}
+use Rattle.std.proofs.Common.{◌≡◌, inl, inr, ℕ, ◌+◌, ◌-◌, ◌<◌, ◌≤◌, Bool, true, false, not, cond, if◌then◌else◌, ◌&&◌, ◌||◌, List, [], ◌∷◌, ◌++◌, map, length, get_or, set, refl, ap, sym, subst, ◌∙◌, arith}
+use Rattle.std.specs.List.{filter}
 use Rattle.std.specs.Set.{remove_key}
 use Rattle.indexmap.specs.IndexSet.{insert_key}
 use Rattle.patch_graph.specs.contracts.edge.EdgePartialEq.TheImpl.{eq-value as edge_value}
-use Rattle.std.proofs.lemmas.Bool.{false≢true, cases_eq, or_cases}
+use Rattle.std.proofs.lemmas.Bool.{false≢true, cases_eq}
 use Rattle.std.proofs.lemmas.List.{get_or-set_same, get_or-set_other, length-set, length-append, length-map, map-append, map-set, get_or-map}
 use Rattle.std.proofs.Math.Seq.{map-set_same}
 use Rattle.std.proofs.lemmas.List.Elements.{filter-append}
@@ -14,10 +14,10 @@ use Rattle.node_table.specs.Kept.{IsPlace}
 use Rattle.node_table.specs.declared.number.Addr.{Addr}
 use Rattle.patch_graph.specs.declared.edge.Edge.{Edge}
 use Rattle.patch_graph.specs.Edges.{edge, is_edge, has_edge, without_edge, sources_of, most_sources}
-use Rattle.patch_graph.specs.Chains.{is_chain, are_edges, Reaches, makes_cycle}
+use Rattle.patch_graph.specs.Chains.{is_chain, are_edges, makes_cycle}
 use Rattle.patch_graph.specs.Index.{targets_of, is_distinct, IsGraph, IsIndexed}
 use Rattle.patch_graph.proofs.Lists.{both_left, both_right, and_both, not_by, not_true, refuted, filter-all, filter-agree, filter-none, filter-outside, list_any-filter, length-filter_filter, filter-mapped}
-use Rattle.patch_graph.proofs.Same.{same-is, same-refl, same-from, same-swap, same-sym, differ, place-is, is-place, place-below, any_edge}
+use Rattle.patch_graph.proofs.Same.{same-is, same-refl, same-from, same-sym, differ, place-is, is-place, place-below, any_edge}
 use Rattle.patch_graph.proofs.Chained.{acyclic-added, acyclic-fewer}
 
 -- ---- one edge more
@@ -217,10 +217,11 @@ module _ {V : Type 0} (items : V → List Addr) (ts : List V) (counts : List ℕ
   disconnected es s t r p q u d v k e there at to left =
       let gone : without_edge edges s t ≡ es = sym (e ∙ removed_is edges s t k.0.distinct) in
       let rest : items v ≡ filter (λ x. not (same t x)) (get_or (map items ts) p []) = left ∙ ap (filter (λ x. not (same t x))) (at_place k.1 s r p d at) in
-      let table : set (map items ts) p (filter (λ x. not (same t x)) (get_or (map items ts) p [])) ≡ map items (set ts p v) = ap (set (map items ts) p) (sym rest) ∙ sym (map-set items ts p v) in
-      (subst IsGraph gone (graph-filter (λ e. not (is_edge s t e)) edges k.0),
-      subst (λ x. IsIndexed x (map items (set ts p v)) (set counts u (get_or counts u 0 - 1))) gone
-      (subst (λ x. IsIndexed (without_edge edges s t) x (set counts u (get_or counts u 0 - 1))) table (indexed-removed edges s t (map items ts) counts r p q u k.1 k.0.distinct there at to)))
+      let table : set (map items ts) p (filter (λ x. not (same t x)) (get_or (map items ts) p [])) ≡ map items (set ts p v) = ap (set (map items ts) p) (sym rest) ∙ sym (map-set items ts p v) in (
+        subst IsGraph gone (graph-filter (λ e. not (is_edge s t e)) edges k.0),
+        subst (λ x. IsIndexed x (map items (set ts p v)) (set counts u (get_or counts u 0 - 1))) gone
+            (subst (λ x. IsIndexed (without_edge edges s t) x (set counts u (get_or counts u 0 - 1))) table (indexed-removed edges s t (map items ts) counts r p q u k.1 k.0.distinct there at to)),
+      )
 
   pub some_source : Kept → (s t : Addr) (q u : ℕ) → IsPlace t q u → has_edge edges s t ≡ true → 1 ≤ get_or counts u 0
   some_source k s t q u to there =
@@ -232,10 +233,11 @@ module _ {V : Type 0} (items : V → List Addr) (ts : List V) (counts : List ℕ
       items v ≡ items (get_or ts p d) ++ t ∷ [] → IsGraph es × IsIndexed es (map items (set ts p v)) (set counts u (get_or counts u 0 + 1))
   connected es s t r p q u d v k e fresh room clear at to more =
       let rest : items v ≡ get_or (map items ts) p [] ++ t ∷ [] = more ∙ ap (λ xs. xs ++ t ∷ []) (at_place k.1 s r p d at) in
-      let table : set (map items ts) p (get_or (map items ts) p [] ++ t ∷ []) ≡ map items (set ts p v) = ap (set (map items ts) p) (sym rest) ∙ sym (map-set items ts p v) in
-      (subst IsGraph (sym e) (graph-added edges s t k.0 fresh room clear),
-      subst (λ x. IsIndexed x (map items (set ts p v)) (set counts u (get_or counts u 0 + 1))) (sym e)
-      (subst (λ x. IsIndexed (edges ++ edge s t ∷ []) x (set counts u (get_or counts u 0 + 1))) table (indexed-added edges s t (map items ts) counts r p q u k.1 at to)))
+      let table : set (map items ts) p (get_or (map items ts) p [] ++ t ∷ []) ≡ map items (set ts p v) = ap (set (map items ts) p) (sym rest) ∙ sym (map-set items ts p v) in (
+        subst IsGraph (sym e) (graph-added edges s t k.0 fresh room clear),
+        subst (λ x. IsIndexed x (map items (set ts p v)) (set counts u (get_or counts u 0 + 1))) (sym e)
+            (subst (λ x. IsIndexed (edges ++ edge s t ∷ []) x (set counts u (get_or counts u 0 + 1))) table (indexed-added edges s t (map items ts) counts r p q u k.1 at to)),
+      )
 
   -- a vector that has the same items in the place of one
   pub same_items : (p : ℕ) (d v : V) → items v ≡ items (get_or ts p d) → map items (set ts p v) ≡ map items ts
@@ -273,9 +275,10 @@ swept_index items edges es old ts counts counts' p h e long swept count_long cou
 -- a vector with more room
 pub reserved : {V : Type 0} (items : V → List Addr) (ts : List V) (counts : List ℕ) (edges es : List Edge) (p : ℕ) (d v : V) → IsGraph edges × IsIndexed edges (map items ts) counts → es ≡ edges → items v ≡ items (get_or ts p d) →
     IsGraph es × IsIndexed es (map items (set ts p v)) counts
-reserved items ts counts edges es p d v k e same =
-    (subst IsGraph (sym e) k.0,
-    subst (λ x. IsIndexed x (map items (set ts p v)) counts) (sym e) (subst (λ t. IsIndexed edges t counts) (sym (same_items items ts counts edges p d v same)) k.1))
+reserved items ts counts edges es p d v k e same = (
+  subst IsGraph (sym e) k.0,
+  subst (λ x. IsIndexed x (map items (set ts p v)) counts) (sym e) (subst (λ t. IsIndexed edges t counts) (sym (same_items items ts counts edges p d v same)) k.1),
+)
 
 pub inserted_is : (edges : List Edge) (s t : Addr) → has_edge edges s t ≡ false → insert_key edge_value.it edges (edge s t) ≡ edges ++ edge s t ∷ []
 inserted_is edges s t fresh = ap (λ b. if b then edges else edges ++ edge s t ∷ []) (any_edge s t edges ∙ fresh)

@@ -5,3 +5,6 @@ pub mod Indexed
 pub mod Marks
 pub mod Swept
 pub mod Searched
+pub mod Coming
+pub mod Walked
+pub mod Ended

@@ -1,9 +1,10 @@
 -- Filters of lists.
-use Rattle.std.proofs.Common.{◌≡◌, ℕ, zero, suc, take, ◌≤◌, Bool, true, false, not, cond, ◌&&◌, ◌||◌, List, [], ◌∷◌, ◌++◌, map, length, refl, sym, ap, ◌∙◌, arith}
+use Rattle.std.proofs.Common.{◌≡◌, ℕ, zero, suc, take, ◌≤◌, Bool, true, false, not, cond, ◌&&◌, List, [], ◌∷◌, ◌++◌, map, length, refl, sym, ap, ◌∙◌, arith}
 use Rattle.std.proofs.Common.{Option, None, Some, Bor, get_or, ltb}
 use Rattle.std.specs.Prelude.{is_some, IfSome, if◌then◌else◌}
 use Rattle.std.specs.Option.{option_copied}
-use Rattle.std.specs.List.{filter, list_any, list_all, slice_get}
+use Rattle.std.specs.List.{filter, list_any, list_all, flat_map, slice_get}
+use Rattle.std.proofs.lemmas.List.Elements.{filter-append}
 use Rattle.std.proofs.lemmas.Bool.{false≢true}
 use Rattle.std.proofs.lemmas.Bool.Decides.{nat_tests}
 use Rattle.std.proofs.lemmas.Option.{slice_get_past, slice_get-get_or}
@@ -95,3 +96,23 @@ both_ways true true h k = refl
 both_ways false false h k = refl
 both_ways true false h k = sym (h refl)
 both_ways false true h k = k refl
+
+pub filter-map : {X Y : Type 0} (p : Y → Bool) (f : X → Y) (xs : List X) → filter p (map f xs) ≡ map f (filter (λ x. p (f x)) xs)
+filter-map p f [] = refl
+filter-map p f (x ∷ xs) = grind (arith, filter-map p f xs)
+
+pub filter-flat_map : {X Y : Type 0} (p : Y → Bool) (f : X → List Y) (xs : List X) → filter p (flat_map f xs) ≡ flat_map (λ x. filter p (f x)) xs
+filter-flat_map p f [] = refl
+filter-flat_map p f (x ∷ xs) = filter-append p (f x) (flat_map f xs) ∙ ap (λ ys. filter p (f x) ++ ys) (filter-flat_map p f xs)
+
+pub filter-false : {X : Type 0} (xs : List X) → filter (λ x. false) xs ≡ []
+filter-false [] = refl
+filter-false (x ∷ xs) = filter-false xs
+
+pub flat_map-agree : {X Y : Type 0} (f g : X → List Y) → ((x : X) → f x ≡ g x) → (xs : List X) → flat_map f xs ≡ flat_map g xs
+flat_map-agree f g h [] = refl
+flat_map-agree f g h (x ∷ xs) = cc (h x, flat_map-agree f g h xs)
+
+pub flat_map-none : {X Y : Type 0} (f : X → List Y) → ((x : X) → f x ≡ []) → (xs : List X) → flat_map f xs ≡ []
+flat_map-none f h [] = refl
+flat_map-none f h (x ∷ xs) = ap (λ ys. ys ++ flat_map f xs) (h x) ∙ flat_map-none f h xs

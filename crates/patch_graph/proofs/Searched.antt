@@ -1,20 +1,19 @@
 -- A search through filters: what it has found is reached, and in the end nothing else is.
-use Rattle.std.proofs.Common.{◌≡◌, ◌⊎◌, ◌↔◌, inl, inr, ℕ, zero, suc, ◌+◌, ◌<◌, ◌≤◌, Bool, true, false, cond, if◌then◌else◌, ◌&&◌, ◌||◌, List, [], ◌∷◌, ◌++◌, map, length, Option, Some, None, refl, ap, sym, subst, ◌∙◌, arith}
-use Rattle.std.specs.List.{filter, list_any, fold, slice_get}
-use Rattle.std.proofs.lemmas.Bool.{false≢true, or_cases, cases_eq, cases_lt}
+use Rattle.std.proofs.Common.{◌≡◌, ◌⊎◌, ◌↔◌, inl, inr, ℕ, zero, suc, ◌+◌, ◌<◌, ◌≤◌, Bool, true, false, cond, if◌then◌else◌, ◌&&◌, ◌||◌, List, [], ◌∷◌, ◌++◌, map, length, Some, None, refl, ap, sym, subst, ◌∙◌, arith}
+use Rattle.std.specs.List.{filter, list_any, slice_get}
+use Rattle.std.proofs.lemmas.Bool.{false≢true, or_cases, cases_lt}
 use Rattle.std.proofs.lemmas.List.{length-append}
 use Rattle.std.proofs.lemmas.List.Folds.{list_any-append}
-use Rattle.std.proofs.lemmas.Option.{slice_get-get_or, slice_get_within}
+use Rattle.std.proofs.lemmas.Option.{slice_get_within}
 use Rattle.node_table.specs.Addresses.{same, is_filter}
 use Rattle.node_table.specs.declared.number.Addr.{Addr}
 use Rattle.patch_graph.specs.declared.edge.Edge.{Edge}
-use Rattle.patch_graph.specs.Edges.{is_edge, has_edge}
+use Rattle.patch_graph.specs.Edges.{has_edge}
 use Rattle.patch_graph.specs.Chains.{Reaches}
 use Rattle.patch_graph.specs.Index.{targets_of}
 use Rattle.patch_graph.specs.Found.{with_found, with_filters}
-use Rattle.patch_graph.proofs.Lists.{and_both}
 use Rattle.patch_graph.proofs.Same.{same-is, same-refl, same-from}
-use Rattle.patch_graph.proofs.Chained.{IsHop, Joins, one_hop, reach_on, along_reached, reach_start, reach_end}
+use Rattle.patch_graph.proofs.Chained.{IsHop, one_hop, reach_on, along_reached, reach_end}
 
 abbrev pub In : Addr → List Addr → Type 0
 In x xs = list_any (same x) xs ≡ true

@@ -1,15 +1,15 @@
 -- A pass over the targets of all nodes, and a count of all sources.
-use Rattle.std.proofs.Common.{◌≡◌, ◌≢◌, inl, inr, ℕ, ◌+◌, ◌<◌, ◌≤◌, Bool, List, [], ◌∷◌, ◌++◌, map, length, take, get_or, set, refl, ap, sym, subst, ◌∙◌, arith}
+use Rattle.std.proofs.Common.{◌≡◌, inl, inr, ℕ, ◌+◌, ◌<◌, ◌≤◌, Bool, List, [], ◌∷◌, ◌++◌, map, length, take, get_or, set, refl, ap, sym, subst, ◌∙◌, arith}
 use Rattle.std.specs.List.{filter}
-use Rattle.std.proofs.lemmas.Bool.{cases_eq, cases_lt}
-use Rattle.std.proofs.lemmas.List.{get_or-set_same, get_or-set_other, length-set, length-map, map-set, get_or-map, take_more, take_all}
+use Rattle.std.proofs.lemmas.Bool.{cases_eq}
+use Rattle.std.proofs.lemmas.List.{get_or-set_same, get_or-set_other, length-set, length-map, map-set, get_or-map, take_more}
 use Rattle.node_table.specs.Addresses.{same}
 use Rattle.node_table.specs.Kept.{IsPlace}
 use Rattle.node_table.specs.declared.number.Addr.{Addr}
 use Rattle.patch_graph.specs.declared.edge.Edge.{Edge}
-use Rattle.patch_graph.specs.Edges.{edge, sources_of, most_sources}
+use Rattle.patch_graph.specs.Edges.{sources_of, most_sources}
 use Rattle.patch_graph.proofs.Lists.{length-filter-take}
-use Rattle.patch_graph.proofs.Same.{place-is, place-below, is-place, same-from, differ}
+use Rattle.patch_graph.proofs.Same.{place-is}
 use Rattle.patch_graph.proofs.Indexed.{counts-added}
 
 -- the places before this one are swept, and the others are as they were

@@ -1,5 +1,5 @@
 -- Addresses that a search has found, each once, in the order in which they were found.
-use Rattle.std.specs.Prelude.{◌≡◌, ℕ, ◌+◌, Bool, true, false, cond, if◌then◌else◌, List, [], ◌∷◌, ◌++◌, length, take, slice_index_or}
+use Rattle.std.specs.Prelude.{◌≡◌, ℕ, ◌+◌, Bool, false, cond, if◌then◌else◌, List, [], ◌∷◌, ◌++◌, length, take, slice_index_or}
 use Rattle.std.specs.List.{list_any, fold}
 use Rattle.node_table.specs.Addresses.{same, is_filter}
 use Rattle.node_table.specs.Kept.{IsPlace}

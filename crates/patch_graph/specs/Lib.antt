@@ -4,3 +4,4 @@ pub mod Chains
 pub mod Index
 pub mod Found
 pub mod Removal
+pub mod Cursor

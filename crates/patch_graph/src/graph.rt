@@ -90,6 +90,10 @@ impl PatchGraph {
         }
     }
 
+    pub(crate) fn alloc(&self) -> Global {
+        self.alloc
+    }
+
     pub fn has_edge(&self, source: &Addr, target: &Addr) -> bool
         ensures { result ≡ has_edge self.now source.now target.now }
     {

@@ -8,9 +8,13 @@ mod graph;
 mod laws;
 mod path;
 mod removal;
+mod route;
+#[cfg(test)]
+mod tests;
 
 pub use edge::Edge;
 pub use fault::EdgeFault;
 pub use graph::{MOST_SOURCES, PatchGraph};
 pub use laws::joined_is_reached;
 pub use path::Path;
+pub use route::{HOPS, Route, Routes};

@@ -7,6 +7,9 @@ pub mod Kin
 pub mod Run
 pub mod Heard
 pub mod Sorted
+pub mod Rising
+pub mod Bounds
+pub mod Cycles
 pub mod Worked
 pub mod Refused
 pub mod EqualMoments
@@ -17,8 +20,11 @@ pub mod ThirdClients
 pub mod DeletedPort
 pub mod SharedQueue
 pub mod Examples
+pub mod Conditions
 pub mod PlayedFile
 pub mod DroppedOutput
 pub mod ChangedFilter
 pub mod QueueClock
 pub mod ClosedClient
+pub mod CountedFrames
+pub mod RestartedQueue

@@ -15,7 +15,7 @@ use Rattle.seq_state.specs.declared.log.LogEntry.{LogEntry}
 use Rattle.seq_state.specs.declared.log.LogEntry.TheVariants.{Delivered, Replied}
 use Rattle.seq_state.specs.declared.log.Reply.TheVariants.{Done}
 use Rattle.seq_state.specs.State.{State, Client, start}
-use Rattle.seq_state.specs.Own.{Own, own_command, kept, opened, new_queue}
+use Rattle.seq_state.specs.Own.{Own, own_command, kept, opened}
 use Rattle.seq_state.specs.Step.{settle, connected, connect_refusal, port_addr, step, log_from, with_own}
 use Rattle.seq_state.specs.Rows.{song, at, caps, queue_at, note, came, waits}
 use Rattle.seq_state.proofs.Worked.{to, settled_to, moved, with_own-moved, own-step, patch-step, log-step, log-end, settle-sorted, settle-still, clock-moment, ways, paths-ways, finds}
@@ -56,7 +56,7 @@ abbrev i2 : Input
 i2 = at 0 128 (CreateQueueFrom 0 0)
 
 abbrev a2 : Client
-a2 = record a1 { queues = FinMap.insert a1.queues 0 (new_queue 480 500000) }
+a2 = record a1 { queues = FinMap.insert a1.queues 0 (record { clock = record { map = two_a_second; time = 0; since = None }; shared = false }) }
 
 abbrev o2 : Own
 o2 = kept (Some a2) Done

@@ -158,6 +158,10 @@ pub tick-at_first : tick_at two_a_second 0 ≡ 0
 unfolding nanos_at numerator duration tempo_or resolution
 tick-at_first = ticks_come_back_exactly two_a_second 0 (omega arith) (omega arith) (omega arith)
 
+pub tick-at_one : tick_at two_a_second 1041667 ≡ 1
+unfolding nanos_at numerator duration tempo_or resolution
+tick-at_one = ticks_come_back_exactly two_a_second 1 (omega arith) (omega arith) (omega arith)
+
 -- tick 2 comes half a tick sooner where the tempo doubles at tick 1
 pub tick-at_second : tick_at (changed two_a_second 1 250000) 1562500 ≡ 2
 unfolding nanos_at numerator duration tempo_or resolution

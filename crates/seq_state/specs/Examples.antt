@@ -7,7 +7,7 @@ use Rattle.tempo_clock.specs.Entries.{smpte_word}
 use Rattle.tempo_clock.specs.declared.due.Due.TheVariants.{Nanos}
 use Rattle.route_filter.specs.Laws.{open_rule}
 use Rattle.patch_graph.specs.Edges.{edge}
-use Rattle.seq_state.specs.declared.input.Command.TheVariants.{Open, Close, CreatePort, DeletePort, CreateFilter, Connect, Disconnect, CreateQueue, Start, Stop, Tempo, QueueStatus, Schedule, Play, Receive}
+use Rattle.seq_state.specs.declared.input.Command.TheVariants.{Open, Close, CreatePort, DeletePort, CreateFilter, Connect, Disconnect, CreateQueue, Start, Stop, Schedule, Play}
 use Rattle.seq_state.specs.declared.input.DueAt.TheVariants as due_at
 use Rattle.seq_state.specs.declared.input.Input.{Input}
 use Rattle.seq_state.specs.declared.log.Reply.TheVariants.{Refused}
@@ -17,8 +17,8 @@ use Rattle.seq_state.specs.Files.{File}
 use Rattle.seq_state.specs.Refusals.{number_of}
 use Rattle.seq_state.specs.State.{PortInfo, FilterInfo, Queue, Client, Pool, State, start}
 use Rattle.seq_state.specs.Own.{new_queue}
-use Rattle.seq_state.specs.Step.{step, port_addr}
-use Rattle.seq_state.specs.Rows.{at, caps, filter_addr, queue_at, note}
+use Rattle.seq_state.specs.Step.{offer, step, port_addr}
+use Rattle.seq_state.specs.Rows.{at, caps, filter_addr, queue_at, note, came, waits}
 
 -- ---- the states
 
@@ -43,7 +43,7 @@ running = record { clock = record { map = (new_queue 96 500000).clock.map; time 
 abbrev pub of_frames : Queue
 of_frames = record { clock = record { map = record { division = smpte_word 25 40; entries = [] }; time = 0; since = None }; shared = false }
 
--- a client with so many ports, two filters and three queues, and room for one event
+-- a client with so many ports, two filters and four queues, and room for one event
 abbrev pub player : ℕ → Client
 player n =
     record {
@@ -52,7 +52,7 @@ player n =
       out_size = 1;
       ports = out_ports n;
       filters = FinMap.insert (FinMap.insert FinMap.empty 0 thru) 1 thru;
-      queues = FinMap.insert (FinMap.insert (FinMap.insert FinMap.empty 0 (new_queue 96 500000)) 1 running) 2 of_frames;
+      queues = FinMap.insert (FinMap.insert (FinMap.insert (FinMap.insert FinMap.empty 0 (new_queue 96 500000)) 1 running) 2 of_frames) 4 (new_queue 480 500000);
     }
 
 abbrev pub listener : Client
@@ -132,11 +132,10 @@ pub record EachRefusal : Type 0 where
   -- the present of the queue is 1
   pub bad_time : Refuses studio (at 1 128 (Schedule (queue_at 128 1) 0 (due_at.NanosAfter (2 ^ 64 - 1)) (note 60))) refusal.BadTime
   pub out_full : Refuses waiting (at 0 128 (Schedule (queue_at 128 0) 0 (due_at.Nanos 9) (note 60))) refusal.OutFull
-  -- more of a command's ways to be refused: what is taken at once, ticks per quarter note, and a tempo where frames are counted
-  pub takes_none : Refuses studio (at 0 128 (Receive 0)) refusal.BadSize
-  pub no_ticks : Refuses studio (at 0 128 (CreateQueue 3 32768 500000)) refusal.BadSize
-  pub no_tempo : Refuses studio (at 0 128 (Tempo (queue_at 128 2) 500000)) refusal.BadTempo
-  -- a queue of another's that is there and not shared
-  pub asks_of_a_private_queue : Refuses studio (at 0 129 (QueueStatus (queue_at 128 0))) refusal.NotYours
-  pub schedules_on_a_private_queue : Refuses studio (at 0 129 (Schedule (queue_at 128 0) 0 (due_at.Nanos 9) (note 60))) refusal.NotYours
-  pub plays_on_a_private_queue : Refuses studio (at 0 129 (Play (queue_at 128 0) 0 0)) refusal.NotYours
+
+-- a full pool whose count of lost messages has come to its greatest value stays as it is
+abbrev pub worn_out : Pool
+worn_out = record { size = 1; waiting = waits 0 0 (note 60) ∷ []; lost = 18446744073709551615 }
+
+abbrev pub LostStays : Type 0
+LostStays = offer (Some worn_out) (came 1 128 0 (note 61)) ≡ Some worn_out

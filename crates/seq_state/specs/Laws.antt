@@ -1,17 +1,24 @@
 -- What follows of the step and of circles, for all states and all lists of inputs.
-use Rattle.std.specs.Prelude.{Option, Some, None, if◌then◌else◌, nat_le, ◌≡◌, ℕ, ◌==◌, ◌≤◌, Bool, true, false, ◌&&◌, IsTrue, IsFalse, List, [], ◌∷◌, ◌++◌, map}
+use Rattle.std.specs.Prelude.{Option, Some, None, if◌then◌else◌, nat_le, nat_lt, length, ◌≡◌, ℕ, ◌==◌, ◌≤◌, ◌<◌, Bool, true, false, ◌&&◌, IsTrue, IsFalse, List, [], ◌∷◌, ◌++◌, map}
 use Rattle.std.specs.List.{filter, filter_map, flat_map, list_all}
 use Rattle.std.specs.Ordering.{nat_cmp}
 use Rattle.std.specs.FinMap
 use Rattle.std.specs.FinMap.{FinMap}
+use Rattle.tempo_clock.specs.Laws.{IsToldBy}
+use Rattle.tempo_clock.specs.Ticks.{resolution}
+use Rattle.patch_graph.specs.Chains.{makes_cycle}
+use Rattle.patch_graph.specs.Edges.{has_edge, sources_of, most_sources}
 use Rattle.patch_graph.specs.Paths.{end_of, paths}
 use Rattle.node_table.specs.declared.number.Addr.{Addr}
 use Rattle.patch_graph.specs.declared.edge.Edge.{Edge}
 use Rattle.seq_state.specs.declared.input.Input.{Input}
+use Rattle.seq_state.specs.declared.log.Delivery.{Delivery}
+use Rattle.seq_state.specs.declared.log.LogEntry.{LogEntry}
 use Rattle.seq_state.specs.declared.log.LogEntry.TheVariants.{Delivered, Replied}
 use Rattle.seq_state.specs.Files.{File}
-use Rattle.seq_state.specs.State.{Client, Event, Pending, State, start}
-use Rattle.seq_state.specs.Step.{event_moment, step, Stepped, settle, Settled, state_after, Timed, due, all_at, IsRefusal, IsTimed, plain}
+use Rattle.seq_state.specs.State.{Pool, queues_of, Queue, Client, Event, Pending, State, start}
+use Rattle.seq_state.specs.Own.{out_size}
+use Rattle.seq_state.specs.Step.{used, event_moment, step, Stepped, settle, Settled, state_after, Timed, due, all_at, IsRefusal, IsTimed, plain}
 use Rattle.seq_state.specs.Circle.{is_inner, view, Sight, IsClosed, inner_node, only}
 use Rattle.seq_state.specs.Heard.{port_of, port_bytes}
 
@@ -127,3 +134,70 @@ AgreeLaw =
     only member inputs ≡ only member others →
     (view owner member inputs (plain files inputs end) ≡ view owner member others (plain files others end))
     × ((port : ℕ) → port_bytes (port_of owner port) (plain files inputs end) ≡ port_bytes (port_of owner port) (plain files others end))
+
+-- ---- the moments of a log
+
+abbrev pub delivery_in : LogEntry → Option Delivery
+delivery_in (Delivered d) = Some d
+delivery_in (Replied place moment client reply) = None
+
+abbrev pub deliveries_of : List LogEntry → List Delivery
+deliveries_of log = filter_map delivery_in log
+
+-- none comes before one with an earlier moment
+abbrev pub NeverFall : List Delivery → Type 0
+NeverFall [] = Unit {0}
+NeverFall (d ∷ ds) = (list_all (λ e. nat_le d.moment e.moment) ds ≡ true) × NeverFall ds
+
+-- a file whose division has ticks, as each division that a file may have
+abbrev pub has_ticks : File → Bool
+has_ticks f = nat_lt 0 (resolution (record { division = f.division; entries = f.entries }))
+
+-- the moments of what is delivered never fall
+abbrev pub RisingLaw : Type 0
+RisingLaw = (files : List File) (inputs : List Input) (end : ℕ) → list_all has_ticks files ≡ true → IsTimed inputs end → NeverFall (deliveries_of (plain files inputs end))
+
+-- ---- what holds of each state of a run
+
+-- not before m, if there is a moment
+abbrev pub from_now : ℕ → Option ℕ → Bool
+from_now m None = true
+from_now m (Some k) = nat_le m k
+
+-- no event of the playback has a moment before m
+abbrev pub is_fresh : FinMap nat_cmp Client → ℕ → Pending → Bool
+is_fresh clients m p = list_all (λ e. from_now m (event_moment clients p e)) p.playback.events
+
+-- Each queue has ticks and was told of no later moment, and nothing that is pending has an earlier one.
+pub record Ready (s : State) (now : ℕ) : Type 0 where
+  pub ticks : (c n : ℕ) (q : Queue) → FinMap.get (queues_of (FinMap.get s.clients c)) n ≡ Some q → 0 < resolution q.clock.map
+  pub told : (c n : ℕ) (q : Queue) → FinMap.get (queues_of (FinMap.get s.clients c)) n ≡ Some q → IsToldBy q.clock now
+  pub fresh : list_all (is_fresh s.clients now) s.pending ≡ true
+
+-- so it is at first, and stays so
+pub record ReadyLaw : Type 0 where
+  pub at_first : Ready start 0
+  pub settled : (s : State) (now m : ℕ) → now ≤ m → Ready s now → Ready (settle s m).state m
+  pub stepped : (files : List File) → list_all has_ticks files ≡ true → (s : State) (now : ℕ) (i : Input) → now ≤ i.moment → Ready s now → Ready (step files s i).state i.moment
+
+-- No input pool has more than it has room for, no client more to send than its output pool, and no node more sources than a node may have.
+pub record Bounded (s : State) : Type 0 where
+  pub waiting : (c : ℕ) (p : Pool) → FinMap.get s.pools c ≡ Some p → length p.waiting ≤ p.size
+  pub used : (c : ℕ) → used s c ≤ out_size (FinMap.get s.clients c)
+  pub sources : (a : Addr) → sources_of s.edges a ≤ most_sources
+
+-- so it is at first, and stays so
+pub record BoundsLaw : Type 0 where
+  pub at_first : Bounded start
+  pub settled : (s : State) (m : ℕ) → Bounded s → Bounded (settle s m).state
+  pub stepped : (files : List File) (s : State) (i : Input) → Bounded s → Bounded (step files s i).state
+
+-- none of the edges closes a chain of filters that comes back to its beginning
+abbrev pub NoCycles : List Edge → Type 0
+NoCycles edges = (source target : Addr) → has_edge edges source target ≡ true → makes_cycle edges source target ≡ false
+
+-- so it is at first, and stays so
+pub record CycleLaw : Type 0 where
+  pub at_first : NoCycles start.edges
+  pub settled : (s : State) (m : ℕ) → NoCycles s.edges → NoCycles (settle s m).state.edges
+  pub stepped : (files : List File) (s : State) (i : Input) → NoCycles s.edges → NoCycles (step files s i).state.edges

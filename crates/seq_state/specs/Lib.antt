@@ -10,3 +10,4 @@ pub mod Heard
 pub mod Laws
 pub mod Rows
 pub mod Examples
+pub mod Conditions

@@ -1,5 +1,7 @@
 -- Worked runs, with their logs written out by hand. Beside each stands what it shows, and a wrong reading that it refuses.
 use Rattle.std.specs.Prelude.{◌≡◌, ◌==◌, ◌||◌, ℕ, pos, negsuc, true, false, List, [], ◌∷◌, codes}
+use Rattle.tempo_clock.specs.Entries.{smpte_word}
+use Rattle.tempo_clock.specs.Ticks.{Tempos}
 use Rattle.route_filter.specs.Worked.{moved_by}
 use Rattle.node_table.specs.declared.caps.Caps.{Caps}
 use Rattle.node_table.specs.declared.number.Addr.{Addr}
@@ -45,6 +47,13 @@ waits moment port message = record { moment = moment; port = port; message = mes
 -- one bar of a file, with 480 ticks per quarter note
 abbrev pub song : File
 song = record { division = 480; entries = record { tick = 0; tempo = 500000 } ∷ []; events = record { tick = 0; message = note 0x3C } ∷ record { tick = 480; message = 0x90 ∷ 0x3C ∷ 0x00 ∷ [] } ∷ [] }
+
+-- the same at 25 frames per second with 40 ticks each, and no tempo
+abbrev pub frames : Tempos
+frames = record { division = smpte_word 25 40; entries = [] }
+
+abbrev pub frames_song : File
+frames_song = record { division = frames.division; entries = frames.entries; events = song.events }
 
 -- ---- the runs
 
@@ -260,6 +269,39 @@ ClosedClient =
     ∷ Replied 6 0 129 Done ∷ Replied 7 0 129 Done ∷ Replied 8 0 129 Done ∷ Replied 9 0 130 Done ∷ Replied 10 0 130 Done ∷ Replied 11 1 129 Done
     ∷ Replied 12 1 130 Done ∷ Replied 13 10 128 Done ∷ Replied 14 20 128 (Refused 1) ∷ Replied 15 20 130 (Pools 0 0 0) ∷ Replied 16 30 128 Done
     ∷ Replied 17 30 128 (Pools 0 0 0) ∷ Replied 18 30 128 (Refused 7) ∷ Delivered (came 40 129 0 (note 0x03)) ∷ Replied 19 40 130 Done ∷ []
+
+-- A file counts frames. Its ticks come at the frames' pace, a tempo is refused on a queue that is made from it, and it can't be
+-- played on a queue of quarter notes.
+abbrev pub counted_frames : List Input
+counted_frames =
+    at 0 128 (Open (codes "a") 8 8) ∷ at 0 128 (CreatePort 0 (codes "out") (caps 33)) ∷ at 0 128 (CreateQueueFrom 0 0)
+    ∷ at 0 128 (Play (queue_at 128 0) 0 0) ∷ at 0 128 (Tempo (queue_at 128 0) 250000) ∷ at 0 128 (CreateQueue 1 480 500000)
+    ∷ at 0 128 (Play (queue_at 128 1) 0 0) ∷ at 0 129 (Open (codes "b") 8 8) ∷ at 0 129 (CreatePort 0 (codes "in") (caps 66))
+    ∷ at 0 129 (Connect (port_addr 128 0) (port_addr 129 0)) ∷ at 1 128 (Start (queue_at 128 0)) ∷ []
+
+abbrev pub CountedFrames : Type 0
+CountedFrames =
+    plain (frames_song ∷ []) counted_frames 600000000 ≡
+    Replied 0 0 128 Done ∷ Replied 1 0 128 Done ∷ Replied 2 0 128 Done ∷ Replied 3 0 128 Done ∷ Replied 4 0 128 (Refused 22) ∷ Replied 5 0 128 Done
+    ∷ Replied 6 0 128 (Refused 21) ∷ Replied 7 0 129 Done ∷ Replied 8 0 129 Done ∷ Replied 9 0 129 Done ∷ Replied 10 1 128 Done
+    ∷ Delivered (came 1 129 0 (note 0x3C)) ∷ Delivered (came 480000001 129 0 (0x90 ∷ 0x3C ∷ 0x00 ∷ [])) ∷ []
+
+-- A queue that was held is started again: it runs from 0, not from where it was held. Ticks after the present are counted from
+-- the last tick that has come.
+abbrev pub restarted_queue : List Input
+restarted_queue =
+    at 0 128 (Open (codes "a") 8 8) ∷ at 0 128 (CreatePort 0 (codes "out") (caps 33)) ∷ at 0 128 (CreateQueue 0 480 500000)
+    ∷ at 0 128 (Start (queue_at 128 0)) ∷ at 0 129 (Open (codes "b") 8 8) ∷ at 0 129 (CreatePort 0 (codes "in") (caps 66))
+    ∷ at 0 129 (Connect (port_addr 128 0) (port_addr 129 0)) ∷ at 100 128 (Stop (queue_at 128 0)) ∷ at 200 128 (Start (queue_at 128 0))
+    ∷ at 200 128 (Schedule (queue_at 128 0) 0 (due_at.Nanos 50) (note 0x01))
+    ∷ at 1041867 128 (Schedule (queue_at 128 0) 0 (due_at.TickAfter 1) (note 0x02)) ∷ []
+
+abbrev pub RestartedQueue : Type 0
+RestartedQueue =
+    plain [] restarted_queue 2100000 ≡
+    Replied 0 0 128 Done ∷ Replied 1 0 128 Done ∷ Replied 2 0 128 Done ∷ Replied 3 0 128 Done ∷ Replied 4 0 129 Done ∷ Replied 5 0 129 Done
+    ∷ Replied 6 0 129 Done ∷ Replied 7 100 128 Done ∷ Replied 8 200 128 Done ∷ Replied 9 200 128 Done ∷ Delivered (came 250 129 0 (note 0x01))
+    ∷ Replied 10 1041867 128 Done ∷ Delivered (came 2083534 129 0 (note 0x02)) ∷ []
 
 -- ---- circles round 129
 

@@ -2,7 +2,7 @@
 
 ghost use Rattle.seq_state.specs.Circle.{IsolationLaw};
 ghost use Rattle.seq_state.specs.Heard.{PortBytesLaw};
-ghost use Rattle.seq_state.specs.Laws.{OneInputLaw, PathLaw, SettlingLaw, DueLaw, SortLaw, MeetLaw, RefusedLaw, AgreeLaw};
+ghost use Rattle.seq_state.specs.Laws.{OneInputLaw, PathLaw, SettlingLaw, DueLaw, SortLaw, MeetLaw, RefusedLaw, AgreeLaw, RisingLaw, ReadyLaw, BoundsLaw, CycleLaw};
 
 /// What the owner of a closed circle sees of a run is what it sees of the plain run of the circle's inputs alone.
 pub fn circle_alone()
@@ -50,4 +50,26 @@ pub fn due_in_order()
 /// A refused command leaves what settling left.
 pub fn refused_changes_nothing()
     ensures { RefusedLaw }
+{}
+
+/// In the log of a well-timed list the moments of the deliveries never fall.
+pub fn moments_never_fall()
+    ensures { RisingLaw }
+{}
+
+/// In each state of a well-timed run every queue has ticks and shows no more than the moment, and nothing pending is late:
+/// what the calls of a queue's clock ask of their caller.
+pub fn queues_keep_up()
+    ensures { ReadyLaw }
+{}
+
+/// In each state of a run no input pool has more than it has room for, no client has more to send than its output pool, and
+/// no node has more sources than a node may have.
+pub fn bounds_hold()
+    ensures { BoundsLaw }
+{}
+
+/// In each state of a run no chain of filters comes back to its beginning.
+pub fn filters_make_no_cycle()
+    ensures { CycleLaw }
 {}

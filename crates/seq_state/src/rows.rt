@@ -1,8 +1,9 @@
 //! Runs worked out step by step from the definitions. These functions do nothing: their contracts are the runs and their
 //! logs.
 
-ghost use Rattle.seq_state.specs.Examples.{EachRefusal};
-ghost use Rattle.seq_state.specs.Rows.{Circles, EqualMoments, CopiesByEdgeAge, InputOverflow, OutputFull, ThirdClients, DeletedPort, SharedQueue, PlayedFile, DroppedOutput, ChangedFilter, QueueClock, ClosedClient};
+ghost use Rattle.seq_state.specs.Conditions.{EachCondition};
+ghost use Rattle.seq_state.specs.Examples.{EachRefusal, LostStays};
+ghost use Rattle.seq_state.specs.Rows.{Circles, EqualMoments, CopiesByEdgeAge, InputOverflow, OutputFull, ThirdClients, DeletedPort, SharedQueue, PlayedFile, DroppedOutput, ChangedFilter, QueueClock, ClosedClient, CountedFrames, RestartedQueue};
 
 /// Two clients each schedule a note for 100, the one with the greater number first. At equal moments the events come in the
 /// order of their commands, and with their own moment, not by client number nor with the moment of the settling step.
@@ -75,6 +76,18 @@ pub fn closed_client()
     ensures { ClosedClient }
 {}
 
+/// A file counts frames. Its ticks come at the frames' pace, a tempo is refused on a queue that is made from it, and it can't be
+/// played on a queue of quarter notes.
+pub fn counted_frames()
+    ensures { CountedFrames }
+{}
+
+/// A queue that was held is started again: it runs from 0, not from where it was held. Ticks after the present are counted from
+/// the last tick that has come.
+pub fn restarted_queue()
+    ensures { RestartedQueue }
+{}
+
 /// Circles of those runs that are closed, and some that are not.
 pub fn circles_of_runs()
     ensures { Circles }
@@ -83,4 +96,14 @@ pub fn circles_of_runs()
 /// For each refusal a command that gets it for its answer; of several that apply, the one with the lowest number.
 pub fn each_refusal()
     ensures { EachRefusal }
+{}
+
+/// A full pool whose count of lost messages has come to its greatest value stays as it is.
+pub fn lost_count_stays()
+    ensures { LostStays }
+{}
+
+/// For each command and each refusal of its row a case in which that is the answer.
+pub fn each_condition()
+    ensures { EachCondition }
 {}

@@ -1,8 +1,8 @@
-use Rattle.std.proofs.Common.{◌≤◌, take, get_or, subst, sym, ap, arith, ◌∙◌}
+use Rattle.std.proofs.Common.{◌≤◌, get_or, subst, ap, arith, ◌∙◌}
 use Rattle.std.proofs.lemmas.List.{take_all}
 use Rattle.node_table.specs.Kept.{IsPlace}
 use Rattle.patch_graph.specs.Edges.{sources_of, most_sources}
-use Rattle.patch_graph.proofs.Swept.{counted-start, counted-more, below_most}
+use Rattle.patch_graph.proofs.Swept.{counted-more, below_most}
 use Rattle.patch_graph.proofs.graph.count_sources.Goals as goal
 
 pub overflow_add-counts : goal.overflow_add-counts

@@ -1,4 +1,4 @@
-use Rattle.std.proofs.Common.{◌≡◌, refl, ◌≤◌, ◌<◌, ◌++◌, [], ◌∷◌, false, get_or, ap, subst, sym, arith, ◌∙◌}
+use Rattle.std.proofs.Common.{◌≡◌, refl, ◌<◌, ◌++◌, [], ◌∷◌, false, get_or, ap, subst, sym, arith, ◌∙◌}
 use Rattle.std.specs.Prelude.{IsOk}
 use Rattle.std.proofs.lemmas.Grind.{common_steps}
 use Rattle.patch_graph.specs.Edges.{edge, sources_of, has_edge, most_sources}

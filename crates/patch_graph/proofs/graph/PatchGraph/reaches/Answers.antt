@@ -1,4 +1,4 @@
-use Rattle.std.proofs.Common.{◌≡◌, ◌<◌, length, true, refl, ap, sym, arith, ◌∙◌}
+use Rattle.std.proofs.Common.{◌<◌, length, ap, sym, arith, ◌∙◌}
 use Rattle.std.proofs.lemmas.Bool.{false≢true}
 use Rattle.std.proofs.lemmas.Option.{slice_get_within}
 use Rattle.patch_graph.specs.Found.{with_filters}

@@ -1,4 +1,4 @@
-use Rattle.std.proofs.Common.{◌≡◌, ◌≤◌, ap, sym, subst, ◌∙◌}
+use Rattle.std.proofs.Common.{◌≤◌, ap, sym, subst, ◌∙◌}
 use Rattle.patch_graph.specs.Edges.{sources_of, most_sources}
 use Rattle.patch_graph.proofs.graph.PatchGraph.sources.Goals as goal
 

@@ -1,0 +1,329 @@
+-- Nothing grows past its bound.
+use Rattle.std.proofs.Common.{◌≡◌, ◌≤◌, ◌<◌, ℕ, zero, suc, ◌+◌, Bool, true, false, not, cond, eqb, ◌&&◌, ◌||◌, ◌⊎◌, inl, inr, List, [], ◌∷◌, ◌++◌, map, length, drop, Option, Some, None, refl, sym, ap, subst, ◌∙◌, arith}
+use Rattle.std.specs.Prelude.{nat_le, nat_lt, is_some, ◌==◌, min}
+use Rattle.std.specs.List.{filter, flat_map}
+use Rattle.std.specs.Ordering.{nat_cmp}
+use Rattle.std.specs.FinMap
+use Rattle.std.specs.FinMap.{FinMap}
+use Rattle.std.proofs.lemmas.Bool.Decides.{nat_tests}
+use Rattle.std.proofs.lemmas.Bool.{false≢true, eqb-true, ltb-true, leb-false}
+use Rattle.std.proofs.lemmas.List.{length-append, length-drop, length-map}
+use Rattle.tempo_clock.specs.Clocks.{started, stopped, resumed, with_tempo}
+use Rattle.node_table.specs.Names.{is_name}
+use Rattle.node_table.specs.Addresses.{same, same_node}
+use Rattle.node_table.specs.declared.number.Addr.{Addr}
+use Rattle.node_table.specs.declared.number.Node.{Node}
+use Rattle.node_table.specs.declared.number.Node.TheVariants.{Port, Filter}
+use Rattle.patch_graph.specs.Edges.{edge, is_edge, has_edge, sources_of, most_sources}
+use Rattle.patch_graph.specs.Chains.{makes_cycle}
+use Rattle.seq_state.specs.declared.input.Command.{Command}
+use Rattle.seq_state.specs.declared.input.Command.TheVariants.{Open, Close, CreatePort, DeletePort, CreateFilter, SetFilter, DeleteFilter, Connect, Disconnect, Bytes, CreateQueue, CreateQueueFrom, DeleteQueue, Start, Stop, Continue, Tempo, Share, Schedule, Play, Receive, PoolStatus}
+use Rattle.seq_state.specs.declared.input.QueueAddr.{QueueAddr}
+use Rattle.seq_state.specs.declared.log.Arrival.{Arrival}
+use Rattle.seq_state.specs.declared.log.Delivery.{Delivery}
+use Rattle.seq_state.specs.Files.{File}
+use Rattle.seq_state.specs.State.{PortInfo, FilterInfo, Queue, Client, Pool, Playback, Pending, State, start, put}
+use Rattle.seq_state.specs.Own.{is_size, not_open, no_port, not_visible, none_named, queue_is, passes_end, has_division, first_refusal, Own, Row, changed, out_size, put_port, put_filter, put_queue, port_fed, port_of, filter_ruled, filter_of, queue_of, queue_map, clocked, new_queue, file_queue, file_at, own_command, received, receive_refusal, status_refusal, queue_named}
+use Rattle.seq_state.specs.Step.{most_lost, offer, offered, playback_after, is_left, due, event_copies, settle, without_due, Stepped, used, loses, drops, pending_of, named_queue, with_own, send_copies, unless, after_own, caps_at, permitted, connect_refusal, disconnect_refusal, connected, row_of, command_step}
+use Rattle.seq_state.specs.Laws.{Bounded, BoundsLaw}
+use Rattle.seq_state.proofs.Lists.{both_left, both_right, filter-append, filter-map, filter-filter, filter-apart}
+use Rattle.seq_state.proofs.Kin.{get-put}
+
+-- ---- lengths
+
+fewer : {X : Type 0} (p : X → Bool) (xs : List X) → length (filter p xs) ≤ length xs
+fewer p [] = omega arith
+fewer p (x ∷ xs) = grind (arith, fewer p xs)
+
+fewer-filtered : {X : Type 0} (p q : X → Bool) (xs : List X) → length (filter p (filter q xs)) ≤ length (filter p xs)
+fewer-filtered p q xs = subst (λ ys. length ys ≤ length (filter p xs)) (sym (filter-filter p q xs)) (fewer q (filter p xs))
+
+none-of : {X : Type 0} (p q : X → Bool) → ((x : X) → p x ≡ true → q x ≡ false) → (xs : List X) → filter p (filter q xs) ≡ []
+none-of p q h xs = filter-apart p q (λ x a b. false≢true (sym (h x a) ∙ b)) xs
+
+-- ---- input pools
+
+abbrev FitsPool : Option Pool → Type 0
+FitsPool o = (p : Pool) → o ≡ Some p → length p.waiting ≤ p.size
+
+none_some : {X : Type 0} (x : X) → None ≡ Some x → ⊥
+none_some x e = cc
+
+some_pool : (p q : Pool) → ◌≡◌ {A = Option Pool} (Some p) (Some q) → p ≡ q
+some_pool p q e = ap unwrapped e
+  where
+    unwrapped : Option Pool → Pool
+    unwrapped None = p
+    unwrapped (Some x) = x
+
+fits-some : (p : Pool) → length p.waiting ≤ p.size → FitsPool (Some p)
+fits-some p h q e = subst (λ (x : Pool). length x.waiting ≤ x.size) (some_pool p q e) h
+
+choose : (b : Bool) (x y : Pool) → (b ≡ true → length x.waiting ≤ x.size) → length y.waiting ≤ y.size → FitsPool (Some (cond b x y))
+choose true x y h k = fits-some x (h refl)
+choose false x y h k = fits-some y k
+
+fits-offer : (o : Option Pool) (d : Delivery) → FitsPool o → FitsPool (offer o d)
+fits-offer None d h = h
+fits-offer (Some p) d h =
+    let came : Arrival = record { moment = d.moment; port = d.target.port; message = d.message } in
+    choose (nat_lt (length p.waiting) p.size) (record p { waiting = p.waiting ++ came ∷ [] }) (record p { lost = min (p.lost + 1) most_lost })
+    (λ e. let l : length p.waiting < p.size = ltb-true (length p.waiting) p.size e in omega (arith, length-append p.waiting (came ∷ []))) (h p refl)
+
+fits-put : (pools : FinMap nat_cmp Pool) (k : ℕ) (o : Option Pool) → ((c : ℕ) → FitsPool (FinMap.get pools c)) → FitsPool o → (c : ℕ) → FitsPool (FinMap.get (put pools k o) c)
+fits-put pools k o h f c = subst (λ x. FitsPool x) (sym (get-put pools k o c)) (go (eqb c k))
+  where
+    go : (b : Bool) → FitsPool (cond b o (FinMap.get pools c))
+    go true = f
+    go false = h c
+
+fits-offered : (pools : FinMap nat_cmp Pool) (ds : List Delivery) → ((c : ℕ) → FitsPool (FinMap.get pools c)) → (c : ℕ) → FitsPool (FinMap.get (offered pools ds) c)
+fits-offered pools [] h c = h c
+fits-offered pools (d ∷ ds) h c =
+    let o : Option Pool = offer (FinMap.get pools d.target.client) d in
+    fits-offered (put pools d.target.client o) ds (fits-put pools d.target.client o h (fits-offer (FinMap.get pools d.target.client) d (h d.target.client))) c
+
+fits-received : (max : ℕ) (o : Option Pool) → FitsPool o → FitsPool (received max o).pool
+fits-received max None h = h
+fits-received max (Some p) h = let l : length p.waiting ≤ p.size = h p refl in fits-some (record p { waiting = drop max p.waiting }) (omega (arith, length-drop max p.waiting))
+
+-- ---- what is used
+
+abbrev mine : ℕ → Pending → Bool
+mine c p = eqb p.client c
+
+used-settled : (s : State) (m c : ℕ) → used (without_due s m) c ≤ used s c
+used-settled s m c =
+    let f : Pending → Pending = playback_after s.clients m in
+    omega (arith, fewer-filtered (mine c) is_left (map f s.pending), ap length (filter-map (mine c) f s.pending), length-map (filter (mine c) s.pending) f)
+
+-- what a row leaves of what is used, and of the pool
+record Fits (used : ℕ) (client : Option Client) (own : Own) : Type 0 where
+  room : (used ≤ out_size client → length own.added + used ≤ out_size own.client) ⊎ ((own.added ≡ []) × ((p : Playback) → own.dropped p ≡ true))
+  pool : (o : Option Pool) → FitsPool o → FitsPool (own.pool o)
+
+same-size : (client : Option Client) (f : Client → Client) → ((c : Client) → (f c).out_size ≡ c.out_size) → out_size (changed client f) ≡ out_size client
+same-size None f h = refl
+same-size (Some c) f h = h c
+
+put_port-size : (n : ℕ) (o : Option PortInfo) (c : Client) → (put_port n o c).out_size ≡ c.out_size
+put_port-size n None c = refl
+put_port-size n (Some p) c = refl
+
+put_filter-size : (n : ℕ) (o : Option FilterInfo) (c : Client) → (put_filter n o c).out_size ≡ c.out_size
+put_filter-size n None c = refl
+put_filter-size n (Some f) c = refl
+
+put_queue-size : (n : ℕ) (o : Option Queue) (c : Client) → (put_queue n o c).out_size ≡ c.out_size
+put_queue-size n None c = refl
+put_queue-size n (Some q) c = refl
+
+nothing-added : (n : ℕ) (client : Option Client) (f : Client → Client) → ((c : Client) → (f c).out_size ≡ c.out_size) → n ≤ out_size client → zero + n ≤ out_size (changed client f)
+nothing-added n client f h l = omega (arith, same-size client f h)
+
+pub last_fails : (rs : List (ℕ × Bool)) (n : ℕ) (b : Bool) → first_refusal (rs ++ (n, b) ∷ []) ≡ None → b ≡ false
+last_fails [] n true e = absurd cc
+last_fails [] n false e = refl
+last_fails (r ∷ rs) n b e = go r.1 e (last_fails rs n b)
+  where
+    go : (x : Bool) → cond x (Some r.0) (first_refusal (rs ++ (n, b) ∷ [])) ≡ None → (first_refusal (rs ++ (n, b) ∷ []) ≡ None → b ≡ false) → b ≡ false
+    go true e more = absurd cc
+    go false e more = more e
+
+one-added : (n m : ℕ) → (n == m) ≡ false → n ≤ m → suc zero + n ≤ m
+one-added n m e l = grind (arith, nat_tests)
+
+fits : (files : List File) (moment actor : ℕ) (client : Option Client) (named : Option Queue) (n : ℕ) (command : Command) →
+    (own_command files moment actor client named n command).refusal ≡ None → Fits n client (own_command files moment actor client named n command).own
+unfolding own_command
+fits files m actor client named n (Open name in_size size) r = record { room = inl (go client r); pool = λ o h. fits-some (record { size = in_size; waiting = []; lost = 0 }) (omega arith) }
+  where
+    go : (c : Option Client) → first_refusal ((2, is_some c) ∷ (3, not (is_name name)) ∷ (4, not (is_size in_size && is_size size)) ∷ []) ≡ None → n ≤ out_size c → zero + n ≤ size
+    go None e h = omega arith
+    go (Some c) e h = absurd cc
+fits files m actor client named n Close r = record { room = inr (refl, λ p. refl); pool = λ o h p e. absurd (none_some p e) }
+fits files m actor client named n (CreatePort port name caps) r =
+    let info : Option PortInfo = Some (record { name = name; caps = caps; fed = [] }) in
+    record { room = inl (nothing-added n client (put_port port info) (put_port-size port info)); pool = λ o h. h }
+fits files m actor client named n (DeletePort port) r = record { room = inl (nothing-added n client (put_port port None) (put_port-size port None)); pool = λ o h. h }
+fits files m actor client named n (CreateFilter f caps rule) r =
+    let info : Option FilterInfo = Some (record { caps = caps; rule = rule }) in
+    record { room = inl (nothing-added n client (put_filter f info) (put_filter-size f info)); pool = λ o h. h }
+fits files m actor client named n (SetFilter f rule) r =
+    let info : Option FilterInfo = filter_ruled rule (filter_of client f) in
+    record { room = inl (nothing-added n client (put_filter f info) (put_filter-size f info)); pool = λ o h. h }
+fits files m actor client named n (DeleteFilter f) r = record { room = inl (nothing-added n client (put_filter f None) (put_filter-size f None)); pool = λ o h. h }
+fits files m actor client named n (Bytes port bytes) r =
+    let info : Option PortInfo = port_fed bytes (port_of client port) in
+    record { room = inl (nothing-added n client (put_port port info) (put_port-size port info)); pool = λ o h. h }
+fits files m actor client named n (CreateQueue q ppq tempo) r = record { room = inl (nothing-added n client (put_queue q (Some (new_queue ppq tempo))) (put_queue-size q (Some (new_queue ppq tempo)))); pool = λ o h. h }
+fits files m actor client named n (CreateQueueFrom q file) r = record { room = inl (nothing-added n client (put_queue q (file_queue (file_at files file))) (put_queue-size q (file_queue (file_at files file)))); pool = λ o h. h }
+fits files m actor client named n (DeleteQueue q) r = record { room = inl (nothing-added n client (put_queue q.queue None) (put_queue-size q.queue None)); pool = λ o h. h }
+fits files m actor client named n (Start q) r =
+    let x : Option Queue = queue_map (clocked (λ c. started c m)) (queue_of client q.queue) in
+    record { room = inl (nothing-added n client (put_queue q.queue x) (put_queue-size q.queue x)); pool = λ o h. h }
+fits files m actor client named n (Stop q) r =
+    let x : Option Queue = queue_map (clocked (λ c. stopped c m)) (queue_of client q.queue) in
+    record { room = inl (nothing-added n client (put_queue q.queue x) (put_queue-size q.queue x)); pool = λ o h. h }
+fits files m actor client named n (Continue q) r =
+    let x : Option Queue = queue_map (clocked (λ c. resumed c m)) (queue_of client q.queue) in
+    record { room = inl (nothing-added n client (put_queue q.queue x) (put_queue-size q.queue x)); pool = λ o h. h }
+fits files m actor client named n (Tempo q tempo) r =
+    let x : Option Queue = queue_map (clocked (λ c. with_tempo c m tempo)) (queue_of client q.queue) in
+    record { room = inl (nothing-added n client (put_queue q.queue x) (put_queue-size q.queue x)); pool = λ o h. h }
+fits files m actor client named n (Share q) r =
+    let x : Option Queue = queue_map (λ y. record y { shared = true }) (queue_of client q.queue) in
+    record { room = inl (nothing-added n client (put_queue q.queue x) (put_queue-size q.queue x)); pool = λ o h. h }
+fits files m actor client named n (Schedule q port d message) r =
+    let rs : List (ℕ × Bool) = not_open client ∷ no_port client port ∷ not_visible actor q named ∷ none_named named ∷ (23, queue_is (passes_end m d) named) ∷ [] in
+    record { room = inl (one-added n (out_size client) (last_fails rs 24 (n == out_size client) r)); pool = λ o h. h }
+fits files m actor client named n (Play q port file) r =
+    let f : Option File = file_at files file in
+    let rs : List (ℕ × Bool) = not_open client ∷ no_port client port ∷ not_visible actor q named ∷ none_named named ∷ (20, not (is_some f)) ∷ (21, not (has_division named f)) ∷ [] in
+    record { room = inl (one-added n (out_size client) (last_fails rs 24 (n == out_size client) r)); pool = λ o h. h }
+fits files m actor client named n command r = record { room = inl (λ h. omega arith); pool = λ o h. h }
+
+-- ---- after a command of the actor's own
+
+module _ (s : State) (actor : ℕ) (q : Option QueueAddr) (own : Own) (b : Bounded s) (a : Fits (used s actor) (FinMap.get s.clients actor) own) where
+  abbrev stays : Pending → Bool
+  stays p = not (drops actor own p)
+
+  abbrev new : List Pending
+  new = filter is_left (map (pending_of actor q) own.added)
+
+  few-kept : (c : ℕ) → length (filter (mine c) (filter stays s.pending)) ≤ used s c
+  few-kept c = fewer-filtered (mine c) stays s.pending
+
+  few-new : (c : ℕ) → length (filter (mine c) new) ≤ length own.added
+  few-new c = omega (arith, fewer (mine c) new, fewer is_left (map (pending_of actor q) own.added), length-map own.added (pending_of actor q))
+
+  counted : (c : ℕ) → used (with_own s actor q own) c ≡ length (filter (mine c) (filter stays s.pending)) + length (filter (mine c) new)
+  counted c = ap length (filter-append (mine c) (filter stays s.pending) new) ∙ length-append (filter (mine c) (filter stays s.pending)) (filter (mine c) new)
+
+  others-new : (c : ℕ) → eqb c actor ≡ false → length (filter (mine c) new) ≡ zero
+  others-new c h = ap length (filter-filter (mine c) is_left (map (pending_of actor q) own.added) ∙ ap (filter is_left) (filter-map (mine c) (pending_of actor q) own.added ∙ ap (map (pending_of actor q)) (none own.added)))
+    where
+      not_mine : (i : Option QueueAddr) (p : Playback) → mine c (pending_of actor i p) ≡ false
+      not_mine None p = grind (arith, nat_tests)
+      not_mine (Some i) p = grind (arith, nat_tests)
+
+      none : (ps : List Playback) → filter (λ p. mine c (pending_of actor q p)) ps ≡ []
+      none [] = refl
+      none (p ∷ ps) = ap (λ x. cond x (p ∷ filter (λ y. mine c (pending_of actor q y)) ps) (filter (λ y. mine c (pending_of actor q y)) ps)) (not_mine q p) ∙ none ps
+
+  actor-used : used (with_own s actor q own) actor ≤ out_size own.client
+  actor-used = go a.room
+    where
+      gone : ((p : Playback) → own.dropped p ≡ true) → (p : Pending) → mine actor p ≡ true → stays p ≡ false
+      gone d p h = ap (λ x. not ((x && own.dropped p.playback) || (eqb p.queue.client actor && own.queue_gone p.queue.queue))) h ∙ ap (λ x. not (x || (eqb p.queue.client actor && own.queue_gone p.queue.queue))) (d p.playback)
+
+      go : (used s actor ≤ out_size (FinMap.get s.clients actor) → length own.added + used s actor ≤ out_size own.client) ⊎ ((own.added ≡ []) × ((p : Playback) → own.dropped p ≡ true)) → used (with_own s actor q own) actor ≤ out_size own.client
+      go (inl f) =
+          let l : length own.added + used s actor ≤ out_size own.client = f (b.used actor) in
+          omega (arith, counted actor, few-kept actor, few-new actor)
+      go (inr g) =
+          let kept : length (filter (mine actor) (filter stays s.pending)) ≡ zero = ap length (none-of (mine actor) stays (gone g.1) s.pending) in
+          let empty : length own.added ≡ zero = ap length g.0 in
+          omega (arith, counted actor, few-new actor)
+
+  bounded-own : Bounded (with_own s actor q own)
+  bounded-own = record {
+    waiting = fits-put s.pools actor (own.pool (FinMap.get s.pools actor)) b.waiting (a.pool (FinMap.get s.pools actor) (b.waiting actor));
+    used = λ c. subst (λ o. used (with_own s actor q own) c ≤ out_size o) (sym (get-put s.clients actor own.client c)) (one c (eqb c actor) refl);
+    sources = λ t. let l : sources_of s.edges t ≤ most_sources = b.sources t in omega (arith, fewer-filtered (λ e. same t e.target) (λ e. not (loses actor own.gone e)) s.edges);
+  }
+    where
+      one : (c : ℕ) (x : Bool) → eqb c actor ≡ x → used (with_own s actor q own) c ≤ out_size (cond x own.client (FinMap.get s.clients c))
+      one c true h = subst (λ i. used (with_own s actor q own) i ≤ out_size own.client) (sym (eqb-true c actor h)) actor-used
+      one c false h = let l : used s c ≤ out_size (FinMap.get s.clients c) = b.used c in omega (arith, counted c, few-kept c, others-new c h)
+
+-- ---- subscriptions
+
+pub same-equal : (a b : Addr) → same a b ≡ true → a ≡ b
+same-equal a b h =
+    ap (λ c. let x : Addr = record { client = c; node = a.node } in x) (eqb-true a.client b.client (both_left (eqb a.client b.client) (same_node a.node b.node) h))
+    ∙ ap (λ n. let x : Addr = record { client = b.client; node = n } in x) (go a.node b.node (both_right (eqb a.client b.client) (same_node a.node b.node) h))
+  where
+    go : (m n : Node) → same_node m n ≡ true → m ≡ n
+    go (Port m) (Port n) e = ap Port (eqb-true m n e)
+    go (Filter m) (Filter n) e = ap Filter (eqb-true m n e)
+    go (Port m) (Filter n) e = absurd (false≢true e)
+    go (Filter m) (Port n) e = absurd (false≢true e)
+
+few-sources : (s : State) (actor : ℕ) (source target : Addr) → connect_refusal s actor source target ≡ None → sources_of s.edges target < most_sources
+few-sources s actor source target e =
+    let rs : List (ℕ × Bool) = (1, not (is_some (FinMap.get s.clients actor))) ∷ (8, not (is_some (caps_at s source))) ∷ (9, not (is_some (caps_at s target))) ∷ (10, not (permitted actor source (caps_at s source) target (caps_at s target))) ∷ (11, has_edge s.edges source target) ∷ [] in
+    go (nat_le most_sources (sources_of s.edges target)) refl (fifth rs (nat_le most_sources (sources_of s.edges target)) (makes_cycle s.edges source target) e)
+  where
+    fifth : (rs : List (ℕ × Bool)) (x y : Bool) → first_refusal (rs ++ (13, x) ∷ (14, y) ∷ []) ≡ None → x ≡ false
+    fifth [] true y e = absurd cc
+    fifth [] false y e = refl
+    fifth (r ∷ rs) x y e = step r.1 e (fifth rs x y)
+      where
+        step : (z : Bool) → cond z (Some r.0) (first_refusal (rs ++ (13, x) ∷ (14, y) ∷ [])) ≡ None → (first_refusal (rs ++ (13, x) ∷ (14, y) ∷ []) ≡ None → x ≡ false) → x ≡ false
+        step true e more = absurd cc
+        step false e more = more e
+
+    go : (x : Bool) → nat_le most_sources (sources_of s.edges target) ≡ x → x ≡ false → sources_of s.edges target < most_sources
+    go x h f = leb-false most_sources (sources_of s.edges target) (h ∙ f)
+
+bounded-connected : (s : State) (source target : Addr) → Bounded s → sources_of s.edges target < most_sources → (t : Addr) → sources_of (connected source target s.edges) t ≤ most_sources
+bounded-connected s source target b l t =
+    subst (λ n. n ≤ most_sources) (sym (ap length (filter-append (λ e. same t e.target) s.edges (edge source target ∷ [])) ∙ length-append (filter (λ e. same t e.target) s.edges) (filter (λ e. same t e.target) (edge source target ∷ []))))
+    (go (same t target) refl)
+  where
+    go : (x : Bool) → same t target ≡ x → sources_of s.edges t + length (cond x (edge source target ∷ []) []) ≤ most_sources
+    go true h = let m : sources_of s.edges t < most_sources = subst (λ i. sources_of s.edges i < most_sources) (sym (same-equal t target h)) l in omega arith
+    go false h = let m : sources_of s.edges t ≤ most_sources = b.sources t in omega arith
+
+-- ---- each step
+
+bounded-settled : (s : State) (m : ℕ) → Bounded s → Bounded (settle s m).state
+bounded-settled s m b = record {
+  waiting = fits-offered s.pools (flat_map (event_copies s) (due s m)) b.waiting;
+  used = λ c. let l : used s c ≤ out_size (FinMap.get s.clients c) = b.used c in omega (arith, used-settled s m c);
+  sources = b.sources;
+}
+
+bounded-unless : (s : State) → Bounded s → (o : Option ℕ) (effect : Stepped) → (o ≡ None → Bounded effect.state) → Bounded (unless o s effect).state
+bounded-unless s b None effect h = h refl
+bounded-unless s b (Some n) effect h = b
+
+bounded-command : (files : List File) (s : State) (m actor : ℕ) (command : Command) → Bounded s → Bounded (command_step files s m actor command).state
+bounded-command files s m actor (Connect source target) b =
+    bounded-unless s b (connect_refusal s actor source target) _ (λ e. record { waiting = b.waiting; used = b.used; sources = bounded-connected s source target b (few-sources s actor source target e) })
+bounded-command files s m actor (Disconnect source target) b =
+    bounded-unless s b (disconnect_refusal s actor source target) _ (λ e. record {
+      waiting = b.waiting;
+      used = b.used;
+      sources = λ t. let l : sources_of s.edges t ≤ most_sources = b.sources t in omega (arith, fewer-filtered (λ e. same t e.target) (λ e. not (is_edge source target e)) s.edges);
+    })
+bounded-command files s m actor (Receive max) b =
+    bounded-unless s b (receive_refusal (FinMap.get s.clients actor) max) _ (λ e. record {
+      waiting = fits-put s.pools actor (received max (FinMap.get s.pools actor)).pool b.waiting (fits-received max (FinMap.get s.pools actor) (b.waiting actor));
+      used = b.used;
+      sources = b.sources;
+    })
+bounded-command files s m actor PoolStatus b = bounded-unless s b (status_refusal (FinMap.get s.clients actor)) _ (λ e. b)
+bounded-command files s m actor command b =
+    let q : Option QueueAddr = queue_named command in
+    let row : Row = row_of files s m actor command in
+    bounded-unless s b row.refusal (after_own s m actor q row.own) (λ e.
+    let after : Bounded (with_own s actor q row.own) = bounded-own s actor q row.own b (fits files m actor (FinMap.get s.clients actor) (named_queue s.clients actor q) (used s actor) command e) in
+    record { waiting = fits-offered (with_own s actor q row.own).pools (send_copies s m actor row.own.sends) after.waiting; used = after.used; sources = after.sources })
+
+bounded-start : Bounded start
+unfolding most_sources
+bounded-start = record {
+  waiting = λ c p e. absurd (none_some p (sym (FinMap.get-empty nat_cmp c) ∙ e));
+  used = λ c. omega arith;
+  sources = λ t. omega arith;
+}
+
+pub bounds_law : BoundsLaw
+bounds_law = record {
+  at_first = bounded-start;
+  settled = bounded-settled;
+  stepped = λ files s i b. bounded-command files (settle s i.moment).state i.moment i.actor i.command (bounded-settled s i.moment b);
+}

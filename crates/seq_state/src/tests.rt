@@ -1,0 +1,31 @@
+use super::*;
+use node_table::{ClientId, QueueNo};
+use std::test::Fail;
+
+#[test]
+fn refusals_have_their_texts(rt: HostRuntime) -> Result<(), Fail> {
+    let first = Refusal::NotOpen.to_string(rt.alloc())?;
+    assert_eq!(rt; first.as_str(), "1 NotOpen");
+    let last = Refusal::OutFull.to_string(rt.alloc())?;
+    assert_eq!(rt; last.as_str(), "24 OutFull");
+    Ok(())
+}
+
+#[test]
+fn refusals_come_back_from_their_numbers(rt: HostRuntime) {
+    for number in 0..=255u8 {
+        let refusal = Refusal::from_number(number);
+        let there = (1..=24).contains(&number);
+        assert_eq!(rt; refusal.is_some(), there, "at {number}");
+    }
+    assert_eq!(rt; Refusal::from_number(14), Some(Refusal::Cycle));
+}
+
+#[test]
+fn addresses_of_queues_have_their_text(rt: HostRuntime) -> Result<(), Fail> {
+    let client = ClientId::new(128).expect(&rt, "a client's number");
+    let queue = QueueNo::new(7).expect(&rt, "a queue's number");
+    let text = QueueAddr { client, queue }.to_string(rt.alloc())?;
+    assert_eq!(rt; text.as_str(), "128:q7");
+    Ok(())
+}
