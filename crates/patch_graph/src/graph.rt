@@ -215,9 +215,9 @@ impl PatchGraph {
         source.is_filter() && (target == source || self.reaches(target, source))
     }
 
-    #[tactic(auto, unfolding(crate::specs::Edges::most_sources))]
     /// Adds an edge, the youngest of all. The refusals are tested in the order of `EdgeFault`, and each leaves all as it
     /// was.
+    #[tactic(auto, unfolding(crate::specs::Edges::most_sources))]
     pub fn connect(&mut self, source: Addr, target: Addr) -> Result<(), EdgeFault>
         ensures ok { OnOk result (self.new ≡ self.old ++ edge source target ∷ []) }
         ensures err { OnErr result (self.new ≡ self.old) }
