@@ -25,7 +25,7 @@ use Rattle.seq_state.specs.Files.{File}
 use Rattle.seq_state.specs.State.{PortInfo, FilterInfo, Queue, Client, Pool, Playback, Pending, State, start, put}
 use Rattle.seq_state.specs.Own.{is_size, not_open, no_port, not_visible, none_named, queue_is, passes_end, has_division, first_refusal, Own, Row, changed, out_size, put_port, put_filter, put_queue, port_fed, port_of, filter_ruled, filter_of, queue_of, queue_map, clocked, new_queue, file_queue, file_at, own_command, received, receive_refusal, status_refusal, queue_named}
 use Rattle.seq_state.specs.Step.{most_lost, offer, offered, playback_after, is_left, due, event_copies, settle, without_due, Stepped, used, loses, drops, pending_of, named_queue, with_own, send_copies, unless, after_own, caps_at, permitted, connect_refusal, disconnect_refusal, connected, row_of, command_step}
-use Rattle.seq_state.specs.Laws.{Bounded, BoundsLaw}
+use Rattle.seq_state.specs.Laws.{pool_size, in_size, Bounded, BoundsLaw}
 use Rattle.seq_state.proofs.Lists.{both_left, both_right, filter-append, filter-map, filter-filter, filter-apart}
 use Rattle.seq_state.proofs.Kin.{get-put}
 
@@ -87,6 +87,33 @@ fits-received : (max : ℕ) (o : Option Pool) → FitsPool o → FitsPool (recei
 fits-received max None h = h
 fits-received max (Some p) h = let l : length p.waiting ≤ p.size = h p refl in fits-some (record p { waiting = drop max p.waiting }) (omega (arith, length-drop max p.waiting))
 
+-- ---- the sizes of input pools
+
+offer-size : (o : Option Pool) (d : Delivery) → pool_size (offer o d) ≡ pool_size o
+offer-size None d = refl
+offer-size (Some p) d = go (nat_lt (length p.waiting) p.size)
+  where
+    go : (b : Bool) → pool_size (Some (cond b (record p { waiting = p.waiting ++ record { moment = d.moment; port = d.target.port; message = d.message } ∷ [] }) (record p { lost = min (p.lost + 1) most_lost }))) ≡ Some p.size
+    go true = refl
+    go false = refl
+
+put-size : (pools : FinMap nat_cmp Pool) (k : ℕ) (o : Option Pool) → pool_size o ≡ pool_size (FinMap.get pools k) → (c : ℕ) → pool_size (FinMap.get (put pools k o) c) ≡ pool_size (FinMap.get pools c)
+put-size pools k o h c = ap pool_size (get-put pools k o c) ∙ go (eqb c k) refl
+  where
+    go : (b : Bool) → eqb c k ≡ b → pool_size (cond b o (FinMap.get pools c)) ≡ pool_size (FinMap.get pools c)
+    go true e = h ∙ ap (λ i. pool_size (FinMap.get pools i)) (sym (eqb-true c k e))
+    go false e = refl
+
+offered-size : (pools : FinMap nat_cmp Pool) (ds : List Delivery) (c : ℕ) → pool_size (FinMap.get (offered pools ds) c) ≡ pool_size (FinMap.get pools c)
+offered-size pools [] c = refl
+offered-size pools (d ∷ ds) c =
+    let o : Option Pool = offer (FinMap.get pools d.target.client) d in
+    offered-size (put pools d.target.client o) ds c ∙ put-size pools d.target.client o (offer-size (FinMap.get pools d.target.client) d) c
+
+received-size : (max : ℕ) (o : Option Pool) → pool_size (received max o).pool ≡ pool_size o
+received-size max None = refl
+received-size max (Some p) = refl
+
 -- ---- what is used
 
 abbrev mine : ℕ → Pending → Bool
@@ -101,6 +128,7 @@ used-settled s m c =
 record Fits (used : ℕ) (client : Option Client) (own : Own) : Type 0 where
   room : (used ≤ out_size client → length own.added + used ≤ out_size own.client) ⊎ ((own.added ≡ []) × ((p : Playback) → own.dropped p ≡ true))
   pool : (o : Option Pool) → FitsPool o → FitsPool (own.pool o)
+  size : (o : Option Pool) → pool_size o ≡ in_size client → pool_size (own.pool o) ≡ in_size own.client
 
 same-size : (client : Option Client) (f : Client → Client) → ((c : Client) → (f c).out_size ≡ c.out_size) → out_size (changed client f) ≡ out_size client
 same-size None f h = refl
@@ -117,6 +145,22 @@ put_filter-size n (Some f) c = refl
 put_queue-size : (n : ℕ) (o : Option Queue) (c : Client) → (put_queue n o c).out_size ≡ c.out_size
 put_queue-size n None c = refl
 put_queue-size n (Some q) c = refl
+
+same-in : (client : Option Client) (f : Client → Client) → ((c : Client) → (f c).in_size ≡ c.in_size) → in_size (changed client f) ≡ in_size client
+same-in None f h = refl
+same-in (Some c) f h = ap Some (h c)
+
+put_port-in : (n : ℕ) (o : Option PortInfo) (c : Client) → (put_port n o c).in_size ≡ c.in_size
+put_port-in n None c = refl
+put_port-in n (Some p) c = refl
+
+put_filter-in : (n : ℕ) (o : Option FilterInfo) (c : Client) → (put_filter n o c).in_size ≡ c.in_size
+put_filter-in n None c = refl
+put_filter-in n (Some f) c = refl
+
+put_queue-in : (n : ℕ) (o : Option Queue) (c : Client) → (put_queue n o c).in_size ≡ c.in_size
+put_queue-in n None c = refl
+put_queue-in n (Some q) c = refl
 
 nothing-added : (n : ℕ) (client : Option Client) (f : Client → Client) → ((c : Client) → (f c).out_size ≡ c.out_size) → n ≤ out_size client → zero + n ≤ out_size (changed client f)
 nothing-added n client f h l = omega (arith, same-size client f h)
@@ -136,52 +180,52 @@ one-added n m e l = grind (arith, nat_tests)
 fits : (files : List File) (moment actor : ℕ) (client : Option Client) (named : Option Queue) (n : ℕ) (command : Command) →
     (own_command files moment actor client named n command).refusal ≡ None → Fits n client (own_command files moment actor client named n command).own
 unfolding own_command
-fits files m actor client named n (Open name in_size size) r = record { room = inl (go client r); pool = λ o h. fits-some (record { size = in_size; waiting = []; lost = 0 }) (omega arith) }
+fits files m actor client named n (Open name n_in size) r = record { room = inl (go client r); pool = λ o h. fits-some (record { size = n_in; waiting = []; lost = 0 }) (omega arith); size = λ o h. refl }
   where
-    go : (c : Option Client) → first_refusal ((2, is_some c) ∷ (3, not (is_name name)) ∷ (4, not (is_size in_size && is_size size)) ∷ []) ≡ None → n ≤ out_size c → zero + n ≤ size
+    go : (c : Option Client) → first_refusal ((2, is_some c) ∷ (3, not (is_name name)) ∷ (4, not (is_size n_in && is_size size)) ∷ []) ≡ None → n ≤ out_size c → zero + n ≤ size
     go None e h = omega arith
     go (Some c) e h = absurd cc
-fits files m actor client named n Close r = record { room = inr (refl, λ p. refl); pool = λ o h p e. absurd (none_some p e) }
+fits files m actor client named n Close r = record { room = inr (refl, λ p. refl); pool = λ o h p e. absurd (none_some p e); size = λ o h. refl }
 fits files m actor client named n (CreatePort port name caps) r =
     let info : Option PortInfo = Some (record { name = name; caps = caps; fed = [] }) in
-    record { room = inl (nothing-added n client (put_port port info) (put_port-size port info)); pool = λ o h. h }
-fits files m actor client named n (DeletePort port) r = record { room = inl (nothing-added n client (put_port port None) (put_port-size port None)); pool = λ o h. h }
+    record { room = inl (nothing-added n client (put_port port info) (put_port-size port info)); pool = λ o h. h; size = λ o h. h ∙ sym (same-in client (put_port port info) (put_port-in port info)) }
+fits files m actor client named n (DeletePort port) r = record { room = inl (nothing-added n client (put_port port None) (put_port-size port None)); pool = λ o h. h; size = λ o h. h ∙ sym (same-in client (put_port port None) (put_port-in port None)) }
 fits files m actor client named n (CreateFilter f caps rule) r =
     let info : Option FilterInfo = Some (record { caps = caps; rule = rule }) in
-    record { room = inl (nothing-added n client (put_filter f info) (put_filter-size f info)); pool = λ o h. h }
+    record { room = inl (nothing-added n client (put_filter f info) (put_filter-size f info)); pool = λ o h. h; size = λ o h. h ∙ sym (same-in client (put_filter f info) (put_filter-in f info)) }
 fits files m actor client named n (SetFilter f rule) r =
     let info : Option FilterInfo = filter_ruled rule (filter_of client f) in
-    record { room = inl (nothing-added n client (put_filter f info) (put_filter-size f info)); pool = λ o h. h }
-fits files m actor client named n (DeleteFilter f) r = record { room = inl (nothing-added n client (put_filter f None) (put_filter-size f None)); pool = λ o h. h }
+    record { room = inl (nothing-added n client (put_filter f info) (put_filter-size f info)); pool = λ o h. h; size = λ o h. h ∙ sym (same-in client (put_filter f info) (put_filter-in f info)) }
+fits files m actor client named n (DeleteFilter f) r = record { room = inl (nothing-added n client (put_filter f None) (put_filter-size f None)); pool = λ o h. h; size = λ o h. h ∙ sym (same-in client (put_filter f None) (put_filter-in f None)) }
 fits files m actor client named n (Bytes port bytes) r =
     let info : Option PortInfo = port_fed bytes (port_of client port) in
-    record { room = inl (nothing-added n client (put_port port info) (put_port-size port info)); pool = λ o h. h }
-fits files m actor client named n (CreateQueue q ppq tempo) r = record { room = inl (nothing-added n client (put_queue q (Some (new_queue ppq tempo))) (put_queue-size q (Some (new_queue ppq tempo)))); pool = λ o h. h }
-fits files m actor client named n (CreateQueueFrom q file) r = record { room = inl (nothing-added n client (put_queue q (file_queue (file_at files file))) (put_queue-size q (file_queue (file_at files file)))); pool = λ o h. h }
-fits files m actor client named n (DeleteQueue q) r = record { room = inl (nothing-added n client (put_queue q.queue None) (put_queue-size q.queue None)); pool = λ o h. h }
+    record { room = inl (nothing-added n client (put_port port info) (put_port-size port info)); pool = λ o h. h; size = λ o h. h ∙ sym (same-in client (put_port port info) (put_port-in port info)) }
+fits files m actor client named n (CreateQueue q ppq tempo) r = record { room = inl (nothing-added n client (put_queue q (Some (new_queue ppq tempo))) (put_queue-size q (Some (new_queue ppq tempo)))); pool = λ o h. h; size = λ o h. h ∙ sym (same-in client (put_queue q (Some (new_queue ppq tempo))) (put_queue-in q (Some (new_queue ppq tempo)))) }
+fits files m actor client named n (CreateQueueFrom q file) r = record { room = inl (nothing-added n client (put_queue q (file_queue (file_at files file))) (put_queue-size q (file_queue (file_at files file)))); pool = λ o h. h; size = λ o h. h ∙ sym (same-in client (put_queue q (file_queue (file_at files file))) (put_queue-in q (file_queue (file_at files file)))) }
+fits files m actor client named n (DeleteQueue q) r = record { room = inl (nothing-added n client (put_queue q.queue None) (put_queue-size q.queue None)); pool = λ o h. h; size = λ o h. h ∙ sym (same-in client (put_queue q.queue None) (put_queue-in q.queue None)) }
 fits files m actor client named n (Start q) r =
     let x : Option Queue = queue_map (clocked (λ c. started c m)) (queue_of client q.queue) in
-    record { room = inl (nothing-added n client (put_queue q.queue x) (put_queue-size q.queue x)); pool = λ o h. h }
+    record { room = inl (nothing-added n client (put_queue q.queue x) (put_queue-size q.queue x)); pool = λ o h. h; size = λ o h. h ∙ sym (same-in client (put_queue q.queue x) (put_queue-in q.queue x)) }
 fits files m actor client named n (Stop q) r =
     let x : Option Queue = queue_map (clocked (λ c. stopped c m)) (queue_of client q.queue) in
-    record { room = inl (nothing-added n client (put_queue q.queue x) (put_queue-size q.queue x)); pool = λ o h. h }
+    record { room = inl (nothing-added n client (put_queue q.queue x) (put_queue-size q.queue x)); pool = λ o h. h; size = λ o h. h ∙ sym (same-in client (put_queue q.queue x) (put_queue-in q.queue x)) }
 fits files m actor client named n (Continue q) r =
     let x : Option Queue = queue_map (clocked (λ c. resumed c m)) (queue_of client q.queue) in
-    record { room = inl (nothing-added n client (put_queue q.queue x) (put_queue-size q.queue x)); pool = λ o h. h }
+    record { room = inl (nothing-added n client (put_queue q.queue x) (put_queue-size q.queue x)); pool = λ o h. h; size = λ o h. h ∙ sym (same-in client (put_queue q.queue x) (put_queue-in q.queue x)) }
 fits files m actor client named n (Tempo q tempo) r =
     let x : Option Queue = queue_map (clocked (λ c. with_tempo c m tempo)) (queue_of client q.queue) in
-    record { room = inl (nothing-added n client (put_queue q.queue x) (put_queue-size q.queue x)); pool = λ o h. h }
+    record { room = inl (nothing-added n client (put_queue q.queue x) (put_queue-size q.queue x)); pool = λ o h. h; size = λ o h. h ∙ sym (same-in client (put_queue q.queue x) (put_queue-in q.queue x)) }
 fits files m actor client named n (Share q) r =
     let x : Option Queue = queue_map (λ y. record y { shared = true }) (queue_of client q.queue) in
-    record { room = inl (nothing-added n client (put_queue q.queue x) (put_queue-size q.queue x)); pool = λ o h. h }
+    record { room = inl (nothing-added n client (put_queue q.queue x) (put_queue-size q.queue x)); pool = λ o h. h; size = λ o h. h ∙ sym (same-in client (put_queue q.queue x) (put_queue-in q.queue x)) }
 fits files m actor client named n (Schedule q port d message) r =
     let rs : List (ℕ × Bool) = not_open client ∷ no_port client port ∷ not_visible actor q named ∷ none_named named ∷ (23, queue_is (passes_end m d) named) ∷ [] in
-    record { room = inl (one-added n (out_size client) (last_fails rs 24 (n == out_size client) r)); pool = λ o h. h }
+    record { room = inl (one-added n (out_size client) (last_fails rs 24 (n == out_size client) r)); pool = λ o h. h; size = λ o h. h }
 fits files m actor client named n (Play q port file) r =
     let f : Option File = file_at files file in
     let rs : List (ℕ × Bool) = not_open client ∷ no_port client port ∷ not_visible actor q named ∷ none_named named ∷ (20, not (is_some f)) ∷ (21, not (has_division named f)) ∷ [] in
-    record { room = inl (one-added n (out_size client) (last_fails rs 24 (n == out_size client) r)); pool = λ o h. h }
-fits files m actor client named n command r = record { room = inl (λ h. omega arith); pool = λ o h. h }
+    record { room = inl (one-added n (out_size client) (last_fails rs 24 (n == out_size client) r)); pool = λ o h. h; size = λ o h. h }
+fits files m actor client named n command r = record { room = inl (λ h. omega arith); pool = λ o h. h; size = λ o h. h }
 
 -- ---- after a command of the actor's own
 
@@ -232,8 +276,13 @@ module _ (s : State) (actor : ℕ) (q : Option QueueAddr) (own : Own) (b : Bound
     waiting = fits-put s.pools actor (own.pool (FinMap.get s.pools actor)) b.waiting (a.pool (FinMap.get s.pools actor) (b.waiting actor));
     used = λ c. subst (λ o. used (with_own s actor q own) c ≤ out_size o) (sym (get-put s.clients actor own.client c)) (one c (eqb c actor) refl);
     sources = λ t. let l : sources_of s.edges t ≤ most_sources = b.sources t in omega (arith, fewer-filtered (λ e. same t e.target) (λ e. not (loses actor own.gone e)) s.edges);
+    sizes = λ c. ap pool_size (get-put s.pools actor (own.pool (FinMap.get s.pools actor)) c) ∙ two c (eqb c actor) refl ∙ sym (ap in_size (get-put s.clients actor own.client c));
   }
     where
+      two : (c : ℕ) (x : Bool) → eqb c actor ≡ x → pool_size (cond x (own.pool (FinMap.get s.pools actor)) (FinMap.get s.pools c)) ≡ in_size (cond x own.client (FinMap.get s.clients c))
+      two c true h = a.size (FinMap.get s.pools actor) (b.sizes actor)
+      two c false h = b.sizes c
+
       one : (c : ℕ) (x : Bool) → eqb c actor ≡ x → used (with_own s actor q own) c ≤ out_size (cond x own.client (FinMap.get s.clients c))
       one c true h = subst (λ i. used (with_own s actor q own) i ≤ out_size own.client) (sym (eqb-true c actor h)) actor-used
       one c false h = let l : used s c ≤ out_size (FinMap.get s.clients c) = b.used c in omega (arith, counted c, few-kept c, others-new c h)
@@ -284,6 +333,7 @@ bounded-settled s m b = record {
   waiting = fits-offered s.pools (flat_map (event_copies s) (due s m)) b.waiting;
   used = λ c. let l : used s c ≤ out_size (FinMap.get s.clients c) = b.used c in omega (arith, used-settled s m c);
   sources = b.sources;
+  sizes = λ c. offered-size s.pools (flat_map (event_copies s) (due s m)) c ∙ b.sizes c;
 }
 
 bounded-unless : (s : State) → Bounded s → (o : Option ℕ) (effect : Stepped) → (o ≡ None → Bounded effect.state) → Bounded (unless o s effect).state
@@ -292,11 +342,12 @@ bounded-unless s b (Some n) effect h = b
 
 bounded-command : (files : List File) (s : State) (m actor : ℕ) (command : Command) → Bounded s → Bounded (command_step files s m actor command).state
 bounded-command files s m actor (Connect source target) b =
-    bounded-unless s b (connect_refusal s actor source target) _ (λ e. record { waiting = b.waiting; used = b.used; sources = bounded-connected s source target b (few-sources s actor source target e) })
+    bounded-unless s b (connect_refusal s actor source target) _ (λ e. record { sizes = b.sizes; waiting = b.waiting; used = b.used; sources = bounded-connected s source target b (few-sources s actor source target e) })
 bounded-command files s m actor (Disconnect source target) b =
     bounded-unless s b (disconnect_refusal s actor source target) _ (λ e. record {
       waiting = b.waiting;
       used = b.used;
+      sizes = b.sizes;
       sources = λ t. let l : sources_of s.edges t ≤ most_sources = b.sources t in omega (arith, fewer-filtered (λ e. same t e.target) (λ e. not (is_edge source target e)) s.edges);
     })
 bounded-command files s m actor (Receive max) b =
@@ -304,6 +355,7 @@ bounded-command files s m actor (Receive max) b =
       waiting = fits-put s.pools actor (received max (FinMap.get s.pools actor)).pool b.waiting (fits-received max (FinMap.get s.pools actor) (b.waiting actor));
       used = b.used;
       sources = b.sources;
+      sizes = λ c. put-size s.pools actor (received max (FinMap.get s.pools actor)).pool (received-size max (FinMap.get s.pools actor)) c ∙ b.sizes c;
     })
 bounded-command files s m actor PoolStatus b = bounded-unless s b (status_refusal (FinMap.get s.clients actor)) _ (λ e. b)
 bounded-command files s m actor command b =
@@ -311,7 +363,7 @@ bounded-command files s m actor command b =
     let row : Row = row_of files s m actor command in
     bounded-unless s b row.refusal (after_own s m actor q row.own) (λ e.
     let after : Bounded (with_own s actor q row.own) = bounded-own s actor q row.own b (fits files m actor (FinMap.get s.clients actor) (named_queue s.clients actor q) (used s actor) command e) in
-    record { waiting = fits-offered (with_own s actor q row.own).pools (send_copies s m actor row.own.sends) after.waiting; used = after.used; sources = after.sources })
+    record { waiting = fits-offered (with_own s actor q row.own).pools (send_copies s m actor row.own.sends) after.waiting; used = after.used; sources = after.sources; sizes = λ c. offered-size (with_own s actor q row.own).pools (send_copies s m actor row.own.sends) c ∙ after.sizes c })
 
 bounded-start : Bounded start
 unfolding most_sources
@@ -319,6 +371,7 @@ bounded-start = record {
   waiting = λ c p e. absurd (none_some p (sym (FinMap.get-empty nat_cmp c) ∙ e));
   used = λ c. omega arith;
   sources = λ t. omega arith;
+  sizes = λ c. ap pool_size (FinMap.get-empty nat_cmp c) ∙ sym (ap in_size (FinMap.get-empty nat_cmp c));
 }
 
 pub bounds_law : BoundsLaw

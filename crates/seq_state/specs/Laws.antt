@@ -180,8 +180,17 @@ pub record ReadyLaw : Type 0 where
   pub settled : (s : State) (now m : ℕ) → now ≤ m → Ready s now → Ready (settle s m).state m
   pub stepped : (files : List File) → list_all has_ticks files ≡ true → (s : State) (now : ℕ) (i : Input) → now ≤ i.moment → Ready s now → Ready (step files s i).state i.moment
 
--- No input pool has more than it has room for, no client more to send than its output pool, and no node more sources than a node may have.
+abbrev pub pool_size : Option Pool → Option ℕ
+pool_size None = None
+pool_size (Some p) = Some p.size
+
+abbrev pub in_size : Option Client → Option ℕ
+in_size None = None
+in_size (Some c) = Some c.in_size
+
+-- Each client has an input pool of its size, which has no more than there is room for; no client has more to send than its output pool, and no node more sources than a node may have.
 pub record Bounded (s : State) : Type 0 where
+  pub sizes : (c : ℕ) → pool_size (FinMap.get s.pools c) ≡ in_size (FinMap.get s.clients c)
   pub waiting : (c : ℕ) (p : Pool) → FinMap.get s.pools c ≡ Some p → length p.waiting ≤ p.size
   pub used : (c : ℕ) → used s c ≤ out_size (FinMap.get s.clients c)
   pub sources : (a : Addr) → sources_of s.edges a ≤ most_sources

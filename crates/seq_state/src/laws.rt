@@ -63,8 +63,8 @@ pub fn queues_keep_up()
     ensures { ReadyLaw }
 {}
 
-/// In each state of a run no input pool has more than it has room for, no client has more to send than its output pool, and
-/// no node has more sources than a node may have.
+/// In each state of a run each client has an input pool of its size, with no more than it has room for, no client has more
+/// to send than its output pool, and no node has more sources than a node may have.
 pub fn bounds_hold()
     ensures { BoundsLaw }
 {}
