@@ -115,15 +115,19 @@ fn a_port_ends_a_chain_of_filters(rt: HostRuntime) -> Result<(), Fail> {
     Ok(())
 }
 
+/// Joins two ports both ways, and the first to itself.
+fn both_ways(rt: &impl Abort, graph: &mut PatchGraph) -> Result<(), EdgeFault> {
+    graph.connect(port(rt, 128, 0), port(rt, 129, 0))?;
+    graph.connect(port(rt, 129, 0), port(rt, 128, 0))?;
+    graph.connect(port(rt, 128, 0), port(rt, 128, 0))
+}
+
 #[test]
 fn ports_are_joined_both_ways(rt: HostRuntime) -> Result<(), Fail> {
     let mut graph = PatchGraph::new(rt.alloc());
-    let one = port(&rt, 128, 0);
-    let other = port(&rt, 129, 0);
-    graph.connect(one, other)?;
-    graph.connect(one, port(&rt, 128, 0))?;
-    graph.connect(one, one)?;
+    both_ways(&rt, &mut graph)?;
     assert_eq!(rt; graph.len(), 3);
+    let one = port(&rt, 128, 0);
     let mut routes = graph.routes(&one);
     assert_way(&rt, &mut routes, &[port(&rt, 129, 0)]);
     assert_way(&rt, &mut routes, &[port(&rt, 128, 0)]);
