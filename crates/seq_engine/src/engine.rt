@@ -2,6 +2,7 @@
 
 ghost use Rattle.std.specs.Prelude.{◌≡◌, ◌≤◌, ◌<◌, ◌+◌, ◌-◌, ◌^◌, ◌↔◌, true, false, IsTrue, IsOk, IsErrOf, IfOk, OnOk, OnErr};
 ghost use Rattle.seq_engine.specs.Listing.{listing};
+ghost use Rattle.seq_engine.specs.Turns.{takes_away};
 ghost use Rattle.seq_ports.specs.State.{start};
 ghost use Rattle.seq_ports.specs.Step.{step, settle, IsRefusal};
 
@@ -61,7 +62,7 @@ impl Engine {
 
     /// Takes one input: settles to its moment, and then carries its command out or refuses it.
     ///
-    /// A refused command takes no memory. After want of memory the engine answers `Failed` to every further input; its
+    /// A refused command takes no memory, nor do Close, DeletePort and Disconnect. After want of memory the engine answers `Failed` to every further input; its
     /// moment and its number of steps stay what they were.
     pub fn step(&mut self, input: &Input) -> Result<StepOut, EngineFault>
         requires in_time { self.old.moment ≤ input.now.moment }
@@ -71,8 +72,9 @@ impl Engine {
         ensures reply { IfOk result (λ out. out.reply ≡ (step self.old.state input.now).reply) }
         ensures delivered { IfOk result (λ out. out.delivered ≡ (step self.old.state input.now).delivered) }
 
-        // Memory is asked for a command that is not refused alone.
+        // Memory is asked for a command alone that is not refused and takes nothing away.
         ensures quiet { self.old.failed ≡ false → IsRefusal (step self.old.state input.now).reply → IsOk result }
+        ensures freely { self.old.failed ≡ false → takes_away input.now.command ≡ true → IsOk result }
         ensures failed { IsErrOf result EngineFault.Failed ↔ IsTrue self.old.failed }
         ensures fails { OnErr result (self.new.failed ≡ true) }
         ensures same_now { OnErr result (self.new.moment ≡ self.old.moment) }

@@ -1,6 +1,6 @@
 //! The commands, each on the clients and their subscriptions.
 
-ghost use Rattle.std.specs.Prelude.{◌≡◌, [], ◌++◌, map, None, OnOk, IfOk, option_to_list};
+ghost use Rattle.std.specs.Prelude.{◌≡◌, [], ◌++◌, map, None, true, IsOk, OnOk, IfOk, option_to_list};
 ghost use Rattle.seq_engine.specs.Listing.{listing};
 ghost use Rattle.seq_ports.specs.State.{start};
 ghost use Rattle.seq_ports.specs.Step.{port_addr, delivery, copies, sent, refusal_of, command_step};
@@ -50,7 +50,7 @@ impl Model for Patchbay {
 }
 
 impl Patchbay {
-    ghost use Rattle.seq_engine.specs.Turns.{Gives, IsAnswer};
+    ghost use Rattle.seq_engine.specs.Turns.{Gives, IsAnswer, takes_away};
 
     pub(crate) fn new(alloc: Global) -> Patchbay
         ensures { result ≡ start }
@@ -64,7 +64,8 @@ impl Patchbay {
 
     /// Carries a command out, or refuses it.
     pub(crate) fn command(&mut self, turn: Turn, command: &Command) -> Result<StepOut, OutOfMemory>
-        ensures { Gives result self.new (command_step self.old turn.moment turn.actor command.now) }
+        ensures gives { Gives result self.new (command_step self.old turn.moment turn.actor command.now) }
+        ensures freely { takes_away command.now ≡ true → IsOk result }
     {
         if let Some(refusal) = refusal(&self.clients, &self.graph, turn.actor, command) {
             return Ok(self.answer(Reply::Refused(refusal.number())));
@@ -74,7 +75,8 @@ impl Patchbay {
 
     fn carry_out(&mut self, turn: Turn, command: &Command) -> Result<StepOut, OutOfMemory>
         requires { refusal_of self.old turn.actor command.now ≡ None }
-        ensures { IfOk result (λ out. IsAnswer out self.new (command_step self.old turn.moment turn.actor command.now)) }
+        ensures answer { IfOk result (λ out. IsAnswer out self.new (command_step self.old turn.moment turn.actor command.now)) }
+        ensures freely { takes_away command.now ≡ true → IsOk result }
     {
         match command {
             Command::Open {
