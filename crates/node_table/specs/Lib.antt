@@ -8,3 +8,4 @@ pub mod Listing
 pub mod Faults
 pub mod LendsNode
 pub mod Text
+pub mod Codes

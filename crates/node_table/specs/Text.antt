@@ -12,3 +12,7 @@ node_text (Filter n) = codes "f" ++ decimal n
 -- `128:p0` or `129:f3`
 abbrev pub addr_text : ℕ → Node → List ℕ
 addr_text client node = decimal client ++ codes ":" ++ node_text node
+
+-- `128:q0`
+abbrev pub queue_text : ℕ → ℕ → List ℕ
+queue_text client queue = decimal client ++ codes ":q" ++ decimal queue

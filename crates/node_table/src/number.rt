@@ -313,3 +313,23 @@ impl fmt::Display for PortAddr {
         write!(f, "{client}:p{port}")
     }
 }
+
+/// The address of a queue, printed as `128:q0`.
+#[derive(Clone, Copy, Debug, PartialEq, Eq, PartialOrd, Ord, Hash)]
+pub struct QueueAddr {
+    pub client: ClientId,
+    pub queue: QueueNo,
+}
+
+impl fmt::Display for QueueAddr {
+    ghost use Rattle.std.specs.Prelude.{Some};
+    ghost use Rattle.node_table.specs.Text.{queue_text};
+
+    ghost output = { λ a. Some (queue_text a.client a.queue) };
+
+    fn fmt<W: fmt::Write>(&self, f: &mut fmt::Formatter<W>) -> fmt::Result {
+        let client = self.client;
+        let queue = self.queue;
+        write!(f, "{client}:q{queue}")
+    }
+}

@@ -311,3 +311,12 @@ fn the_table_knows_capabilities(rt: HostRuntime) {
     assert_eq!(rt; may(&table, one, &from, &to), Some(true));
     assert_eq!(rt; may(&table, other, &from, &to), Some(false));
 }
+
+#[test]
+fn addresses_of_queues_have_their_text(rt: HostRuntime) -> Result<(), Fail> {
+    let client = ClientId::new(128).expect(&rt, "a client's number");
+    let queue = QueueNo::new(7).expect(&rt, "a queue's number");
+    let text = QueueAddr { client, queue }.to_string(rt.alloc())?;
+    assert_eq!(rt; text.as_str(), "128:q7");
+    Ok(())
+}

@@ -5,3 +5,4 @@ pub mod Index
 pub mod Found
 pub mod Removal
 pub mod Cursor
+pub mod Codes

@@ -2,3 +2,4 @@ pub mod Rules
 pub mod Passing
 pub mod Laws
 pub mod Worked
+pub mod Codes

@@ -12,8 +12,12 @@ use Rattle.seq_ports.specs.declared.input.Command.{Command}
 use Rattle.seq_ports.specs.declared.input.Command.TheVariants.{Open, Close, CreatePort, DeletePort, Connect, Disconnect, Bytes, Send}
 use Rattle.seq_ports.specs.declared.log.Reply.{Reply}
 use Rattle.seq_ports.specs.declared.log.Reply.TheVariants.{Done, Messages}
-pub use Rattle.seq_state.specs.Own.{first_refusal}
 use Rattle.seq_ports.specs.State.{Client, PortInfo}
+
+-- the number of the first refusal whose condition holds
+abbrev pub first_refusal : List (ℕ × Bool) → Option ℕ
+first_refusal [] = None
+first_refusal (r ∷ rs) = if r.1 then Some r.0 else first_refusal rs
 
 -- What a command changes of the actor's own: the client, which of its nodes go, what it sends from which port, and the reply.
 pub record Own : Type 0 where

@@ -9,25 +9,28 @@ use Rattle.std.proofs.lemmas.Bool.Decides.{nat_tests}
 use Rattle.std.proofs.lemmas.Bool.{false≢true, eqb-true, ltb-true, leb-false}
 use Rattle.std.proofs.lemmas.List.{length-append, length-drop, length-map}
 use Rattle.tempo_clock.specs.Clocks.{started, stopped, resumed, with_tempo}
-use Rattle.node_table.specs.Names.{is_name}
 use Rattle.node_table.specs.Addresses.{same, same_node}
 use Rattle.node_table.specs.declared.number.Addr.{Addr}
 use Rattle.node_table.specs.declared.number.Node.{Node}
 use Rattle.node_table.specs.declared.number.Node.TheVariants.{Port, Filter}
 use Rattle.patch_graph.specs.Edges.{edge, is_edge, has_edge, sources_of, most_sources}
 use Rattle.patch_graph.specs.Chains.{makes_cycle}
+use Rattle.patch_graph.specs.declared.edge.Edge.{Edge}
 use Rattle.seq_state.specs.declared.input.Command.{Command}
 use Rattle.seq_state.specs.declared.input.Command.TheVariants.{Open, Close, CreatePort, DeletePort, CreateFilter, SetFilter, DeleteFilter, Connect, Disconnect, Bytes, CreateQueue, CreateQueueFrom, DeleteQueue, Start, Stop, Continue, Tempo, Share, Schedule, Play, Receive, PoolStatus}
-use Rattle.seq_state.specs.declared.input.QueueAddr.{QueueAddr}
+use Rattle.node_table.specs.declared.number.QueueAddr.{QueueAddr}
 use Rattle.seq_state.specs.declared.log.Arrival.{Arrival}
 use Rattle.seq_state.specs.declared.log.Delivery.{Delivery}
+use Rattle.seq_state.specs.declared.refusal.Refusal.{Refusal}
+use Rattle.seq_state.specs.declared.refusal.Refusal.TheVariants as refusal
 use Rattle.seq_state.specs.Files.{File}
 use Rattle.seq_state.specs.State.{PortInfo, FilterInfo, Queue, Client, Pool, Playback, Pending, State, start, put}
-use Rattle.seq_state.specs.Own.{is_size, not_open, no_port, not_visible, none_named, queue_is, passes_end, has_division, first_refusal, Own, Row, changed, out_size, put_port, put_filter, put_queue, port_fed, port_of, filter_ruled, filter_of, queue_of, queue_map, clocked, new_queue, file_queue, file_at, own_command, received, receive_refusal, status_refusal, queue_named}
-use Rattle.seq_state.specs.Step.{most_lost, offer, offered, playback_after, is_left, due, event_copies, settle, without_due, Stepped, used, loses, drops, pending_of, named_queue, with_own, send_copies, unless, after_own, caps_at, permitted, connect_refusal, disconnect_refusal, connected, row_of, command_step}
+use Rattle.seq_state.specs.Own.{Own, changed, out_size, put_port, put_filter, put_queue, port_fed, port_of, filter_ruled, filter_of, queue_of, queue_map, clocked, public, new_port, new_filter, new_pool, held_queue, one_tempo, file_queue, file_at, without_oldest}
+use Rattle.seq_state.specs.Table.{Asked, Condition, first_refusal, command_row, queue_named, connected, already_open, bad_name, bad_sizes, not_open, no_port, not_shared, none_named, bad_time, no_file, division_differs, no_sender, no_dest, not_permitted, already_connected}
+use Rattle.seq_state.specs.Step.{most_lost, offer, offered, playback_after, is_left, due, event_copies, settle, without_due, Stepped, used, loses, drops, pending_of, with_own, send_copies, unless, asked, row_of, refusal_of, effect_of, command_step}
 use Rattle.seq_state.specs.Laws.{pool_size, in_size, Bounded, BoundsLaw}
 use Rattle.seq_state.proofs.Lists.{both_left, both_right, filter-append, filter-map, filter-filter, filter-apart}
-use Rattle.seq_state.proofs.Kin.{get-put}
+use Rattle.seq_state.proofs.Effects.{get-put, none-lost}
 
 -- ---- lengths
 
@@ -83,9 +86,9 @@ fits-offered pools (d ∷ ds) h c =
     let o : Option Pool = offer (FinMap.get pools d.target.client) d in
     fits-offered (put pools d.target.client o) ds (fits-put pools d.target.client o h (fits-offer (FinMap.get pools d.target.client) d (h d.target.client))) c
 
-fits-received : (max : ℕ) (o : Option Pool) → FitsPool o → FitsPool (received max o).pool
-fits-received max None h = h
-fits-received max (Some p) h = let l : length p.waiting ≤ p.size = h p refl in fits-some (record p { waiting = drop max p.waiting }) (omega (arith, length-drop max p.waiting))
+fits-taken : (max : ℕ) (o : Option Pool) → FitsPool o → FitsPool (without_oldest max o)
+fits-taken max None h = h
+fits-taken max (Some p) h = let l : length p.waiting ≤ p.size = h p refl in fits-some (record p { waiting = drop max p.waiting }) (omega (arith, length-drop max p.waiting))
 
 -- ---- the sizes of input pools
 
@@ -110,9 +113,9 @@ offered-size pools (d ∷ ds) c =
     let o : Option Pool = offer (FinMap.get pools d.target.client) d in
     offered-size (put pools d.target.client o) ds c ∙ put-size pools d.target.client o (offer-size (FinMap.get pools d.target.client) d) c
 
-received-size : (max : ℕ) (o : Option Pool) → pool_size (received max o).pool ≡ pool_size o
-received-size max None = refl
-received-size max (Some p) = refl
+taken-size : (max : ℕ) (o : Option Pool) → pool_size (without_oldest max o) ≡ pool_size o
+taken-size max None = refl
+taken-size max (Some p) = refl
 
 -- ---- what is used
 
@@ -165,7 +168,7 @@ put_queue-in n (Some q) c = refl
 nothing-added : (n : ℕ) (client : Option Client) (f : Client → Client) → ((c : Client) → (f c).out_size ≡ c.out_size) → n ≤ out_size client → zero + n ≤ out_size (changed client f)
 nothing-added n client f h l = omega (arith, same-size client f h)
 
-pub last_fails : (rs : List (ℕ × Bool)) (n : ℕ) (b : Bool) → first_refusal (rs ++ (n, b) ∷ []) ≡ None → b ≡ false
+pub last_fails : (rs : List Condition) (n : Refusal) (b : Bool) → first_refusal (rs ++ (n, b) ∷ []) ≡ None → b ≡ false
 last_fails [] n true e = absurd cc
 last_fails [] n false e = refl
 last_fails (r ∷ rs) n b e = go r.1 e (last_fails rs n b)
@@ -177,59 +180,77 @@ last_fails (r ∷ rs) n b e = go r.1 e (last_fails rs n b)
 one-added : (n m : ℕ) → (n == m) ≡ false → n ≤ m → suc zero + n ≤ m
 one-added n m e l = grind (arith, nat_tests)
 
-fits : (files : List File) (moment actor : ℕ) (client : Option Client) (named : Option Queue) (n : ℕ) (command : Command) →
-    (own_command files moment actor client named n command).refusal ≡ None → Fits n client (own_command files moment actor client named n command).own
-unfolding own_command
-fits files m actor client named n (Open name n_in size) r = record { room = inl (go client r); pool = λ o h. fits-some (record { size = n_in; waiting = []; lost = 0 }) (omega arith); size = λ o h. refl }
+-- a row that changes neither the sizes of the client nor what it has to send
+fits-same : (n : ℕ) (client : Option Client) (own : Own) (f : Client → Client) → ((c : Client) → (f c).out_size ≡ c.out_size) → ((c : Client) → (f c).in_size ≡ c.in_size) →
+    own.client ≡ changed client f → own.added ≡ [] → ((o : Option Pool) → own.pool o ≡ o) → Fits n client own
+fits-same n client own f out inn c a p = record {
+  room = inl (λ l. omega (arith, nothing-added n client f out l, ap out_size c, ap length a));
+  pool = λ o h. subst FitsPool (sym (p o)) h;
+  size = λ o h. ap pool_size (p o) ∙ h ∙ sym (same-in client f inn) ∙ sym (ap in_size c);
+}
+
+fits : (a : Asked) (command : Command) → first_refusal (command_row a command).conditions ≡ None → Fits a.used a.client (command_row a command).own
+unfolding command_row
+fits a (Open name in_size size) r = record { room = inl (go a.client r); pool = λ o h. fits-some (new_pool in_size) (omega arith); size = λ o h. refl }
   where
-    go : (c : Option Client) → first_refusal ((2, is_some c) ∷ (3, not (is_name name)) ∷ (4, not (is_size n_in && is_size size)) ∷ []) ≡ None → n ≤ out_size c → zero + n ≤ size
+    go : (c : Option Client) → first_refusal (already_open (record a { client = c }) ∷ bad_name name ∷ bad_sizes in_size size ∷ []) ≡ None → a.used ≤ out_size c → zero + a.used ≤ size
     go None e h = omega arith
     go (Some c) e h = absurd cc
-fits files m actor client named n Close r = record { room = inr (refl, λ p. refl); pool = λ o h p e. absurd (none_some p e); size = λ o h. refl }
-fits files m actor client named n (CreatePort port name caps) r =
-    let info : Option PortInfo = Some (record { name = name; caps = caps; fed = [] }) in
-    record { room = inl (nothing-added n client (put_port port info) (put_port-size port info)); pool = λ o h. h; size = λ o h. h ∙ sym (same-in client (put_port port info) (put_port-in port info)) }
-fits files m actor client named n (DeletePort port) r = record { room = inl (nothing-added n client (put_port port None) (put_port-size port None)); pool = λ o h. h; size = λ o h. h ∙ sym (same-in client (put_port port None) (put_port-in port None)) }
-fits files m actor client named n (CreateFilter f caps rule) r =
-    let info : Option FilterInfo = Some (record { caps = caps; rule = rule }) in
-    record { room = inl (nothing-added n client (put_filter f info) (put_filter-size f info)); pool = λ o h. h; size = λ o h. h ∙ sym (same-in client (put_filter f info) (put_filter-in f info)) }
-fits files m actor client named n (SetFilter f rule) r =
-    let info : Option FilterInfo = filter_ruled rule (filter_of client f) in
-    record { room = inl (nothing-added n client (put_filter f info) (put_filter-size f info)); pool = λ o h. h; size = λ o h. h ∙ sym (same-in client (put_filter f info) (put_filter-in f info)) }
-fits files m actor client named n (DeleteFilter f) r = record { room = inl (nothing-added n client (put_filter f None) (put_filter-size f None)); pool = λ o h. h; size = λ o h. h ∙ sym (same-in client (put_filter f None) (put_filter-in f None)) }
-fits files m actor client named n (Bytes port bytes) r =
-    let info : Option PortInfo = port_fed bytes (port_of client port) in
-    record { room = inl (nothing-added n client (put_port port info) (put_port-size port info)); pool = λ o h. h; size = λ o h. h ∙ sym (same-in client (put_port port info) (put_port-in port info)) }
-fits files m actor client named n (CreateQueue q ppq tempo) r = record { room = inl (nothing-added n client (put_queue q (Some (new_queue ppq tempo))) (put_queue-size q (Some (new_queue ppq tempo)))); pool = λ o h. h; size = λ o h. h ∙ sym (same-in client (put_queue q (Some (new_queue ppq tempo))) (put_queue-in q (Some (new_queue ppq tempo)))) }
-fits files m actor client named n (CreateQueueFrom q file) r = record { room = inl (nothing-added n client (put_queue q (file_queue (file_at files file))) (put_queue-size q (file_queue (file_at files file)))); pool = λ o h. h; size = λ o h. h ∙ sym (same-in client (put_queue q (file_queue (file_at files file))) (put_queue-in q (file_queue (file_at files file)))) }
-fits files m actor client named n (DeleteQueue q) r = record { room = inl (nothing-added n client (put_queue q.queue None) (put_queue-size q.queue None)); pool = λ o h. h; size = λ o h. h ∙ sym (same-in client (put_queue q.queue None) (put_queue-in q.queue None)) }
-fits files m actor client named n (Start q) r =
-    let x : Option Queue = queue_map (clocked (λ c. started c m)) (queue_of client q.queue) in
-    record { room = inl (nothing-added n client (put_queue q.queue x) (put_queue-size q.queue x)); pool = λ o h. h; size = λ o h. h ∙ sym (same-in client (put_queue q.queue x) (put_queue-in q.queue x)) }
-fits files m actor client named n (Stop q) r =
-    let x : Option Queue = queue_map (clocked (λ c. stopped c m)) (queue_of client q.queue) in
-    record { room = inl (nothing-added n client (put_queue q.queue x) (put_queue-size q.queue x)); pool = λ o h. h; size = λ o h. h ∙ sym (same-in client (put_queue q.queue x) (put_queue-in q.queue x)) }
-fits files m actor client named n (Continue q) r =
-    let x : Option Queue = queue_map (clocked (λ c. resumed c m)) (queue_of client q.queue) in
-    record { room = inl (nothing-added n client (put_queue q.queue x) (put_queue-size q.queue x)); pool = λ o h. h; size = λ o h. h ∙ sym (same-in client (put_queue q.queue x) (put_queue-in q.queue x)) }
-fits files m actor client named n (Tempo q tempo) r =
-    let x : Option Queue = queue_map (clocked (λ c. with_tempo c m tempo)) (queue_of client q.queue) in
-    record { room = inl (nothing-added n client (put_queue q.queue x) (put_queue-size q.queue x)); pool = λ o h. h; size = λ o h. h ∙ sym (same-in client (put_queue q.queue x) (put_queue-in q.queue x)) }
-fits files m actor client named n (Share q) r =
-    let x : Option Queue = queue_map (λ y. record y { shared = true }) (queue_of client q.queue) in
-    record { room = inl (nothing-added n client (put_queue q.queue x) (put_queue-size q.queue x)); pool = λ o h. h; size = λ o h. h ∙ sym (same-in client (put_queue q.queue x) (put_queue-in q.queue x)) }
-fits files m actor client named n (Schedule q port d message) r =
-    let rs : List (ℕ × Bool) = not_open client ∷ no_port client port ∷ not_visible actor q named ∷ none_named named ∷ (23, queue_is (passes_end m d) named) ∷ [] in
-    record { room = inl (one-added n (out_size client) (last_fails rs 24 (n == out_size client) r)); pool = λ o h. h; size = λ o h. h }
-fits files m actor client named n (Play q port file) r =
-    let f : Option File = file_at files file in
-    let rs : List (ℕ × Bool) = not_open client ∷ no_port client port ∷ not_visible actor q named ∷ none_named named ∷ (20, not (is_some f)) ∷ (21, not (has_division named f)) ∷ [] in
-    record { room = inl (one-added n (out_size client) (last_fails rs 24 (n == out_size client) r)); pool = λ o h. h; size = λ o h. h }
-fits files m actor client named n command r = record { room = inl (λ h. omega arith); pool = λ o h. h; size = λ o h. h }
+fits a Close r = record { room = inr (refl, λ p. refl); pool = λ o h p e. absurd (none_some p e); size = λ o h. refl }
+fits a (CreatePort port name caps) r =
+    let f : Client → Client = put_port port (Some (new_port name caps)) in
+    fits-same a.used a.client (command_row a (CreatePort port name caps)).own f (put_port-size port (Some (new_port name caps))) (put_port-in port (Some (new_port name caps))) refl refl (λ p. refl)
+fits a (DeletePort port) r =
+    let f : Client → Client = put_port port None in
+    fits-same a.used a.client (command_row a (DeletePort port)).own f (put_port-size port None) (put_port-in port None) refl refl (λ p. refl)
+fits a (CreateFilter n caps rule) r =
+    let f : Client → Client = put_filter n (Some (new_filter caps rule)) in
+    fits-same a.used a.client (command_row a (CreateFilter n caps rule)).own f (put_filter-size n (Some (new_filter caps rule))) (put_filter-in n (Some (new_filter caps rule))) refl refl (λ p. refl)
+fits a (SetFilter n rule) r =
+    let f : Client → Client = put_filter n (filter_ruled rule (filter_of a.client n)) in
+    fits-same a.used a.client (command_row a (SetFilter n rule)).own f (put_filter-size n (filter_ruled rule (filter_of a.client n))) (put_filter-in n (filter_ruled rule (filter_of a.client n))) refl refl (λ p. refl)
+fits a (DeleteFilter n) r =
+    let f : Client → Client = put_filter n None in
+    fits-same a.used a.client (command_row a (DeleteFilter n)).own f (put_filter-size n None) (put_filter-in n None) refl refl (λ p. refl)
+fits a (Bytes port bytes) r =
+    let f : Client → Client = put_port port (port_fed bytes (port_of a.client port)) in
+    fits-same a.used a.client (command_row a (Bytes port bytes)).own f (put_port-size port (port_fed bytes (port_of a.client port))) (put_port-in port (port_fed bytes (port_of a.client port))) refl refl (λ p. refl)
+fits a (CreateQueue n ppq tempo) r =
+    let f : Client → Client = put_queue n (Some (held_queue (one_tempo ppq tempo))) in
+    fits-same a.used a.client (command_row a (CreateQueue n ppq tempo)).own f (put_queue-size n (Some (held_queue (one_tempo ppq tempo)))) (put_queue-in n (Some (held_queue (one_tempo ppq tempo)))) refl refl (λ p. refl)
+fits a (CreateQueueFrom n file) r =
+    let f : Client → Client = put_queue n (file_queue (file_at a.files file)) in
+    fits-same a.used a.client (command_row a (CreateQueueFrom n file)).own f (put_queue-size n (file_queue (file_at a.files file))) (put_queue-in n (file_queue (file_at a.files file))) refl refl (λ p. refl)
+fits a (DeleteQueue q) r =
+    let f : Client → Client = put_queue q.queue None in
+    fits-same a.used a.client (command_row a (DeleteQueue q)).own f (put_queue-size q.queue None) (put_queue-in q.queue None) refl refl (λ p. refl)
+fits a (Start q) r =
+    let f : Client → Client = put_queue q.queue (queue_map (clocked (λ c. started c a.moment)) (queue_of a.client q.queue)) in
+    fits-same a.used a.client (command_row a (Start q)).own f (put_queue-size q.queue (queue_map (clocked (λ c. started c a.moment)) (queue_of a.client q.queue))) (put_queue-in q.queue (queue_map (clocked (λ c. started c a.moment)) (queue_of a.client q.queue))) refl refl (λ p. refl)
+fits a (Stop q) r =
+    let f : Client → Client = put_queue q.queue (queue_map (clocked (λ c. stopped c a.moment)) (queue_of a.client q.queue)) in
+    fits-same a.used a.client (command_row a (Stop q)).own f (put_queue-size q.queue (queue_map (clocked (λ c. stopped c a.moment)) (queue_of a.client q.queue))) (put_queue-in q.queue (queue_map (clocked (λ c. stopped c a.moment)) (queue_of a.client q.queue))) refl refl (λ p. refl)
+fits a (Continue q) r =
+    let f : Client → Client = put_queue q.queue (queue_map (clocked (λ c. resumed c a.moment)) (queue_of a.client q.queue)) in
+    fits-same a.used a.client (command_row a (Continue q)).own f (put_queue-size q.queue (queue_map (clocked (λ c. resumed c a.moment)) (queue_of a.client q.queue))) (put_queue-in q.queue (queue_map (clocked (λ c. resumed c a.moment)) (queue_of a.client q.queue))) refl refl (λ p. refl)
+fits a (Tempo q tempo) r =
+    let f : Client → Client = put_queue q.queue (queue_map (clocked (λ c. with_tempo c a.moment tempo)) (queue_of a.client q.queue)) in
+    fits-same a.used a.client (command_row a (Tempo q tempo)).own f (put_queue-size q.queue (queue_map (clocked (λ c. with_tempo c a.moment tempo)) (queue_of a.client q.queue))) (put_queue-in q.queue (queue_map (clocked (λ c. with_tempo c a.moment tempo)) (queue_of a.client q.queue))) refl refl (λ p. refl)
+fits a (Share q) r =
+    let f : Client → Client = put_queue q.queue (queue_map public (queue_of a.client q.queue)) in
+    fits-same a.used a.client (command_row a (Share q)).own f (put_queue-size q.queue (queue_map public (queue_of a.client q.queue))) (put_queue-in q.queue (queue_map public (queue_of a.client q.queue))) refl refl (λ p. refl)
+fits a (Schedule q port due message) r =
+    let rs : List Condition = not_open a ∷ no_port a port ∷ not_shared a q ∷ none_named a ∷ bad_time a due ∷ [] in
+    record { room = inl (one-added a.used (out_size a.client) (last_fails rs refusal.OutFull (a.used == out_size a.client) r)); pool = λ o h. h; size = λ o h. h }
+fits a (Play q port file) r =
+    let rs : List Condition = not_open a ∷ no_port a port ∷ not_shared a q ∷ none_named a ∷ no_file a file ∷ division_differs a file ∷ [] in
+    record { room = inl (one-added a.used (out_size a.client) (last_fails rs refusal.OutFull (a.used == out_size a.client) r)); pool = λ o h. h; size = λ o h. h }
+fits a (Receive max) r = record { room = inl (λ h. omega arith); pool = λ o h. fits-taken max o h; size = λ o h. taken-size max o ∙ h }
+fits a command r = record { room = inl (λ h. omega arith); pool = λ o h. h; size = λ o h. h }
 
 -- ---- after a command of the actor's own
 
-module _ (s : State) (actor : ℕ) (q : Option QueueAddr) (own : Own) (b : Bounded s) (a : Fits (used s actor) (FinMap.get s.clients actor) own) where
+module _ (s : State) (actor : ℕ) (q : Option QueueAddr) (own : Own) (b : Bounded s) (a : Fits (used s actor) (FinMap.get s.clients actor) own) (few : (t : Addr) → sources_of (with_own s actor q own).edges t ≤ most_sources) where
   abbrev stays : Pending → Bool
   stays p = not (drops actor own p)
 
@@ -275,7 +296,7 @@ module _ (s : State) (actor : ℕ) (q : Option QueueAddr) (own : Own) (b : Bound
   bounded-own = record {
     waiting = fits-put s.pools actor (own.pool (FinMap.get s.pools actor)) b.waiting (a.pool (FinMap.get s.pools actor) (b.waiting actor));
     used = λ c. subst (λ o. used (with_own s actor q own) c ≤ out_size o) (sym (get-put s.clients actor own.client c)) (one c (eqb c actor) refl);
-    sources = λ t. let l : sources_of s.edges t ≤ most_sources = b.sources t in omega (arith, fewer-filtered (λ e. same t e.target) (λ e. not (loses actor own.gone e)) s.edges);
+    sources = few;
     sizes = λ c. ap pool_size (get-put s.pools actor (own.pool (FinMap.get s.pools actor)) c) ∙ two c (eqb c actor) refl ∙ sym (ap in_size (get-put s.clients actor own.client c));
   }
     where
@@ -300,31 +321,47 @@ same-equal a b h =
     go (Port m) (Filter n) e = absurd (false≢true e)
     go (Filter m) (Port n) e = absurd (false≢true e)
 
-few-sources : (s : State) (actor : ℕ) (source target : Addr) → connect_refusal s actor source target ≡ None → sources_of s.edges target < most_sources
-few-sources s actor source target e =
-    let rs : List (ℕ × Bool) = (1, not (is_some (FinMap.get s.clients actor))) ∷ (8, not (is_some (caps_at s source))) ∷ (9, not (is_some (caps_at s target))) ∷ (10, not (permitted actor source (caps_at s source) target (caps_at s target))) ∷ (11, has_edge s.edges source target) ∷ [] in
-    go (nat_le most_sources (sources_of s.edges target)) refl (fifth rs (nat_le most_sources (sources_of s.edges target)) (makes_cycle s.edges source target) e)
+few-sources : (a : Asked) (source target : Addr) → first_refusal (command_row a (Connect source target)).conditions ≡ None → sources_of a.edges target < most_sources
+unfolding command_row
+few-sources a source target e =
+    let rs : List Condition = not_open a ∷ no_sender a source ∷ no_dest a target ∷ not_permitted a source target ∷ already_connected a source target ∷ [] in
+    leb-false most_sources (sources_of a.edges target) (fifth rs (nat_le most_sources (sources_of a.edges target)) (makes_cycle a.edges source target) e)
   where
-    fifth : (rs : List (ℕ × Bool)) (x y : Bool) → first_refusal (rs ++ (13, x) ∷ (14, y) ∷ []) ≡ None → x ≡ false
+    fifth : (rs : List Condition) (x y : Bool) → first_refusal (rs ++ (refusal.SourcesFull, x) ∷ (refusal.Cycle, y) ∷ []) ≡ None → x ≡ false
     fifth [] true y e = absurd cc
     fifth [] false y e = refl
     fifth (r ∷ rs) x y e = step r.1 e (fifth rs x y)
       where
-        step : (z : Bool) → cond z (Some r.0) (first_refusal (rs ++ (13, x) ∷ (14, y) ∷ [])) ≡ None → (first_refusal (rs ++ (13, x) ∷ (14, y) ∷ []) ≡ None → x ≡ false) → x ≡ false
+        step : (z : Bool) → cond z (Some r.0) (first_refusal (rs ++ (refusal.SourcesFull, x) ∷ (refusal.Cycle, y) ∷ [])) ≡ None →
+            (first_refusal (rs ++ (refusal.SourcesFull, x) ∷ (refusal.Cycle, y) ∷ []) ≡ None → x ≡ false) → x ≡ false
         step true e more = absurd cc
         step false e more = more e
 
-    go : (x : Bool) → nat_le most_sources (sources_of s.edges target) ≡ x → x ≡ false → sources_of s.edges target < most_sources
-    go x h f = leb-false most_sources (sources_of s.edges target) (h ∙ f)
+abbrev FewSources : List Edge → Type 0
+FewSources edges = (t : Addr) → sources_of edges t ≤ most_sources
 
-bounded-connected : (s : State) (source target : Addr) → Bounded s → sources_of s.edges target < most_sources → (t : Addr) → sources_of (connected source target s.edges) t ≤ most_sources
-bounded-connected s source target b l t =
-    subst (λ n. n ≤ most_sources) (sym (ap length (filter-append (λ e. same t e.target) s.edges (edge source target ∷ [])) ∙ length-append (filter (λ e. same t e.target) s.edges) (filter (λ e. same t e.target) (edge source target ∷ []))))
+few-connected : (edges : List Edge) (source target : Addr) → FewSources edges → sources_of edges target < most_sources → FewSources (connected source target edges)
+few-connected edges source target b l t =
+    subst (λ n. n ≤ most_sources) (sym (ap length (filter-append (λ e. same t e.target) edges (edge source target ∷ [])) ∙ length-append (filter (λ e. same t e.target) edges) (filter (λ e. same t e.target) (edge source target ∷ []))))
     (go (same t target) refl)
   where
-    go : (x : Bool) → same t target ≡ x → sources_of s.edges t + length (cond x (edge source target ∷ []) []) ≤ most_sources
-    go true h = let m : sources_of s.edges t < most_sources = subst (λ i. sources_of s.edges i < most_sources) (sym (same-equal t target h)) l in omega arith
-    go false h = let m : sources_of s.edges t ≤ most_sources = b.sources t in omega arith
+    go : (x : Bool) → same t target ≡ x → sources_of edges t + length (cond x (edge source target ∷ []) []) ≤ most_sources
+    go true h = let m : sources_of edges t < most_sources = subst (λ i. sources_of edges i < most_sources) (sym (same-equal t target h)) l in omega arith
+    go false h = let m : sources_of edges t ≤ most_sources = b t in omega arith
+
+few-filtered : (p : Edge → Bool) (edges : List Edge) → FewSources edges → FewSources (filter p edges)
+few-filtered p edges b t = let l : sources_of edges t ≤ most_sources = b t in omega (arith, fewer-filtered (λ e. same t e.target) p edges)
+
+-- what a row leaves of the subscriptions
+few-row : (a : Asked) (command : Command) → first_refusal (command_row a command).conditions ≡ None → FewSources a.edges →
+    FewSources ((command_row a command).own.edges (filter (λ e. not (loses a.actor (command_row a command).own.gone e)) a.edges))
+unfolding command_row
+few-row a (Connect source target) r b =
+    subst (λ es. FewSources (connected source target es)) (sym (none-lost a.actor a.edges)) (few-connected a.edges source target b (few-sources a source target r))
+few-row a (Disconnect source target) r b =
+    let kept : List Edge = filter (λ e. not (loses a.actor (λ _. false) e)) a.edges in
+    few-filtered (λ e. not (is_edge source target e)) kept (few-filtered (λ e. not (loses a.actor (λ _. false) e)) a.edges b)
+few-row a command r b = few-filtered (λ e. not (loses a.actor (command_row a command).own.gone e)) a.edges b
 
 -- ---- each step
 
@@ -336,34 +373,20 @@ bounded-settled s m b = record {
   sizes = λ c. offered-size s.pools (flat_map (event_copies s) (due s m)) c ∙ b.sizes c;
 }
 
-bounded-unless : (s : State) → Bounded s → (o : Option ℕ) (effect : Stepped) → (o ≡ None → Bounded effect.state) → Bounded (unless o s effect).state
+bounded-unless : (s : State) → Bounded s → (o : Option Refusal) (effect : Stepped) → (o ≡ None → Bounded effect.state) → Bounded (unless o s effect).state
 bounded-unless s b None effect h = h refl
 bounded-unless s b (Some n) effect h = b
 
 bounded-command : (files : List File) (s : State) (m actor : ℕ) (command : Command) → Bounded s → Bounded (command_step files s m actor command).state
-bounded-command files s m actor (Connect source target) b =
-    bounded-unless s b (connect_refusal s actor source target) _ (λ e. record { sizes = b.sizes; waiting = b.waiting; used = b.used; sources = bounded-connected s source target b (few-sources s actor source target e) })
-bounded-command files s m actor (Disconnect source target) b =
-    bounded-unless s b (disconnect_refusal s actor source target) _ (λ e. record {
-      waiting = b.waiting;
-      used = b.used;
-      sizes = b.sizes;
-      sources = λ t. let l : sources_of s.edges t ≤ most_sources = b.sources t in omega (arith, fewer-filtered (λ e. same t e.target) (λ e. not (is_edge source target e)) s.edges);
-    })
-bounded-command files s m actor (Receive max) b =
-    bounded-unless s b (receive_refusal (FinMap.get s.clients actor) max) _ (λ e. record {
-      waiting = fits-put s.pools actor (received max (FinMap.get s.pools actor)).pool b.waiting (fits-received max (FinMap.get s.pools actor) (b.waiting actor));
-      used = b.used;
-      sources = b.sources;
-      sizes = λ c. put-size s.pools actor (received max (FinMap.get s.pools actor)).pool (received-size max (FinMap.get s.pools actor)) c ∙ b.sizes c;
-    })
-bounded-command files s m actor PoolStatus b = bounded-unless s b (status_refusal (FinMap.get s.clients actor)) _ (λ e. b)
 bounded-command files s m actor command b =
     let q : Option QueueAddr = queue_named command in
-    let row : Row = row_of files s m actor command in
-    bounded-unless s b row.refusal (after_own s m actor q row.own) (λ e.
-    let after : Bounded (with_own s actor q row.own) = bounded-own s actor q row.own b (fits files m actor (FinMap.get s.clients actor) (named_queue s.clients actor q) (used s actor) command e) in
-    record { waiting = fits-offered (with_own s actor q row.own).pools (send_copies s m actor row.own.sends) after.waiting; used = after.used; sources = after.sources; sizes = λ c. offered-size (with_own s actor q row.own).pools (send_copies s m actor row.own.sends) c ∙ after.sizes c })
+    let a : Asked = asked files s m actor command in
+    let own : Own = (row_of files s m actor command).own in
+    let u : State = with_own s actor q own in
+    let ds : List Delivery = send_copies s m actor own.sends in
+    bounded-unless s b (refusal_of files s m actor command) (effect_of files s m actor command) (λ e.
+    let after : Bounded u = bounded-own s actor q own b (fits a command e) (few-row a command e b.sources) in
+    record { waiting = fits-offered u.pools ds after.waiting; used = after.used; sources = after.sources; sizes = λ c. offered-size u.pools ds c ∙ after.sizes c })
 
 bounded-start : Bounded start
 unfolding most_sources

@@ -1,22 +1,24 @@
 -- No chain of filters comes back to its beginning.
 use Rattle.std.proofs.Common.{◌≡◌, Bool, true, false, not, cond, ◌&&◌, ◌||◌, ◌⊎◌, inl, inr, List, [], ◌∷◌, ◌++◌, Option, Some, None, refl, sym, subst, ◌∙◌, arith}
-use Rattle.std.specs.Prelude.{is_some, nat_le, ℕ}
+use Rattle.std.specs.Prelude.{ℕ}
 use Rattle.std.specs.List.{filter}
-use Rattle.std.specs.FinMap
 use Rattle.std.proofs.lemmas.Bool.{false≢true, or_cases}
 use Rattle.node_table.specs.Addresses.{same, is_filter}
 use Rattle.node_table.specs.declared.number.Addr.{Addr}
 use Rattle.patch_graph.specs.Chains.{joined, makes_cycle}
-use Rattle.patch_graph.specs.Edges.{edge, is_edge, has_edge, most_sources, sources_of}
+use Rattle.patch_graph.specs.Edges.{edge, is_edge, has_edge}
 use Rattle.patch_graph.specs.declared.edge.Edge.{Edge}
 use Rattle.seq_state.specs.declared.input.Command.{Command}
-use Rattle.seq_state.specs.declared.input.Command.TheVariants.{Connect, Disconnect, Receive, PoolStatus}
+use Rattle.seq_state.specs.declared.input.Command.TheVariants.{Connect, Disconnect}
+use Rattle.seq_state.specs.declared.refusal.Refusal.{Refusal}
+use Rattle.seq_state.specs.declared.refusal.Refusal.TheVariants as refusal
 use Rattle.seq_state.specs.Files.{File}
 use Rattle.seq_state.specs.State.{State}
-use Rattle.seq_state.specs.Own.{Row, queue_named, receive_refusal, status_refusal}
-use Rattle.seq_state.specs.Step.{Stepped, loses, unless, after_own, caps_at, permitted, connect_refusal, disconnect_refusal, connected, row_of, command_step, settle}
+use Rattle.seq_state.specs.Table.{Asked, Condition, command_row, first_refusal, connected, not_open, no_sender, no_dest, not_permitted, already_connected, sources_full}
+use Rattle.seq_state.specs.Step.{Stepped, loses, unless, asked, refusal_of, effect_of, command_step, settle}
 use Rattle.seq_state.specs.Laws.{NoCycles, CycleLaw}
 use Rattle.seq_state.proofs.Lists.{both_left, both_right, and_both, refuted}
+use Rattle.seq_state.proofs.Effects.{none-lost}
 use Rattle.seq_state.proofs.Bounds.{same-equal, last_fails}
 
 left_of : (x y : Bool) → x ≡ true → (x || y) ≡ true
@@ -173,25 +175,30 @@ one-more es a b n free s t h = refuted (makes_cycle (connected a b es) s t) (λ 
           | inr v ↦ closes sf tf (subst (λ x. joined es x a ≡ true) q v.to)
         ]
 
-free-cycle : (s : State) (actor : ℕ) (source target : Addr) → connect_refusal s actor source target ≡ None → makes_cycle s.edges source target ≡ false
-free-cycle s actor source target e =
-    let rs : List (ℕ × Bool) = (1, not (is_some (FinMap.get s.clients actor))) ∷ (8, not (is_some (caps_at s source))) ∷ (9, not (is_some (caps_at s target))) ∷ (10, not (permitted actor source (caps_at s source) target (caps_at s target))) ∷ (11, has_edge s.edges source target) ∷ (13, nat_le most_sources (sources_of s.edges target)) ∷ [] in
-    last_fails rs 14 (makes_cycle s.edges source target) e
+free-cycle : (a : Asked) (source target : Addr) → first_refusal (command_row a (Connect source target)).conditions ≡ None → makes_cycle a.edges source target ≡ false
+unfolding command_row
+free-cycle a source target e =
+    let rs : List Condition = not_open a ∷ no_sender a source ∷ no_dest a target ∷ not_permitted a source target ∷ already_connected a source target ∷ sources_full a target ∷ [] in
+    last_fails rs refusal.Cycle (makes_cycle a.edges source target) e
 
 -- ---- each step
 
-cycles-unless : (s : State) → NoCycles s.edges → (o : Option ℕ) (effect : Stepped) → (o ≡ None → NoCycles effect.state.edges) → NoCycles (unless o s effect).state.edges
+-- what a row does to the subscriptions makes no cycle
+cycles-row : (a : Asked) (command : Command) → first_refusal (command_row a command).conditions ≡ None → NoCycles a.edges → NoCycles ((command_row a command).own.edges (filter (λ e. not (loses a.actor (command_row a command).own.gone e)) a.edges))
+unfolding command_row
+cycles-row a (Connect source target) r n =
+    subst (λ es. NoCycles (connected source target es)) (sym (none-lost a.actor a.edges)) (one-more a.edges source target n (free-cycle a source target r))
+cycles-row a (Disconnect source target) r n =
+    fewer-cycles (λ x. not (is_edge source target x)) (filter (λ e. not (loses a.actor (λ _. false) e)) a.edges) (fewer-cycles (λ e. not (loses a.actor (λ _. false) e)) a.edges n)
+cycles-row a command r n = fewer-cycles (λ e. not (loses a.actor (command_row a command).own.gone e)) a.edges n
+
+cycles-unless : (s : State) → NoCycles s.edges → (o : Option Refusal) (effect : Stepped) → (o ≡ None → NoCycles effect.state.edges) → NoCycles (unless o s effect).state.edges
 cycles-unless s n None effect h = h refl
 cycles-unless s n (Some k) effect h = n
 
 cycles-command : (files : List File) (s : State) (m actor : ℕ) (command : Command) → NoCycles s.edges → NoCycles (command_step files s m actor command).state.edges
-cycles-command files s m actor (Connect source target) n = cycles-unless s n (connect_refusal s actor source target) _ (λ e. one-more s.edges source target n (free-cycle s actor source target e))
-cycles-command files s m actor (Disconnect source target) n = cycles-unless s n (disconnect_refusal s actor source target) _ (λ e. fewer-cycles (λ x. not (is_edge source target x)) s.edges n)
-cycles-command files s m actor (Receive max) n = cycles-unless s n (receive_refusal (FinMap.get s.clients actor) max) _ (λ e. n)
-cycles-command files s m actor PoolStatus n = cycles-unless s n (status_refusal (FinMap.get s.clients actor)) _ (λ e. n)
 cycles-command files s m actor command n =
-    let row : Row = row_of files s m actor command in
-    cycles-unless s n row.refusal (after_own s m actor (queue_named command) row.own) (λ e. fewer-cycles (λ x. not (loses actor row.own.gone x)) s.edges n)
+    cycles-unless s n (refusal_of files s m actor command) (effect_of files s m actor command) (λ e. cycles-row (asked files s m actor command) command e n)
 
 pub cycle_law : CycleLaw
 cycle_law = record { at_first = λ s t h. absurd (false≢true h); settled = λ s m n. n; stepped = λ files s i n. cycles-command files (settle s i.moment).state i.moment i.actor i.command n }

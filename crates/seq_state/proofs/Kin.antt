@@ -16,29 +16,24 @@ use Rattle.node_table.specs.declared.number.Addr.{Addr}
 use Rattle.node_table.specs.declared.number.Node.{Node}
 use Rattle.patch_graph.specs.declared.edge.Edge.{Edge}
 use Rattle.seq_state.specs.declared.input.Command.{Command}
-use Rattle.seq_state.specs.declared.input.QueueAddr.{QueueAddr}
+use Rattle.node_table.specs.declared.number.QueueAddr.{QueueAddr}
 use Rattle.seq_state.specs.declared.log.Delivery.{Delivery}
 use Rattle.seq_state.specs.declared.log.Reply.{Reply}
-use Rattle.seq_state.specs.declared.input.Command.TheVariants.{Connect, Disconnect, Receive, PoolStatus}
+use Rattle.seq_state.specs.declared.input.Command.TheVariants.{Connect, Disconnect}
+use Rattle.seq_state.specs.declared.log.Reply.TheVariants.{Done}
+use Rattle.seq_state.specs.declared.refusal.Refusal.{Refusal}
+use Rattle.seq_state.specs.declared.refusal.Refusal.TheVariants as refusal
 use Rattle.seq_state.specs.Files.{File}
-use Rattle.seq_state.specs.State.{put, Pool, Pending, State, Client, Event, queues_of, Playback}
+use Rattle.seq_state.specs.State.{put, Pool, Pending, State, Client, Event, Queue, queues_of, Playback}
 use Rattle.seq_state.specs.Copies.{copies}
-use Rattle.seq_state.specs.Own.{Own, PoolAnswer, first_refusal, visible, queue_named, received, receive_refusal, pool_status, status_refusal, Row, own_command}
-use Rattle.seq_state.specs.Step.{delivered, upto, offer, has_room, offered, sent, Timed, playback_at, is_at, event_moment, moment_in, playback_after, is_by, due, all_at, event_copies, port_addr, without_due, is_left, settle, loses, drops, pending_of, with_own, send_copies, Stepped, unless, after_own, after_pool, used, caps_at, node_caps, patch_refusal, permitted, connected, disconnected, after_patch, IsRefusal, named_queue, command_step, connect_refusal, disconnect_refusal, after_row}
+use Rattle.seq_state.specs.Own.{Own, kept, node_caps}
+use Rattle.seq_state.specs.Table.{Asked, Condition, Row, first_refusal, visible, queue_named, command_row, permitted, connected, disconnected}
+use Rattle.seq_state.specs.Step.{delivered, upto, offer, has_room, offered, sent, Timed, playback_at, is_at, event_moment, moment_in, playback_after, is_by, due, all_at, event_copies, port_addr, without_due, is_left, settle, loses, drops, pending_of, with_own, send_copies, Stepped, unless, after_own, used, caps_at, IsRefusal, named_queue, asked, row_of, refusal_of, command_step}
 use Rattle.seq_state.specs.Circle.{is_to, NamesWithin, Sight, aims_outside, Outside, Told, is_inner, IsClosedAt}
 use Rattle.seq_state.specs.Laws.{is_mine, AreKin, into}
+use Rattle.seq_state.proofs.Effects.{get-put, none_some, is_patch, same_row, edges_stay, patched, patch_step, step-connects, step-parts}
 use Rattle.seq_state.proofs.Lists.{both_right, filter-filter, filter-wider, list_any-wider, filter-under, filter-outside, list_all-filter, list_all-append, list_all-one, not_by, refuted, filter-map, filter-append, filter-flat_map, flat_map-agree, flat_map-filter, map-agree_all, flat_map-agree_all, list_all-always, list_all-map, filter-flat_map_by, filter-constant}
 use Rattle.seq_state.proofs.Paths.{from_member, AreWithin, inner_member, heard, same_heard, none_heard, same_inner, inner_filter, are_within, joined_within}
-
-same_number : (q c : ℕ) → eq_by_cmp nat_cmp q c ≡ eqb q c
-same_number q c = grind (arith, nat_tests)
-
-pub get-put : {X : Type 0} (m : FinMap nat_cmp X) (c : ℕ) (o : Option X) (q : ℕ) → FinMap.get (put m c o) q ≡ cond (eqb q c) o (FinMap.get m q)
-get-put m c None q = FinMap.get-remove nat_cmp_total m c q ∙ ap (λ b. cond b None (FinMap.get m q)) (same_number q c)
-get-put m c (Some x) q = FinMap.get-insert nat_cmp_total m c x q ∙ ap (λ b. cond b (Some x) (FinMap.get m q)) (same_number q c)
-
-none_some : (n : ℕ) → None ≡ Some n → ⊥
-none_some n e = cc
 
 filter-upto : {X : Type 0} (p : X → Bool) (f : ℕ → List X) (m : ℕ) → filter p (upto f m) ≡ upto (λ k. filter p (f k)) m
 unfolding upto
@@ -182,11 +177,11 @@ module _ (owner : ℕ) (member : ℕ → Bool) where
   -- a member's playback is the same in both
   same_playback_at : (s t : State) → Kin s t → (k : ℕ) (p : Pending) → on_member p ≡ true → playback_at s.clients k p ≡ playback_at t.clients k p
   same_playback_at s t kin k p m =
-      ap (λ o. map (λ e. record { moment = k; client = p.client; port = p.playback.port; message = e.message }) (filter (λ e. is_at k (moment_in (FinMap.get (queues_of o) p.queue.queue) p.playback.accepted e)) p.playback.events)) (kin.clients p.queue.client m)
+      ap (λ o. map (λ e. record { moment = k; client = p.client; port = p.playback.port; message = e.message }) (filter (λ e. is_at k (moment_in (FinMap.get (queues_of o) p.queue.queue) p.playback.accepted e.due)) p.playback.events)) (kin.clients p.queue.client m)
 
   same_playback_after : (s t : State) → Kin s t → (k : ℕ) (p : Pending) → on_member p ≡ true → playback_after s.clients k p ≡ playback_after t.clients k p
   same_playback_after s t kin k p m =
-      ap (λ o. record { client = p.client; queue = p.queue; playback = record { port = p.playback.port; accepted = p.playback.accepted; events = filter (λ e. not (is_by k (moment_in (FinMap.get (queues_of o) p.queue.queue) p.playback.accepted e))) p.playback.events } }) (kin.clients p.queue.client m)
+      ap (λ o. record { client = p.client; queue = p.queue; playback = record { port = p.playback.port; accepted = p.playback.accepted; events = filter (λ e. not (is_by k (moment_in (FinMap.get (queues_of o) p.queue.queue) p.playback.accepted e.due))) p.playback.events } }) (kin.clients p.queue.client m)
 
   same_due : (s t : State) → Kin s t → Within s → (m : ℕ) → filter timed_mine (due s m) ≡ filter timed_mine (due t m)
   same_due s t kin w m =
@@ -257,34 +252,41 @@ module _ (owner : ℕ) (member : ℕ → Bool) where
   got : ℕ → Option QueueAddr → List Playback → List Pending
   got actor q added = filter is_left (map (pending_of actor q) added)
 
-  kin_own : (s t : State) (actor : ℕ) (q : Option QueueAddr) (own : Own) → Kin s t → Kin (with_own s actor q own) (with_own t actor q own)
+  -- its edges stay, but for those that go with a node
+  abbrev Stay : Own → Type 0
+  Stay own = (es : List Edge) → own.edges es ≡ es
+
+  kin_own : (s t : State) (actor : ℕ) (q : Option QueueAddr) (own : Own) → Stay own → Kin s t → Kin (with_own s actor q own) (with_own t actor q own)
   unfolding keeps stays got
-  kin_own s t actor q own k = record {
+  kin_own s t actor q own f k = record {
     clients = λ c m. get-put s.clients actor own.client c ∙ ap (cond (eqb c actor) own.client) (k.clients c m) ∙ sym (get-put t.clients actor own.client c);
     pool = at_owner s ∙ ap (λ p. cond (eqb actor owner) (own.pool p) p) k.pool ∙ sym (at_owner t);
-    edges = filter-filter (into owner member) (keeps actor own.gone) s.edges ∙ ap (filter (keeps actor own.gone)) k.edges ∙ sym (filter-filter (into owner member) (keeps actor own.gone) t.edges);
+    edges = at_edges s ∙ ap (filter (keeps actor own.gone)) k.edges ∙ sym (at_edges t);
     pending = at_pending s ∙ ap (λ ps. filter (stays actor own) ps ++ filter mine (got actor q own.added)) k.pending ∙ sym (at_pending t);
   }
     where
+      at_edges : (u : State) → filter (into owner member) (own.edges (filter (keeps actor own.gone) u.edges)) ≡ filter (keeps actor own.gone) (filter (into owner member) u.edges)
+      at_edges u = ap (filter (into owner member)) (f (filter (keeps actor own.gone) u.edges)) ∙ filter-filter (into owner member) (keeps actor own.gone) u.edges
+
       at_owner : (u : State) → FinMap.get (put u.pools actor (own.pool (FinMap.get u.pools actor))) owner ≡ cond (eqb actor owner) (own.pool (FinMap.get u.pools owner)) (FinMap.get u.pools owner)
       at_owner u = get-put u.pools actor (own.pool (FinMap.get u.pools actor)) owner ∙ turned (λ c. own.pool (FinMap.get u.pools c)) (FinMap.get u.pools owner) owner actor
 
       at_pending : (u : State) → filter mine (filter (stays actor own) u.pending ++ got actor q own.added) ≡ filter (stays actor own) (filter mine u.pending) ++ filter mine (got actor q own.added)
       at_pending u = filter-append mine (filter (stays actor own) u.pending) (got actor q own.added) ∙ ap (λ ps. ps ++ filter mine (got actor q own.added)) (filter-filter mine (stays actor own) u.pending)
 
-  within_own : (s : State) (actor : ℕ) (q : Option QueueAddr) (own : Own) → AreWithin owner member s.edges → AreWithin owner member (with_own s actor q own).edges
+  within_own : (s : State) (actor : ℕ) (q : Option QueueAddr) (own : Own) → Stay own → AreWithin owner member s.edges → AreWithin owner member (with_own s actor q own).edges
   unfolding keeps
-  within_own s actor q own w =
-      subst (λ es. list_all (from_member owner member) es ≡ true) (sym (filter-filter (into owner member) (keeps actor own.gone) s.edges))
+  within_own s actor q own f w =
+      subst (λ es. list_all (from_member owner member) es ≡ true) (sym (ap (filter (into owner member)) (f (filter (keeps actor own.gone) s.edges)) ∙ filter-filter (into owner member) (keeps actor own.gone) s.edges))
       (list_all-filter (from_member owner member) (keeps actor own.gone) (filter (into owner member) s.edges) w)
 
   -- a stranger's leaves the circle as it was
-  kin_stranger : member owner ≡ true → (s : State) (actor : ℕ) (q : Option QueueAddr) (own : Own) → member actor ≡ false → Within s → Kin (with_own s actor q own) s
+  kin_stranger : member owner ≡ true → (s : State) (actor : ℕ) (q : Option QueueAddr) (own : Own) → Stay own → member actor ≡ false → Within s → Kin (with_own s actor q own) s
   unfolding keeps stays got
-  kin_stranger o s actor q own m w = record {
+  kin_stranger o s actor q own f m w = record {
     clients = λ c mc. get-put s.clients actor own.client c ∙ ap (λ b. cond b own.client (FinMap.get s.clients c)) (apart c mc);
     pool = get-put s.pools actor (own.pool (FinMap.get s.pools actor)) owner ∙ ap (λ b. cond b (own.pool (FinMap.get s.pools actor)) (FinMap.get s.pools owner)) (apart owner o);
-    edges = filter-under (keeps actor own.gone) (into owner member) (from_member owner member) kept s.edges w.edges;
+    edges = ap (filter (into owner member)) (f (filter (keeps actor own.gone) s.edges)) ∙ filter-under (keeps actor own.gone) (into owner member) (from_member owner member) on s.edges w.edges;
     pending =
         filter-append mine (filter (stays actor own) s.pending) (got actor q own.added)
         ∙ ap (λ ps. filter mine (filter (stays actor own) s.pending) ++ ps) none_got
@@ -295,8 +297,8 @@ module _ (owner : ℕ) (member : ℕ → Bool) where
       apart : (c : ℕ) → member c ≡ true → eqb c actor ≡ false
       apart c mc = grind (arith, nat_tests)
 
-      kept : (e : Edge) → into owner member e ≡ true → member e.source.client ≡ true → keeps actor own.gone e ≡ true
-      kept e i r =
+      on : (e : Edge) → into owner member e ≡ true → member e.source.client ≡ true → keeps actor own.gone e ≡ true
+      on e i r =
           let t : eqb e.target.client actor ≡ false = apart e.target.client (inner_member owner member o e.target i) in
           let f : eqb e.source.client actor ≡ false = apart e.source.client r in
           ap (λ b. not ((b && own.gone e.source.node) || ((eqb e.target.client actor) && own.gone e.target.node))) f
@@ -369,66 +371,43 @@ module _ (owner : ℕ) (member : ℕ → Bool) where
     pub within : Within a.state
     pub heard : heard owner a.delivered ≡ []
 
-  unless_alike : (s t : State) → Kin s t → Within s → (o : Option ℕ) (a b : Stepped) → Alike a b → Alike (unless o s a) (unless o t b)
+  unless_alike : (s t : State) → Kin s t → Within s → (o : Option Refusal) (a b : Stepped) → Alike a b → Alike (unless o s a) (unless o t b)
   unless_alike s t k w None a b h = h
   unless_alike s t k w (Some n) a b h = record { kin = k; within = w; heard = refl }
 
-  unless_aside : (s : State) → Within s → (o : Option ℕ) (a : Stepped) → Aside a s → Aside (unless o s a) s
+  unless_aside : (s : State) → Within s → (o : Option Refusal) (a : Stepped) → Aside a s → Aside (unless o s a) s
   unfolding heard
   unless_aside s w None a h = h
   unless_aside s w (Some n) a h = record { kin = kin_same s; within = w; heard = refl }
 
-  unless_told : (s t : State) (moment actor : ℕ) (command : Command) (o : Option ℕ) (a b : Stepped) → told moment actor command a.reply ≡ told moment actor command b.reply → told moment actor command (unless o s a).reply ≡ told moment actor command (unless o t b).reply
+  unless_told : (s t : State) (moment actor : ℕ) (command : Command) (o : Option Refusal) (a b : Stepped) → told moment actor command a.reply ≡ told moment actor command b.reply → told moment actor command (unless o s a).reply ≡ told moment actor command (unless o t b).reply
   unless_told s t moment actor command None a b h = h
   unless_told s t moment actor command (Some n) a b h = refl
 
-  own_alike : (s t : State) (moment actor : ℕ) (q : Option QueueAddr) (own : Own) → Kin s t → Within s → member actor ≡ true → NamesWithin member actor q → Alike (after_own s moment actor q own) (after_own t moment actor q own)
-  own_alike s t moment actor q own k w m n =
+  own_alike : (s t : State) (moment actor : ℕ) (q : Option QueueAddr) (own : Own) → Stay own → Kin s t → Within s → member actor ≡ true → NamesWithin member actor q → Alike (after_own s moment actor q own) (after_own t moment actor q own)
+  own_alike s t moment actor q own f k w m n =
       let ds : List Delivery = send_copies s moment actor own.sends in
       let es : List Delivery = send_copies t moment actor own.sends in
       let h : heard owner ds ≡ heard owner es = heard_sends s t k w moment actor own.sends in
       record {
-        kin = kin_sent (with_own s actor q own) (with_own t actor q own) ds es (kin_own s t actor q own k) h;
-        within = record { edges = within_own s actor q own w.edges; playbacks = playbacks_own s actor q own w m n };
-        heard = heard_sent (with_own s actor q own) (with_own t actor q own) ds es (kin_own s t actor q own k) h;
+        kin = kin_sent (with_own s actor q own) (with_own t actor q own) ds es (kin_own s t actor q own f k) h;
+        within = record { edges = within_own s actor q own f w.edges; playbacks = playbacks_own s actor q own w m n };
+        heard = heard_sent (with_own s actor q own) (with_own t actor q own) ds es (kin_own s t actor q own f k) h;
       }
 
-  own_aside : member owner ≡ true → (s : State) (moment actor : ℕ) (q : Option QueueAddr) (own : Own) → Within s → member actor ≡ false → Aside (after_own s moment actor q own) s
-  own_aside o s moment actor q own w m =
+  own_aside : member owner ≡ true → (s : State) (moment actor : ℕ) (q : Option QueueAddr) (own : Own) → Stay own → Within s → member actor ≡ false → Aside (after_own s moment actor q own) s
+  own_aside o s moment actor q own f w m =
       let ds : List Delivery = send_copies s moment actor own.sends in
       let h : heard owner ds ≡ [] = none_sent s w moment actor own.sends m in
       let u : State = with_own s actor q own in
       record {
-        kin = kin_trans (sent u ds).state u s (kin_unheard u ds h) (kin_stranger o s actor q own m w);
-        within = record { edges = within_own s actor q own w.edges; playbacks = subst (λ ps. list_all on_member ps ≡ true) (sym (kin_stranger o s actor q own m w).pending) w.playbacks };
+        kin = kin_trans (sent u ds).state u s (kin_unheard u ds h) (kin_stranger o s actor q own f m w);
+        within = record { edges = within_own s actor q own f w.edges; playbacks = subst (λ ps. list_all on_member ps ≡ true) (sym (kin_stranger o s actor q own f m w).pending) w.playbacks };
         heard = heard_unheard u ds h;
       }
 
-  -- ---- a command on the actor's input
-
-  kin_pool : (s t : State) (actor : ℕ) (a b : PoolAnswer) → Kin s t → (eqb actor owner ≡ true → a ≡ b) → Kin (after_pool s actor a).state (after_pool t actor b).state
-  kin_pool s t actor a b k h = record { clients = k.clients; pool = get-put s.pools actor a.pool owner ∙ go (eqb owner actor) refl ∙ sym (get-put t.pools actor b.pool owner); edges = k.edges; pending = k.pending }
-    where
-      go : (x : Bool) → eqb owner actor ≡ x → cond x a.pool (FinMap.get s.pools owner) ≡ cond x b.pool (FinMap.get t.pools owner)
-      go true e = ap (λ r. r.pool) (h (eq-eqb actor owner (sym (eqb-true owner actor e))))
-      go false e = k.pool
-
-  pool_alike : (s t : State) (actor : ℕ) (a b : PoolAnswer) → Kin s t → Within s → (eqb actor owner ≡ true → a ≡ b) → Alike (after_pool s actor a) (after_pool t actor b)
-  pool_alike s t actor a b k w h = record { kin = kin_pool s t actor a b k h; within = record { edges = w.edges; playbacks = w.playbacks }; heard = refl }
-
-  pool_aside : member owner ≡ true → (s : State) (actor : ℕ) (a : PoolAnswer) → Within s → member actor ≡ false → Aside (after_pool s actor a) s
-  unfolding heard
-  pool_aside o s actor a w m = record {
-    kin = record { clients = λ c n. refl; pool = get-put s.pools actor a.pool owner ∙ ap (λ b. cond b a.pool (FinMap.get s.pools owner)) apart; edges = refl; pending = refl };
-    within = record { edges = w.edges; playbacks = w.playbacks };
-    heard = refl;
-  }
-    where
-      apart : eqb owner actor ≡ false
-      apart = grind (arith, nat_tests)
-
-  told_pool : (moment actor : ℕ) (command : Command) (a b : Reply) → (eqb actor owner ≡ true → a ≡ b) → told moment actor command a ≡ told moment actor command b
-  told_pool moment actor command a b h = go (eqb actor owner) h
+  told_reply : (moment actor : ℕ) (command : Command) (a b : Reply) → (eqb actor owner ≡ true → a ≡ b) → told moment actor command a ≡ told moment actor command b
+  told_reply moment actor command a b h = go (eqb actor owner) h
     where
       go : (x : Bool) → (x ≡ true → a ≡ b) → cond x (cond (aims_outside owner member command) (Outside moment) (Told moment a) ∷ []) [] ≡ cond x (cond (aims_outside owner member command) (Outside moment) (Told moment b) ∷ []) []
       go true h = ap (λ r. cond (aims_outside owner member command) (Outside moment) (Told moment r) ∷ []) (h refl)
@@ -478,13 +457,37 @@ module _ (owner : ℕ) (member : ℕ → Bool) where
       go false h = refl
 
   -- inside the circle the refusals are the same
-  same_refusal : (s t : State) → Kin s t → (actor : ℕ) (source target : Addr) (more : List (ℕ × Bool)) → member actor ≡ true → member source.client ≡ true → member target.client ≡ true → patch_refusal s actor source target more ≡ patch_refusal t actor source target more
-  same_refusal s t k actor source target more a b c =
-      let P : Option Client → Option Caps → Option Caps → Option ℕ = λ o read write.
-      first_refusal ((1, not (is_some o)) ∷ (8, not (is_some read)) ∷ (9, not (is_some write)) ∷ (10, not (permitted actor source read target write)) ∷ more) in
-      ap (λ o. P o (caps_at s source) (caps_at s target)) (k.clients actor a)
-      ∙ ap (λ r. P (FinMap.get t.clients actor) r (caps_at s target)) (same_caps s t k source b)
-      ∙ ap (λ w. P (FinMap.get t.clients actor) (caps_at t source) w) (same_caps s t k target c)
+  same_connect : (files : List File) (s t : State) → Kin s t → Within s → (moment actor : ℕ) (source target : Addr) → member actor ≡ true → member source.client ≡ true → member target.client ≡ true → is_inner owner member target ≡ true →
+      refusal_of files s moment actor (Connect source target) ≡ refusal_of files t moment actor (Connect source target)
+  unfolding command_row
+  same_connect files s t k w moment actor source target m a b i =
+      let P : Option Client → Option Caps → Option Caps → Bool → ℕ → Bool → Option Refusal = λ o read write x n y.
+      first_refusal ((refusal.NotOpen, not (is_some o)) ∷ (refusal.NoSender, not (is_some read)) ∷ (refusal.NoDest, not (is_some write)) ∷ (refusal.NotPermitted, not (permitted actor source read target write))
+      ∷ (refusal.AlreadyConnected, x) ∷ (refusal.SourcesFull, nat_le most_sources n) ∷ (refusal.Cycle, y) ∷ []) in
+      let e : State → Bool = λ u. has_edge u.edges source target in
+      let n : State → ℕ = λ u. sources_of u.edges target in
+      let y : State → Bool = λ u. makes_cycle u.edges source target in
+      let o : State → Option Client = λ u. FinMap.get u.clients actor in
+      ap (λ x. P x (caps_at s source) (caps_at s target) (e s) (n s) (y s)) (k.clients actor m)
+      ∙ ap (λ x. P (o t) x (caps_at s target) (e s) (n s) (y s)) (same_caps s t k source a)
+      ∙ ap (λ x. P (o t) (caps_at t source) x (e s) (n s) (y s)) (same_caps s t k target b)
+      ∙ ap (λ x. P (o t) (caps_at t source) (caps_at t target) x (n s) (y s)) (same_edge s t k source target i)
+      ∙ ap (λ x. P (o t) (caps_at t source) (caps_at t target) (e t) x (y s)) (same_sources_of s t k target i)
+      ∙ ap (λ x. P (o t) (caps_at t source) (caps_at t target) (e t) (n t) x) (same_cycle s t k w (within_kin s t k w) source target a)
+
+  same_disconnect : (files : List File) (s t : State) → Kin s t → (moment actor : ℕ) (source target : Addr) → member actor ≡ true → member source.client ≡ true → member target.client ≡ true → is_inner owner member target ≡ true →
+      refusal_of files s moment actor (Disconnect source target) ≡ refusal_of files t moment actor (Disconnect source target)
+  unfolding command_row
+  same_disconnect files s t k moment actor source target m a b i =
+      let P : Option Client → Option Caps → Option Caps → Bool → Option Refusal = λ o read write x.
+      first_refusal ((refusal.NotOpen, not (is_some o)) ∷ (refusal.NoSender, not (is_some read)) ∷ (refusal.NoDest, not (is_some write)) ∷ (refusal.NotPermitted, not (permitted actor source read target write))
+      ∷ (refusal.NotConnected, not x) ∷ []) in
+      let e : State → Bool = λ u. has_edge u.edges source target in
+      let o : State → Option Client = λ u. FinMap.get u.clients actor in
+      ap (λ x. P x (caps_at s source) (caps_at s target) (e s)) (k.clients actor m)
+      ∙ ap (λ x. P (o t) x (caps_at s target) (e s)) (same_caps s t k source a)
+      ∙ ap (λ x. P (o t) (caps_at t source) x (e s)) (same_caps s t k target b)
+      ∙ ap (λ x. P (o t) (caps_at t source) (caps_at t target) x) (same_edge s t k source target i)
 
   -- a change of the edges that touches those from source to target alone
   record Edit (f : List Edge → List Edge) (source target : Addr) : Type 0 where
@@ -515,7 +518,7 @@ module _ (owner : ℕ) (member : ℕ → Bool) where
         within = λ h es w. subst (λ gs. list_all r gs ≡ true) (sym (filter-filter i keep es)) (list_all-filter r keep (filter i es) w);
       }
 
-  patch_alike : (f : List Edge → List Edge) (source target : Addr) → Edit f source target → (s t : State) → Kin s t → Within s → (p q : Option ℕ) → (is_inner owner member target ≡ true → member source.client ≡ true) → (is_inner owner member target ≡ true → p ≡ q) → Alike (after_patch s p (f s.edges)) (after_patch t q (f t.edges))
+  patch_alike : (f : List Edge → List Edge) (source target : Addr) → Edit f source target → (s t : State) → Kin s t → Within s → (p q : Option Refusal) → (is_inner owner member target ≡ true → member source.client ≡ true) → (is_inner owner member target ≡ true → p ≡ q) → Alike (patch_step s p f) (patch_step t q f)
   patch_alike f source target e s t k w None None c r = record {
     kin = record { clients = k.clients; pool = k.pool; edges = e.inside s.edges t.edges k.edges; pending = k.pending };
     within = record { edges = e.within c s.edges w.edges; playbacks = w.playbacks };
@@ -533,7 +536,7 @@ module _ (owner : ℕ) (member : ℕ → Bool) where
   }
   patch_alike f source target e s t k w (Some m) (Some n) c r = record { kin = k; within = w; heard = refl }
 
-  patch_aside : (f : List Edge → List Edge) (source target : Addr) → Edit f source target → (s : State) → Within s → (p : Option ℕ) → (is_inner owner member target ≡ true → IsRefusal (after_patch s p (f s.edges)).reply) → Aside (after_patch s p (f s.edges)) s
+  patch_aside : (f : List Edge → List Edge) (source target : Addr) → Edit f source target → (s : State) → Within s → (p : Option Refusal) → (is_inner owner member target ≡ true → IsRefusal (patch_step s p f).reply) → Aside (patch_step s p f) s
   unfolding heard
   patch_aside f source target e s w None r =
       let outside : is_inner owner member target ≡ false = refuted (is_inner owner member target) r in
@@ -545,21 +548,17 @@ module _ (owner : ℕ) (member : ℕ → Bool) where
   patch_aside f source target e s w (Some n) r = record { kin = kin_same s; within = w; heard = refl }
 
   -- the replies are alike, where they are shown
-  patch_told : (s t : State) (moment actor : ℕ) (p q : Option ℕ) (es fs : List Edge) (inside : Bool) → (inside ≡ true → p ≡ q) →
-      cond (eqb actor owner) (cond (not inside) (Outside moment) (Told moment (after_patch s p es).reply) ∷ []) [] ≡ cond (eqb actor owner) (cond (not inside) (Outside moment) (Told moment (after_patch t q fs).reply) ∷ []) []
-  patch_told s t moment actor p q es fs true e = ap (λ r. cond (eqb actor owner) (Told moment r ∷ []) []) (reply_of p ∙ ap (λ o. (after_patch t o fs).reply) (e refl))
+  patch_told : (s t : State) (moment actor : ℕ) (p q : Option Refusal) (f : List Edge → List Edge) (inside : Bool) → (inside ≡ true → p ≡ q) →
+      cond (eqb actor owner) (cond (not inside) (Outside moment) (Told moment (patch_step s p f).reply) ∷ []) [] ≡ cond (eqb actor owner) (cond (not inside) (Outside moment) (Told moment (patch_step t q f).reply) ∷ []) []
+  patch_told s t moment actor p q f true e = ap (λ r. cond (eqb actor owner) (Told moment r ∷ []) []) (reply_of p ∙ ap (λ o. (patch_step t o f).reply) (e refl))
     where
-      reply_of : (o : Option ℕ) → (after_patch s o es).reply ≡ (after_patch t o fs).reply
+      reply_of : (o : Option Refusal) → (patch_step s o f).reply ≡ (patch_step t o f).reply
       reply_of None = refl
       reply_of (Some n) = refl
-  patch_told s t moment actor p q es fs false e = refl
+  patch_told s t moment actor p q f false e = refl
 
   same_pool : (s t : State) → Kin s t → (c : ℕ) → eqb c owner ≡ true → FinMap.get s.pools c ≡ FinMap.get t.pools c
   same_pool s t k c h = subst (λ n. FinMap.get s.pools n ≡ FinMap.get t.pools n) (sym (eqb-true c owner h)) k.pool
-
-  as_it_is : (s : State) (reply : Reply) → Within s → Aside (record { state = s; delivered = []; reply = reply }) s
-  unfolding heard
-  as_it_is s reply w = record { kin = kin_same s; within = record { edges = w.edges; playbacks = w.playbacks }; heard = refl }
 
   same_named : (s t : State) → Kin s t → (actor : ℕ) (q : Option QueueAddr) → member actor ≡ true → NamesWithin member actor q → named_queue s.clients actor q ≡ named_queue t.clients actor q
   same_named s t k actor None m n = refl
@@ -567,74 +566,72 @@ module _ (owner : ℕ) (member : ℕ → Bool) where
 
   -- ---- each command
 
+  -- what two commands leave, and tell, is the same to the owner
+  abbrev BothAlike : ℕ → ℕ → Command → Stepped → Stepped → Type 0
+  BothAlike moment actor command a b = Alike a b × (told moment actor command a.reply ≡ told moment actor command b.reply)
+
+  -- the row of a command that changes no subscriptions is the same in both
+  alike_row : (files : List File) (s t : State) → Kin s t → (moment actor : ℕ) (command : Command) → is_patch command ≡ false → member actor ≡ true → NamesWithin member actor (queue_named command) →
+      row_of files s moment actor command ≡ row_of files t moment actor command
+  alike_row files s t k moment actor command h m n =
+      let q : Option QueueAddr = queue_named command in
+      let row : Option Client → Option Queue → ℕ → Row = λ client queue used.
+      command_row (record { files = files; moment = moment; actor = actor; client = client; queue = queue; used = used; nodes = caps_at t; edges = t.edges }) command in
+      same_row (asked files s moment actor command) (caps_at t) t.edges command h
+      ∙ ap (λ x. row x (named_queue s.clients actor q) (used s actor)) (k.clients actor m)
+      ∙ ap (λ x. row (FinMap.get t.clients actor) x (used s actor)) (same_named s t k actor q m n)
+      ∙ ap (λ x. row (FinMap.get t.clients actor) (named_queue t.clients actor q) x) (same_used s t k actor m)
+
+  own_command_alike : (files : List File) (s t : State) → Kin s t → Within s → (moment actor : ℕ) (command : Command) → is_patch command ≡ false → member actor ≡ true → NamesWithin member actor (queue_named command) →
+      BothAlike moment actor command (command_step files s moment actor command) (command_step files t moment actor command)
+  own_command_alike files s t k w moment actor command h m n =
+      let q : Option QueueAddr = queue_named command in
+      let r : Row = row_of files s moment actor command in
+      let e : r ≡ row_of files t moment actor command = alike_row files s t k moment actor command h m n in
+      let step : State → Row → Stepped = λ u z. unless (first_refusal z.conditions) u (after_own u moment actor q z.own) in
+      let x : Stepped = after_own s moment actor q r.own in
+      let y : Stepped = after_own t moment actor q r.own in
+      let stay : Stay r.own = edges_stay (asked files s moment actor command) command h in
+      let same : told moment actor command x.reply ≡ told moment actor command y.reply = told_reply moment actor command x.reply y.reply (λ i. ap r.own.reply (same_pool s t k actor i)) in
+      subst (λ z. BothAlike moment actor command (step s r) (step t z)) e (
+        unless_alike s t k w (first_refusal r.conditions) x y (own_alike s t moment actor q r.own stay k w m n),
+        unless_told s t moment actor command (first_refusal r.conditions) x y same,
+      )
+
   pub command_alike : member owner ≡ true → (files : List File) (s t : State) → Kin s t → Within s → (moment actor : ℕ) (command : Command) → member actor ≡ true → IsClosedAt owner member actor command (command_step files s moment actor command).reply → NamesWithin member actor (queue_named command) →
       Alike (command_step files s moment actor command) (command_step files t moment actor command) × (told moment actor command (command_step files s moment actor command).reply ≡ told moment actor command (command_step files t moment actor command).reply)
   command_alike o files s t k w moment actor (Connect source target) m c n =
-      let p : Option ℕ = connect_refusal s actor source target in
-      let q : Option ℕ = connect_refusal t actor source target in
-      let more : Bool → ℕ → Bool → List (ℕ × Bool) = λ x n y. (11, x) ∷ (13, nat_le most_sources n) ∷ (14, y) ∷ [] in
-      let same_pq : is_inner owner member target ≡ true → p ≡ q = λ i.
-      same_refusal s t k actor source target (more (has_edge s.edges source target) (sources_of s.edges target) (makes_cycle s.edges source target)) m ((c i).0 m) (inner_member owner member o target i)
-      ∙ ap (λ x. patch_refusal t actor source target (more x (sources_of s.edges target) (makes_cycle s.edges source target))) (same_edge s t k source target i)
-      ∙ ap (λ n. patch_refusal t actor source target (more (has_edge t.edges source target) n (makes_cycle s.edges source target))) (same_sources_of s t k target i)
-      ∙ ap (λ y. patch_refusal t actor source target (more (has_edge t.edges source target) (sources_of t.edges target) y)) (same_cycle s t k w (within_kin s t k w) source target ((c i).0 m)) in (
-        patch_alike (connected source target) source target (connecting source target) s t k w p q (λ i. (c i).0 m) same_pq,
-        patch_told s t moment actor p q (connected source target s.edges) (connected source target t.edges) (is_inner owner member target) same_pq,
-      )
+      let p : Option Refusal = refusal_of files s moment actor (Connect source target) in
+      let q : Option Refusal = refusal_of files t moment actor (Connect source target) in
+      let f : List Edge → List Edge = connected source target in
+      let same_pq : is_inner owner member target ≡ true → p ≡ q = λ i. same_connect files s t k w moment actor source target m ((c i).0 m) (inner_member owner member o target i) i in
+      subst (λ x. BothAlike moment actor (Connect source target) x (command_step files t moment actor (Connect source target))) (sym (step-connects files s moment actor source target))
+      (subst (λ y. BothAlike moment actor (Connect source target) (patch_step s p f) y) (sym (step-connects files t moment actor source target)) (
+        patch_alike f source target (connecting source target) s t k w p q (λ i. (c i).0 m) same_pq,
+        patch_told s t moment actor p q f (is_inner owner member target) same_pq,
+      ))
   command_alike o files s t k w moment actor (Disconnect source target) m c n =
-      let p : Option ℕ = disconnect_refusal s actor source target in
-      let q : Option ℕ = disconnect_refusal t actor source target in
-      let same_pq : is_inner owner member target ≡ true → p ≡ q = λ i.
-      same_refusal s t k actor source target ((12, not (has_edge s.edges source target)) ∷ []) m ((c i).0 m) (inner_member owner member o target i)
-      ∙ ap (λ b. patch_refusal t actor source target ((12, not b) ∷ [])) (same_edge s t k source target i) in (
-        patch_alike (disconnected source target) source target (disconnecting source target) s t k w p q (λ i. (c i).0 m) same_pq,
-        patch_told s t moment actor p q (disconnected source target s.edges) (disconnected source target t.edges) (is_inner owner member target) same_pq,
-      )
-  command_alike o files s t k w moment actor (Receive max) m c n =
-      let a : PoolAnswer = received max (FinMap.get s.pools actor) in
-      let b : PoolAnswer = received max (FinMap.get t.pools actor) in
-      let same_ab : eqb actor owner ≡ true → a ≡ b = λ h. ap (received max) (same_pool s t k actor h) in
-      let p : Option ℕ = receive_refusal (FinMap.get s.clients actor) max in
-      let same_p : p ≡ receive_refusal (FinMap.get t.clients actor) max = ap (λ x. receive_refusal x max) (k.clients actor m) in (
-        subst (λ q. Alike (unless p s (after_pool s actor a)) (unless q t (after_pool t actor b))) same_p (unless_alike s t k w p (after_pool s actor a) (after_pool t actor b) (pool_alike s t actor a b k w same_ab)),
-        unless_told s t moment actor (Receive max) p (after_pool s actor a) (after_pool t actor b) (told_pool moment actor (Receive max) a.reply b.reply (λ h. ap (λ r. r.reply) (same_ab h)))
-            ∙ ap (λ q. told moment actor (Receive max) (unless q t (after_pool t actor b)).reply) same_p,
-      )
-  command_alike o files s t k w moment actor PoolStatus m c n =
-      let a : Reply = pool_status (FinMap.get s.pools actor) (used s actor) in
-      let b : Reply = pool_status (FinMap.get t.pools actor) (used t actor) in
-      let x : Stepped = record { state = s; delivered = []; reply = a } in
-      let y : Stepped = record { state = t; delivered = []; reply = b } in
-      let same_ab : eqb actor owner ≡ true → a ≡ b = λ h.
-      ap (λ z. pool_status z (used s actor)) (same_pool s t k actor h) ∙ ap (pool_status (FinMap.get t.pools actor)) (same_used s t k actor m) in
-      let p : Option ℕ = status_refusal (FinMap.get s.clients actor) in
-      let same_p : p ≡ status_refusal (FinMap.get t.clients actor) = ap status_refusal (k.clients actor m) in (
-        subst (λ q. Alike (unless p s x) (unless q t y)) same_p (unless_alike s t k w p x y (record { kin = k; within = w; heard = refl })),
-        unless_told s t moment actor PoolStatus p x y (told_pool moment actor PoolStatus a b same_ab) ∙ ap (λ q. told moment actor PoolStatus (unless q t y).reply) same_p,
-      )
-  command_alike o files s t k w moment actor command m c n =
-      let q : Option QueueAddr = queue_named command in
-      let r : State → Row = λ u. own_command files moment actor (FinMap.get u.clients actor) (named_queue u.clients actor q) (used u actor) command in
-      let e : r s ≡ r t =
-      ap (λ x. own_command files moment actor x (named_queue s.clients actor q) (used s actor) command) (k.clients actor m)
-      ∙ ap (λ x. own_command files moment actor (FinMap.get t.clients actor) x (used s actor) command) (same_named s t k actor q m n)
-      ∙ ap (λ x. own_command files moment actor (FinMap.get t.clients actor) (named_queue t.clients actor q) x command) (same_used s t k actor m) in
-      let own : Own = (r s).own in
-      let x : Stepped = after_own s moment actor q own in
-      let y : Stepped = after_own t moment actor q own in (
-        subst (λ z. Alike (after_row s moment actor q (r s)) (after_row t moment actor q z)) e (unless_alike s t k w (r s).refusal x y (own_alike s t moment actor q own k w m n)),
-        unless_told s t moment actor command (r s).refusal x y refl ∙ ap (λ z. told moment actor command (after_row t moment actor q z).reply) e,
-      )
+      let p : Option Refusal = refusal_of files s moment actor (Disconnect source target) in
+      let q : Option Refusal = refusal_of files t moment actor (Disconnect source target) in
+      let f : List Edge → List Edge = disconnected source target in
+      let same_pq : is_inner owner member target ≡ true → p ≡ q = λ i. same_disconnect files s t k moment actor source target m ((c i).0 m) (inner_member owner member o target i) i in
+      subst (λ x. BothAlike moment actor (Disconnect source target) x (command_step files t moment actor (Disconnect source target))) (sym (step-parts files s moment actor source target))
+      (subst (λ y. BothAlike moment actor (Disconnect source target) (patch_step s p f) y) (sym (step-parts files t moment actor source target)) (
+        patch_alike f source target (disconnecting source target) s t k w p q (λ i. (c i).0 m) same_pq,
+        patch_told s t moment actor p q f (is_inner owner member target) same_pq,
+      ))
+  command_alike o files s t k w moment actor command m c n = own_command_alike files s t k w moment actor command refl m n
 
   pub command_aside : member owner ≡ true → (files : List File) (s : State) → Within s → (moment actor : ℕ) (command : Command) → member actor ≡ false → IsClosedAt owner member actor command (command_step files s moment actor command).reply → Aside (command_step files s moment actor command) s
-  command_aside o files s w moment actor (Connect source target) m c = patch_aside (connected source target) source target (connecting source target) s w (connect_refusal s actor source target) (λ i. (c i).1 m)
-  command_aside o files s w moment actor (Disconnect source target) m c = patch_aside (disconnected source target) source target (disconnecting source target) s w (disconnect_refusal s actor source target) (λ i. (c i).1 m)
-  command_aside o files s w moment actor (Receive max) m c =
-      unless_aside s w (receive_refusal (FinMap.get s.clients actor) max) (after_pool s actor (received max (FinMap.get s.pools actor))) (pool_aside o s actor (received max (FinMap.get s.pools actor)) w m)
-  command_aside o files s w moment actor PoolStatus m c =
-      let reply : Reply = pool_status (FinMap.get s.pools actor) (used s actor) in
-      unless_aside s w (status_refusal (FinMap.get s.clients actor)) (record { state = s; delivered = []; reply = reply }) (as_it_is s reply w)
+  command_aside o files s w moment actor (Connect source target) m c =
+      let e = step-connects files s moment actor source target in
+      subst (λ x. Aside x s) (sym e)
+      (patch_aside (connected source target) source target (connecting source target) s w (refusal_of files s moment actor (Connect source target)) (λ i. subst (λ (x : Stepped). IsRefusal x.reply) e ((c i).1 m)))
+  command_aside o files s w moment actor (Disconnect source target) m c =
+      let e = step-parts files s moment actor source target in
+      subst (λ x. Aside x s) (sym e)
+      (patch_aside (disconnected source target) source target (disconnecting source target) s w (refusal_of files s moment actor (Disconnect source target)) (λ i. subst (λ (x : Stepped). IsRefusal x.reply) e ((c i).1 m)))
   command_aside o files s w moment actor command m c =
-      let q : Option QueueAddr = queue_named command in
-      let r : Row = own_command files moment actor (FinMap.get s.clients actor) (named_queue s.clients actor q) (used s actor) command in
-      unless_aside s w r.refusal (after_own s moment actor q r.own) (own_aside o s moment actor q r.own w m)
+      let r : Row = row_of files s moment actor command in
+      unless_aside s w (first_refusal r.conditions) (after_own s moment actor (queue_named command) r.own)
+      (own_aside o s moment actor (queue_named command) r.own (edges_stay (asked files s moment actor command) command refl) w m)

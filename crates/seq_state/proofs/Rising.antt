@@ -23,20 +23,23 @@ use Rattle.patch_graph.specs.declared.edge.Edge.{Edge}
 use Rattle.seq_state.specs.declared.input.Command.{Command}
 use Rattle.seq_state.specs.declared.input.Command.TheVariants.{Open, Close, CreatePort, DeletePort, CreateFilter, SetFilter, DeleteFilter, Connect, Disconnect, Bytes, CreateQueue, CreateQueueFrom, DeleteQueue, Start, Stop, Continue, Tempo, Share, Schedule, Play, Receive, PoolStatus}
 use Rattle.seq_state.specs.declared.input.Input.{Input}
-use Rattle.seq_state.specs.declared.input.QueueAddr.{QueueAddr}
+use Rattle.node_table.specs.declared.number.QueueAddr.{QueueAddr}
 use Rattle.seq_state.specs.declared.log.Delivery.{Delivery}
 use Rattle.seq_state.specs.declared.log.LogEntry.{LogEntry}
 use Rattle.seq_state.specs.declared.log.LogEntry.TheVariants.{Delivered, Replied}
+use Rattle.seq_state.specs.declared.refusal.Refusal.{Refusal}
+use Rattle.seq_state.specs.declared.refusal.Refusal.TheVariants as refusal
 use Rattle.seq_state.specs.Files.{File}
 use Rattle.seq_state.specs.State.{PortInfo, FilterInfo, Queue, Client, Pool, Event, Playback, Pending, State, start, queues_of, put}
 use Rattle.seq_state.specs.Copies.{copy, delivery, carried, copies}
-use Rattle.seq_state.specs.Own.{not_open, has_queue, bad_tempo, first_refusal, Own, Row, changed, put_port, port_fed, port_of, put_filter, filter_ruled, filter_of, queue_of, put_queue, queue_map, clocked, new_queue, file_queue, file_at, own_command, receive_refusal, status_refusal, queue_named}
-use Rattle.seq_state.specs.Step.{has_room, offer, delivered, Timed, moment_in, event_moment, is_by, playback_after, is_left, due, port_addr, event_copies, Settled, settle, Stepped, used, drops, pending_of, named_queue, with_own, send_copies, unless, after_own, connect_refusal, disconnect_refusal, row_of, command_step, step, log_from, IsTimedFrom}
+use Rattle.seq_state.specs.Own.{Own, changed, put_port, port_fed, port_of, put_filter, filter_ruled, filter_of, queue_of, put_queue, queue_changed, clocked, public, new_port, new_filter, held_queue, one_tempo, file_queue, file_at, queue_map}
+use Rattle.seq_state.specs.Table.{Asked, Condition, first_refusal, not_open, queue_exists, bad_tempo, queue_named, command_row}
+use Rattle.seq_state.specs.Step.{has_room, offer, delivered, Timed, moment_in, event_moment, is_by, playback_after, is_left, due, port_addr, event_copies, Settled, settle, Stepped, drops, pending_of, with_own, send_copies, unless, asked, row_of, refusal_of, effect_of, command_step, step, log_from, IsTimedFrom}
 use Rattle.seq_state.specs.Laws.{IsByMoment, timed_at, timed_of, all_timed, placed, sorted, has_ticks, deliveries_of, NeverFall, RisingLaw, from_now, is_fresh, Ready, ReadyLaw}
 use Rattle.seq_state.proofs.Lists.{both_left, both_right, and_both, list_all-append, list_all-weaker, list_all-filter, list_all-passed, list_all-flat_map, list_all-map, list_all-always}
 use Rattle.seq_state.proofs.Order.{due_law}
 use Rattle.seq_state.proofs.Sorted.{sort_law}
-use Rattle.seq_state.proofs.Kin.{get-put}
+use Rattle.seq_state.proofs.Effects.{get-put}
 
 -- ---- lists of deliveries
 
@@ -319,7 +322,7 @@ now-added : (m : ℕ) → (eqb m m && true) ≡ true
 now-added m = and_both (eqb m m) true (eq-eqb m m refl) refl
 
 -- the second condition does not hold of a row that is not refused
-second_fails : (a : ℕ × Bool) (n : ℕ) (b : Bool) (rest : List (ℕ × Bool)) → first_refusal (a ∷ (n, not b) ∷ rest) ≡ None → b ≡ true
+second_fails : (a : Condition) (n : Refusal) (b : Bool) (rest : List Condition) → first_refusal (a ∷ (n, not b) ∷ rest) ≡ None → b ≡ true
 second_fails a n b rest e = go a.1 b e
   where
     go : (x y : Bool) → cond x (Some a.0) (cond (not y) (Some n) (first_refusal rest)) ≡ None → y ≡ true
@@ -327,7 +330,7 @@ second_fails a n b rest e = go a.1 b e
     go true false e = absurd cc
     go false false e = absurd cc
 
-ppq-ticks : (ppq tempo : ℕ) → is_ppq ppq ≡ true → 0 < resolution (new_queue ppq tempo).clock.map
+ppq-ticks : (ppq tempo : ℕ) → is_ppq ppq ≡ true → 0 < resolution (one_tempo ppq tempo)
 unfolding resolution
 ppq-ticks ppq tempo h = go (nat_le 32768 ppq) refl
   where
@@ -356,55 +359,54 @@ file-follows m o (f ∷ files) zero q h e =
     subst (λ (y : Queue). Follows m o y) (only_one (record { clock = record { map = tempos; time = 0; since = None }; shared = false }) q e) (follows-new m o tempos false (ltb-true 0 (resolution tempos) (both_left (has_ticks f) (list_all has_ticks files) h)))
 file-follows m o (f ∷ files) (suc n) q h e = file-follows m o files n q (both_right (has_ticks f) (list_all has_ticks files) h) e
 
-steady : (files : List File) → list_all has_ticks files ≡ true → (m actor : ℕ) (client : Option Client) (named : Option Queue) (used : ℕ) (command : Command) →
-    (own_command files m actor client named used command).refusal ≡ None → Steady m client (own_command files m actor client named used command).own
-unfolding own_command
-steady files ok m actor client named used (Open name in_size out_size) r = record { queues = none-left m client; added = refl }
-steady files ok m actor client named used Close r = record { queues = none-left m client; added = refl }
-steady files ok m actor client named used (CreatePort port name caps) r =
-    let info : Option PortInfo = Some (record { name = name; caps = caps; fed = [] }) in
-    record { queues = others-change m client (put_port port info) (put_port-queues port info); added = refl }
-steady files ok m actor client named used (DeletePort port) r = record { queues = others-change m client (put_port port None) (put_port-queues port None); added = refl }
-steady files ok m actor client named used (CreateFilter n caps rule) r =
-    let info : Option FilterInfo = Some (record { caps = caps; rule = rule }) in
-    record { queues = others-change m client (put_filter n info) (put_filter-queues n info); added = refl }
-steady files ok m actor client named used (SetFilter n rule) r =
-    let info : Option FilterInfo = filter_ruled rule (filter_of client n) in
-    record { queues = others-change m client (put_filter n info) (put_filter-queues n info); added = refl }
-steady files ok m actor client named used (DeleteFilter n) r = record { queues = others-change m client (put_filter n None) (put_filter-queues n None); added = refl }
-steady files ok m actor client named used (Bytes port bytes) r =
-    let info : Option PortInfo = port_fed bytes (port_of client port) in
-    record { queues = others-change m client (put_port port info) (put_port-queues port info); added = refl }
-steady files ok m actor client named used (CreateQueue n ppq tempo) r =
-    let new : Queue = new_queue ppq tempo in
-    let ticks : 0 < resolution new.clock.map = ppq-ticks ppq tempo (second_fails (not_open client) 4 (is_ppq ppq) ((15, has_queue client n) ∷ bad_tempo tempo ∷ []) r) in
+steady : (a : Asked) → list_all has_ticks a.files ≡ true → (command : Command) → first_refusal (command_row a command).conditions ≡ None → Steady a.moment a.client (command_row a command).own
+unfolding command_row
+steady a ok (Open name in_size out_size) r = record { queues = none-left a.moment a.client; added = refl }
+steady a ok Close r = record { queues = none-left a.moment a.client; added = refl }
+steady a ok (CreatePort port name caps) r =
+    let info : Option PortInfo = Some (new_port name caps) in
+    record { queues = others-change a.moment a.client (put_port port info) (put_port-queues port info); added = refl }
+steady a ok (DeletePort port) r = record { queues = others-change a.moment a.client (put_port port None) (put_port-queues port None); added = refl }
+steady a ok (CreateFilter n caps rule) r =
+    let info : Option FilterInfo = Some (new_filter caps rule) in
+    record { queues = others-change a.moment a.client (put_filter n info) (put_filter-queues n info); added = refl }
+steady a ok (SetFilter n rule) r =
+    let info : Option FilterInfo = filter_ruled rule (filter_of a.client n) in
+    record { queues = others-change a.moment a.client (put_filter n info) (put_filter-queues n info); added = refl }
+steady a ok (DeleteFilter n) r = record { queues = others-change a.moment a.client (put_filter n None) (put_filter-queues n None); added = refl }
+steady a ok (Bytes port bytes) r =
+    let info : Option PortInfo = port_fed bytes (port_of a.client port) in
+    record { queues = others-change a.moment a.client (put_port port info) (put_port-queues port info); added = refl }
+steady a ok (CreateQueue n ppq tempo) r =
+    let new : Queue = held_queue (one_tempo ppq tempo) in
+    let ticks : 0 < resolution new.clock.map = ppq-ticks ppq tempo (second_fails (not_open a) refusal.BadSize (is_ppq ppq) (queue_exists a n ∷ bad_tempo tempo ∷ []) r) in
     record {
-      queues = one-changes m client n (Some new) (λ q e. subst (λ (y : Queue). Follows m (queue_of client n) y) (only_one new q e) (follows-new m (queue_of client n) new.clock.map false ticks));
+      queues = one-changes a.moment a.client n (Some new) (λ q e. subst (λ (y : Queue). Follows a.moment (queue_of a.client n) y) (only_one new q e) (follows-new a.moment (queue_of a.client n) new.clock.map false ticks));
       added = refl;
     }
-steady files ok m actor client named used (CreateQueueFrom n file) r = record { queues = one-changes m client n (file_queue (file_at files file)) (λ q e. file-follows m (queue_of client n) files file q ok e); added = refl }
-steady files ok m actor client named used (DeleteQueue q) r = record { queues = one-changes m client q.queue None (λ x e. absurd (none_some x e)); added = refl }
-steady files ok m actor client named used (Start q) r =
-    record { queues = one-changes m client q.queue (queue_map (clocked (λ c. started c m)) (queue_of client q.queue)) (mapped m (clocked (λ c. started c m)) (follows-started m) (queue_of client q.queue)); added = refl }
-steady files ok m actor client named used (Stop q) r =
-    record { queues = one-changes m client q.queue (queue_map (clocked (λ c. stopped c m)) (queue_of client q.queue)) (mapped m (clocked (λ c. stopped c m)) (follows-stopped m) (queue_of client q.queue)); added = refl }
-steady files ok m actor client named used (Continue q) r =
-    record { queues = one-changes m client q.queue (queue_map (clocked (λ c. resumed c m)) (queue_of client q.queue)) (mapped m (clocked (λ c. resumed c m)) (follows-resumed m) (queue_of client q.queue)); added = refl }
-steady files ok m actor client named used (Tempo q tempo) r =
+steady a ok (CreateQueueFrom n file) r = record { queues = one-changes a.moment a.client n (file_queue (file_at a.files file)) (λ q e. file-follows a.moment (queue_of a.client n) a.files file q ok e); added = refl }
+steady a ok (DeleteQueue q) r = record { queues = one-changes a.moment a.client q.queue None (λ x e. absurd (none_some x e)); added = refl }
+steady a ok (Start q) r =
+    record { queues = one-changes a.moment a.client q.queue (queue_map (clocked (λ c. started c a.moment)) (queue_of a.client q.queue)) (mapped a.moment (clocked (λ c. started c a.moment)) (follows-started a.moment) (queue_of a.client q.queue)); added = refl }
+steady a ok (Stop q) r =
+    record { queues = one-changes a.moment a.client q.queue (queue_map (clocked (λ c. stopped c a.moment)) (queue_of a.client q.queue)) (mapped a.moment (clocked (λ c. stopped c a.moment)) (follows-stopped a.moment) (queue_of a.client q.queue)); added = refl }
+steady a ok (Continue q) r =
+    record { queues = one-changes a.moment a.client q.queue (queue_map (clocked (λ c. resumed c a.moment)) (queue_of a.client q.queue)) (mapped a.moment (clocked (λ c. resumed c a.moment)) (follows-resumed a.moment) (queue_of a.client q.queue)); added = refl }
+steady a ok (Tempo q tempo) r =
     record {
-      queues = one-changes m client q.queue (queue_map (clocked (λ c. with_tempo c m tempo)) (queue_of client q.queue)) (mapped m (clocked (λ c. with_tempo c m tempo)) (follows-tempo m tempo) (queue_of client q.queue));
+      queues = one-changes a.moment a.client q.queue (queue_map (clocked (λ c. with_tempo c a.moment tempo)) (queue_of a.client q.queue)) (mapped a.moment (clocked (λ c. with_tempo c a.moment tempo)) (follows-tempo a.moment tempo) (queue_of a.client q.queue));
       added = refl;
     }
-steady files ok m actor client named used (Share q) r =
-    record { queues = one-changes m client q.queue (queue_map (λ x. record x { shared = true }) (queue_of client q.queue)) (mapped m (λ x. record x { shared = true }) (follows-shared m) (queue_of client q.queue)); added = refl }
-steady files ok m actor client named used (Schedule q port due message) r = record { queues = all-same m client; added = now-added m }
-steady files ok m actor client named used (Play q port file) r = record { queues = all-same m client; added = now-added m }
-steady files ok m actor client named used command r = record { queues = all-same m client; added = refl }
+steady a ok (Share q) r =
+    record { queues = one-changes a.moment a.client q.queue (queue_map public (queue_of a.client q.queue)) (mapped a.moment public (follows-shared a.moment) (queue_of a.client q.queue)); added = refl }
+steady a ok (Schedule q port due message) r = record { queues = all-same a.moment a.client; added = now-added a.moment }
+steady a ok (Play q port file) r = record { queues = all-same a.moment a.client; added = now-added a.moment }
+steady a ok command r = record { queues = all-same a.moment a.client; added = refl }
 
 -- ---- each command
 
 -- an event that was accepted now has no earlier moment
-new-from : (m : ℕ) (o : Option Queue) (accepted : ℕ) (e : Event) → accepted ≡ m → from_now m (moment_in o accepted e) ≡ true
+new-from : (m : ℕ) (o : Option Queue) (accepted : ℕ) (e : Event) → accepted ≡ m → from_now m (moment_in o accepted e.due) ≡ true
 new-from m None accepted e h = refl
 new-from m (Some x) accepted e h = go (moment_of x.clock accepted e.due) refl
   where
@@ -414,13 +416,13 @@ new-from m (Some x) accepted e h = go (moment_of x.clock accepted e.due) refl
 
 -- an event with no earlier moment has none after the command
 still-from : (m : ℕ) (o after : Option Queue) (accepted : ℕ) (e : Event) → ((x : Queue) → after ≡ Some x → Follows m o x) → ((x : Queue) → o ≡ Some x → 0 < resolution x.clock.map) →
-    from_now m (moment_in o accepted e) ≡ true → from_now m (moment_in after accepted e) ≡ true
+    from_now m (moment_in o accepted e.due) ≡ true → from_now m (moment_in after accepted e.due) ≡ true
 still-from m o None accepted e f t h = refl
 still-from m o (Some x) accepted e f t h = go (moment_of x.clock accepted e.due) refl
   where
     before : (k : ℕ) → (m ≤ k) ⊎ ((y : Queue) × (o ≡ Some y) × (moment_of y.clock accepted e.due ≡ Some k)) → nat_le m k ≡ true
     before k (inl l) = le-leb m k l
-    before k (inr w) = sym (ap (λ i. from_now m (moment_in i accepted e)) w.1 ∙ ap (from_now m) w.2) ∙ h
+    before k (inr w) = sym (ap (λ i. from_now m (moment_in i accepted e.due)) w.1 ∙ ap (from_now m) w.2) ∙ h
 
     go : (k : Option ℕ) → moment_of x.clock accepted e.due ≡ k → from_now m k ≡ true
     go None g = refl
@@ -448,8 +450,8 @@ module _ (s : State) (m actor : ℕ) (q : Option QueueAddr) (own : Own) (r : Rea
   new-fresh : (p : Playback) → eqb p.accepted m ≡ true → is_fresh clients m (pending_of actor q p) ≡ true
   new-fresh p h = go q
     where
-      at : (c n : ℕ) → list_all (λ e. from_now m (moment_in (FinMap.get (queues_of (FinMap.get clients c)) n) p.accepted e)) p.events ≡ true
-      at c n = list_all-always (λ e. from_now m (moment_in (FinMap.get (queues_of (FinMap.get clients c)) n) p.accepted e)) (λ e. new-from m (FinMap.get (queues_of (FinMap.get clients c)) n) p.accepted e (eqb-true p.accepted m h)) p.events
+      at : (c n : ℕ) → list_all (λ e. from_now m (moment_in (FinMap.get (queues_of (FinMap.get clients c)) n) p.accepted e.due)) p.events ≡ true
+      at c n = list_all-always (λ e. from_now m (moment_in (FinMap.get (queues_of (FinMap.get clients c)) n) p.accepted e.due)) (λ e. new-from m (FinMap.get (queues_of (FinMap.get clients c)) n) p.accepted e (eqb-true p.accepted m h)) p.events
 
       go : (i : Option QueueAddr) → is_fresh clients m (pending_of actor i p) ≡ true
       go None = at actor 0
@@ -470,23 +472,19 @@ pub record IsDone (m : ℕ) (a : Stepped) : Type 0 where
   pub ready : Ready a.state m
   pub at : all_at m a.delivered
 
-unless-done : (m : ℕ) (s : State) → Ready s m → (o : Option ℕ) (effect : Stepped) → (o ≡ None → IsDone m effect) → IsDone m (unless o s effect)
+unless-done : (m : ℕ) (s : State) → Ready s m → (o : Option Refusal) (effect : Stepped) → (o ≡ None → IsDone m effect) → IsDone m (unless o s effect)
 unless-done m s r None effect h = h refl
 unless-done m s r (Some n) effect h = record { ready = r; at = refl }
 
 pub command-done : (files : List File) → list_all has_ticks files ≡ true → (s : State) (m actor : ℕ) (command : Command) → Ready s m → IsDone m (command_step files s m actor command)
-command-done files ok s m actor (Connect source target) r = unless-done m s r (connect_refusal s actor source target) _ (λ e. record { ready = record { ticks = r.ticks; told = r.told; fresh = r.fresh }; at = refl })
-command-done files ok s m actor (Disconnect source target) r = unless-done m s r (disconnect_refusal s actor source target) _ (λ e. record { ready = record { ticks = r.ticks; told = r.told; fresh = r.fresh }; at = refl })
-command-done files ok s m actor (Receive max) r = unless-done m s r (receive_refusal (FinMap.get s.clients actor) max) _ (λ e. record { ready = record { ticks = r.ticks; told = r.told; fresh = r.fresh }; at = refl })
-command-done files ok s m actor PoolStatus r = unless-done m s r (status_refusal (FinMap.get s.clients actor)) _ (λ e. record { ready = r; at = refl })
 command-done files ok s m actor command r =
     let q : Option QueueAddr = queue_named command in
-    let row : Row = row_of files s m actor command in
-    unless-done m s r row.refusal (after_own s m actor q row.own) (λ e.
-    let after : Ready (with_own s actor q row.own) m = ready-own s m actor q row.own r (steady files ok m actor (FinMap.get s.clients actor) (named_queue s.clients actor q) (used s actor) command e) in
+    let own : Own = (row_of files s m actor command).own in
+    unless-done m s r (refusal_of files s m actor command) (effect_of files s m actor command) (λ e.
+    let after : Ready (with_own s actor q own) m = ready-own s m actor q own r (steady (asked files s m actor command) ok command e) in
     record {
       ready = record { ticks = after.ticks; told = after.told; fresh = after.fresh };
-      at = delivered-all (λ d. eqb d.moment m) (with_own s actor q row.own).pools (send_copies s m actor row.own.sends) (send_copies-at s m actor row.own.sends);
+      at = delivered-all (λ d. eqb d.moment m) (with_own s actor q own).pools (send_copies s m actor own.sends) (send_copies-at s m actor own.sends);
     })
 
 -- ---- a run

@@ -6,7 +6,7 @@ use Rattle.node_table.specs.declared.number.Addr.{Addr}
 use Rattle.node_table.specs.declared.number.Node.{Node}
 use Rattle.seq_state.specs.declared.input.Input.{Input}
 use Rattle.seq_state.specs.declared.input.Command.{Command}
-use Rattle.seq_state.specs.declared.input.QueueAddr.{QueueAddr}
+use Rattle.node_table.specs.declared.number.QueueAddr.{QueueAddr}
 use Rattle.seq_state.specs.declared.log.Delivery.{Delivery}
 use Rattle.seq_state.specs.declared.log.LogEntry.{LogEntry}
 use Rattle.seq_state.specs.declared.log.Reply.{Reply}
@@ -15,7 +15,7 @@ use Rattle.seq_state.specs.declared.input.Command.TheVariants.{Connect, Disconne
 use Rattle.seq_state.specs.declared.log.LogEntry.TheVariants.{Delivered, Replied}
 use Rattle.seq_state.specs.Files.{File}
 use Rattle.seq_state.specs.State.{State, start}
-use Rattle.seq_state.specs.Own.{queue_named}
+use Rattle.seq_state.specs.Table.{queue_named}
 use Rattle.seq_state.specs.Step.{IsTimedFrom, Stepped, command_step, step, settle, log_from, Settled, state_after, IsRefusal}
 use Rattle.seq_state.specs.Circle.{only, Sight, Came, is_to, sight, view, sight_of_reply, IsClosedAt, NamesWithin, aims_outside, Outside, Told, IsClosedFrom, IsolationLaw, is_inner, inner_node, JoinsWithin}
 use Rattle.seq_state.specs.Laws.{view_step, OneInputLaw, PathLaw, MeetLaw}

@@ -7,14 +7,14 @@ use Rattle.node_table.specs.declared.number.Node.TheVariants.{Port, Filter}
 use Rattle.seq_state.specs.declared.input.Command.{Command}
 use Rattle.seq_state.specs.declared.input.Command.TheVariants.{Connect, Disconnect}
 use Rattle.seq_state.specs.declared.input.Input.{Input}
-use Rattle.seq_state.specs.declared.input.QueueAddr.{QueueAddr}
+use Rattle.node_table.specs.declared.number.QueueAddr.{QueueAddr}
 use Rattle.seq_state.specs.declared.log.Delivery.{Delivery}
 use Rattle.seq_state.specs.declared.log.LogEntry.{LogEntry}
 use Rattle.seq_state.specs.declared.log.LogEntry.TheVariants.{Delivered, Replied}
 use Rattle.seq_state.specs.declared.log.Reply.{Reply}
 use Rattle.seq_state.specs.Files.{File}
 use Rattle.seq_state.specs.State.{State, start}
-use Rattle.seq_state.specs.Own.{queue_named}
+use Rattle.seq_state.specs.Table.{queue_named}
 use Rattle.seq_state.specs.Step.{step, plain, IsTimed, IsRefusal}
 
 -- the circle's inputs

@@ -1,13 +1,10 @@
 pub mod Refusals
-pub mod Texts
 pub mod Files
 pub mod State
 pub mod Copies
 pub mod Own
+pub mod Table
 pub mod Step
 pub mod Circle
 pub mod Heard
 pub mod Laws
-pub mod Rows
-pub mod Examples
-pub mod Conditions

@@ -1,55 +1,53 @@
--- What a command does with what is the actor's own: a row for each command.
-use Rattle.std.specs.Prelude.{ℕ, ◌+◌, ◌^◌, ◌==◌, nat_le, Bool, true, false, not, ◌&&◌, ◌||◌, if◌then◌else◌, List, [], ◌∷◌, ◌++◌, map, length, take, drop, Option, Some, None, is_some, slice_get}
+-- What a client has of its own, and what a command changes of it.
+use Rattle.std.specs.Prelude.{ℕ, ◌+◌, ◌^◌, ◌==◌, nat_le, Bool, true, false, ◌&&◌, List, [], ◌∷◌, ◌++◌, map, length, take, drop, Option, Some, None, is_some, slice_get}
 use Rattle.std.specs.FinMap
-use Rattle.midi_wire.specs.Readings.{reading, rest}
-use Rattle.tempo_clock.specs.Clocks.{Clock, elapsed, started, stopped, resumed, with_tempo}
-use Rattle.tempo_clock.specs.Entries.{is_ppq, is_tempo}
-use Rattle.tempo_clock.specs.Ticks.{is_smpte, tick_at}
+use Rattle.midi_wire.specs.Readings.{rest}
+use Rattle.tempo_clock.specs.Clocks.{Clock, elapsed}
+use Rattle.tempo_clock.specs.Ticks.{Tempos, is_smpte, tick_at}
 use Rattle.tempo_clock.specs.declared.due.Due.{Due}
 use Rattle.tempo_clock.specs.declared.due.Due.TheVariants.{Tick, Nanos}
-use Rattle.route_filter.specs.Rules.{is_rule}
 use Rattle.route_filter.specs.declared.rule_args.RuleArgs.{RuleArgs}
-use Rattle.node_table.specs.Addresses.{same_node}
-use Rattle.node_table.specs.Names.{is_name}
+use Rattle.node_table.specs.declared.caps.Caps.{Caps}
 use Rattle.node_table.specs.declared.number.Node.{Node}
 use Rattle.node_table.specs.declared.number.Node.TheVariants.{Port, Filter}
-use Rattle.seq_state.specs.declared.input.Command.{Command}
-use Rattle.seq_state.specs.declared.input.Command.TheVariants.{Open, Close, CreatePort, DeletePort, CreateFilter, SetFilter, DeleteFilter, Connect, Disconnect, Bytes, Send, CreateQueue, CreateQueueFrom, DeleteQueue, Start, Stop, Continue, Tempo, QueueStatus, Share, Schedule, Play, DropOutput, Receive, PoolStatus}
+use Rattle.patch_graph.specs.declared.edge.Edge.{Edge}
 use Rattle.seq_state.specs.declared.input.DueAt.{DueAt}
 use Rattle.seq_state.specs.declared.input.DueAt.TheVariants as due_at
-use Rattle.seq_state.specs.declared.input.QueueAddr.{QueueAddr}
+use Rattle.seq_state.specs.declared.log.Arrival.{Arrival}
 use Rattle.seq_state.specs.declared.log.Reply.{Reply}
 use Rattle.seq_state.specs.declared.log.Reply.TheVariants as replies
 use Rattle.seq_state.specs.Files.{File}
 use Rattle.seq_state.specs.State.{PortInfo, FilterInfo, Queue, Client, Pool, Event, Playback, ports_of, filters_of, queues_of}
 
--- the number of the first refusal whose condition holds
-abbrev pub first_refusal : List (ℕ × Bool) → Option ℕ
-first_refusal [] = None
-first_refusal (r ∷ rs) = if r.1 then Some r.0 else first_refusal rs
-
--- What a command changes of the actor's own: the client, its input pool, which of its nodes go, which of its playbacks and of its queues go, which playbacks it gets, what it sends from which port, and the reply.
+-- What a command does where it is not refused: what the actor has then, what becomes of its input
+-- pool, which of its nodes go, what becomes of the subscriptions besides, which of its playbacks and
+-- of its queues go, which playbacks it gets, what it sends from which port, and the reply, by what
+-- its input pool has.
 pub record Own : Type 0 where
   pub client : Option Client
   pub pool : Option Pool → Option Pool
   pub gone : Node → Bool
+  pub edges : List Edge → List Edge
   pub dropped : Playback → Bool
   pub queue_gone : ℕ → Bool
   pub added : List Playback
   pub sends : List (ℕ × List ℕ)
-  pub reply : Reply
+  pub reply : Option Pool → Reply
 
--- nothing changes but what is said
-abbrev pub kept : Option Client → Reply → Own
-kept client reply = record { client = client; pool = λ p. p; gone = λ n. false; dropped = λ p. false; queue_gone = λ n. false; added = []; sends = []; reply = reply }
-
--- A row of the table: the refusal that stands, if one does, and else the effect.
-pub record Row : Type 0 where
-  pub refusal : Option ℕ
-  pub own : Own
-
-abbrev pub row : List (ℕ × Bool) → Own → Row
-row refusals own = record { refusal = first_refusal refusals; own = own }
+-- the actor has this, nothing else changes, and the command is done
+abbrev pub kept : Option Client → Own
+kept client =
+    record {
+      client = client;
+      pool = λ p. p;
+      gone = λ n. false;
+      edges = λ es. es;
+      dropped = λ p. false;
+      queue_gone = λ n. false;
+      added = [];
+      sends = [];
+      reply = λ p. replies.Done;
+    }
 
 -- ---- clients, ports and filters
 
@@ -88,6 +86,26 @@ abbrev pub put_filter : ℕ → Option FilterInfo → Client → Client
 put_filter n None c = record c { filters = FinMap.remove c.filters n }
 put_filter n (Some f) c = record c { filters = FinMap.insert c.filters n f }
 
+-- what a node of a client allows, if it is there
+abbrev pub port_caps : Option PortInfo → Option Caps
+port_caps None = None
+port_caps (Some p) = Some p.caps
+
+abbrev pub filter_caps : Option FilterInfo → Option Caps
+filter_caps None = None
+filter_caps (Some f) = Some f.caps
+
+abbrev pub node_caps : Option Client → Node → Option Caps
+node_caps client (Port n) = port_caps (port_of client n)
+node_caps client (Filter n) = filter_caps (filter_of client n)
+
+-- a port as it is made
+abbrev pub new_port : List ℕ → Caps → PortInfo
+new_port name caps = record { name = name; caps = caps; fed = [] }
+
+abbrev pub new_filter : Caps → RuleArgs → FilterInfo
+new_filter caps rule = record { caps = caps; rule = rule }
+
 -- what still matters of what a port was fed
 abbrev pub fed_of : Option PortInfo → List ℕ
 fed_of None = []
@@ -104,8 +122,18 @@ filter_ruled rule None = None
 filter_ruled rule (Some f) = Some (record f { rule = rule })
 
 -- a client as it is opened
-abbrev pub opened : List ℕ → ℕ → ℕ → Client
-opened name in_size out_size = record { name = name; in_size = in_size; out_size = out_size; ports = FinMap.empty; filters = FinMap.empty; queues = FinMap.empty }
+abbrev pub new_client : List ℕ → ℕ → ℕ → Client
+new_client name in_size out_size =
+    record {
+      name = name;
+      in_size = in_size;
+      out_size = out_size;
+      ports = FinMap.empty;
+      filters = FinMap.empty;
+      queues = FinMap.empty;
+    }
+
+-- ---- the input pool
 
 -- how many messages a pool has room for at most, and how many are taken at once
 abbrev pub most_waiting : ℕ
@@ -114,6 +142,22 @@ most_waiting = 2000
 -- the size of a pool
 abbrev pub is_size : ℕ → Bool
 is_size n = nat_le 1 n && nat_le n most_waiting
+
+abbrev pub new_pool : ℕ → Pool
+new_pool size = record { size = size; waiting = []; lost = 0 }
+
+-- the oldest that wait, and the pool without them
+abbrev pub oldest : ℕ → Option Pool → List Arrival
+oldest max None = []
+oldest max (Some p) = take max p.waiting
+
+abbrev pub without_oldest : ℕ → Option Pool → Option Pool
+without_oldest max None = None
+without_oldest max (Some p) = Some (record p { waiting = drop max p.waiting })
+
+abbrev pub pool_status : ℕ → Option Pool → Reply
+pool_status used None = replies.Pools 0 0 used
+pool_status used (Some p) = replies.Pools (length p.waiting) p.lost used
 
 -- ---- queues
 
@@ -130,9 +174,17 @@ abbrev pub queue_map : (Queue → Queue) → Option Queue → Option Queue
 queue_map f None = None
 queue_map f (Some q) = Some (f q)
 
+-- the client with a change of one of its queues
+abbrev pub queue_changed : Option Client → ℕ → (Queue → Queue) → Option Client
+queue_changed client n f = changed client (put_queue n (queue_map f (queue_of client n)))
+
 -- a queue with a change of its clock
 abbrev pub clocked : (Clock → Clock) → Queue → Queue
 clocked f q = record q { clock = f q.clock }
+
+-- a queue that others may use
+abbrev pub public : Queue → Queue
+public q = record q { shared = true }
 
 abbrev pub runs : Queue → Bool
 runs q = is_some q.clock.since
@@ -144,14 +196,18 @@ present_tick moment q = tick_at q.clock.map (elapsed q.clock moment)
 abbrev pub present_time : ℕ → Queue → ℕ
 present_time moment q = elapsed q.clock moment
 
--- a new queue of one tempo, held at 0
-abbrev pub new_queue : ℕ → ℕ → Queue
-new_queue ppq tempo = record { clock = record { map = record { division = ppq; entries = record { tick = 0; tempo = tempo } ∷ [] }; time = 0; since = None }; shared = false }
+-- a private queue with a tempo map, held at 0
+abbrev pub held_queue : Tempos → Queue
+held_queue tempos = record { clock = record { map = tempos; time = 0; since = None }; shared = false }
+
+-- one tempo from the first tick on
+abbrev pub one_tempo : ℕ → ℕ → Tempos
+one_tempo ppq tempo = record { division = ppq; entries = record { tick = 0; tempo = tempo } ∷ [] }
 
 -- a new queue with the tempo map of a file
 abbrev pub file_queue : Option File → Option Queue
 file_queue None = None
-file_queue (Some f) = Some (record { clock = record { map = record { division = f.division; entries = f.entries }; time = 0; since = None }; shared = false })
+file_queue (Some f) = Some (held_queue (record { division = f.division; entries = f.entries }))
 
 abbrev pub queue_status : ℕ → Option Queue → Reply
 queue_status moment None = replies.Done
@@ -183,7 +239,8 @@ passes_end moment (due_at.NanosAfter n) q = is_past_end (present_time moment q +
 
 abbrev pub scheduled : ℕ → Option Queue → DueAt → List ℕ → List Event
 scheduled moment None due message = []
-scheduled moment (Some q) due message = record { due = due_of moment q due; message = message } ∷ []
+scheduled moment (Some q) due message =
+    record { due = due_of moment q due; message = message } ∷ []
 
 -- the file with this number
 abbrev pub file_at : List File → ℕ → Option File
@@ -200,146 +257,6 @@ has_division None f = false
 has_division (Some q) None = false
 has_division (Some q) (Some f) = f.division == q.clock.map.division
 
--- ---- conditions of refusals that several commands have
-
-abbrev pub not_open : Option Client → ℕ × Bool
-not_open client = (1, not (is_some client))
-
-abbrev pub no_port : Option Client → ℕ → ℕ × Bool
-no_port client port = (7, not (has_port client port))
-
-abbrev pub no_filter : Option Client → ℕ → ℕ × Bool
-no_filter client n = (7, not (has_filter client n))
-
-abbrev pub not_yours : ℕ → QueueAddr → ℕ × Bool
-not_yours actor q = (16, not (q.client == actor))
-
-abbrev pub no_queue : Option Client → QueueAddr → ℕ × Bool
-no_queue client q = (17, not (has_queue client q.queue))
-
-abbrev pub bad_tempo : ℕ → ℕ × Bool
-bad_tempo tempo = (22, not (is_tempo tempo))
-
--- the queue that a command names
-abbrev pub queue_named : Command → Option QueueAddr
-queue_named (DeleteQueue q) = Some q
-queue_named (Start q) = Some q
-queue_named (Stop q) = Some q
-queue_named (Continue q) = Some q
-queue_named (Tempo q tempo) = Some q
-queue_named (QueueStatus q) = Some q
-queue_named (Share q) = Some q
-queue_named (Schedule q port due message) = Some q
-queue_named (Play q port file) = Some q
-queue_named _ = None
-
--- a queue that the actor may use: its own, or one that is shared
-abbrev pub visible : ℕ → ℕ → Option Queue → Option Queue
-visible actor owner None = None
-visible actor owner (Some q) = if (owner == actor) || q.shared then Some q else None
-
--- another's queue that is not there for the actor
-abbrev pub not_visible : ℕ → QueueAddr → Option Queue → ℕ × Bool
-not_visible actor q named = (16, not (q.client == actor) && not (is_some named))
-
-abbrev pub none_named : Option Queue → ℕ × Bool
-none_named named = (17, not (is_some named))
-
--- ---- the rows
-
--- a change of one of the actor's queues
-abbrev pub queue_changed : Option Client → QueueAddr → (Queue → Queue) → Own
-queue_changed client q f = kept (changed client (put_queue q.queue (queue_map f (queue_of client q.queue)))) replies.Done
-
--- Each row has its refusals in the order of their numbers. `named` is the queue that the command names, where the actor may use it, and `used` the number of the actor's playbacks.
-unfoldable pub own_command : List File → ℕ → ℕ → Option Client → Option Queue → ℕ → Command → Row
-own_command files moment actor client named used (Open name in_size out_size) =
-    row ((2, is_some client) ∷ (3, not (is_name name)) ∷ (4, not (is_size in_size && is_size out_size)) ∷ [])
-    (record (kept (Some (opened name in_size out_size)) replies.Done) { pool = λ p. Some (record { size = in_size; waiting = []; lost = 0 }) })
-own_command files moment actor client named used Close =
-    row (not_open client ∷ [])
-    (record (kept None replies.Done) { pool = λ p. None; gone = λ n. true; dropped = λ p. true; queue_gone = λ n. true })
-own_command files moment actor client named used (CreatePort port name caps) =
-    row (not_open client ∷ (3, not (is_name name)) ∷ (6, has_port client port) ∷ [])
-    (kept (changed client (put_port port (Some (record { name = name; caps = caps; fed = [] })))) replies.Done)
-own_command files moment actor client named used (DeletePort port) =
-    row (not_open client ∷ no_port client port ∷ [])
-    (record (kept (changed client (put_port port None)) replies.Done) { gone = same_node (Port port); dropped = λ p. p.port == port })
-own_command files moment actor client named used (CreateFilter filter caps rule) =
-    row (not_open client ∷ (5, not (is_rule rule)) ∷ (6, has_filter client filter) ∷ [])
-    (kept (changed client (put_filter filter (Some (record { caps = caps; rule = rule })))) replies.Done)
-own_command files moment actor client named used (SetFilter filter rule) =
-    row (not_open client ∷ (5, not (is_rule rule)) ∷ no_filter client filter ∷ [])
-    (kept (changed client (put_filter filter (filter_ruled rule (filter_of client filter)))) replies.Done)
-own_command files moment actor client named used (DeleteFilter filter) =
-    row (not_open client ∷ no_filter client filter ∷ [])
-    (record (kept (changed client (put_filter filter None)) replies.Done) { gone = same_node (Filter filter) })
-own_command files moment actor client named used (Bytes port bytes) =
-    let messages = reading (fed_of (port_of client port) ++ bytes) in
-    row (not_open client ∷ no_port client port ∷ [])
-    (record (kept (changed client (put_port port (port_fed bytes (port_of client port)))) (replies.Messages (length messages))) { sends = map (λ m. (port, m)) messages })
-own_command files moment actor client named used (Send port message) =
-    row (not_open client ∷ no_port client port ∷ [])
-    (record (kept client replies.Done) { sends = (port, message) ∷ [] })
-own_command files moment actor client named used (CreateQueue queue ppq tempo) =
-    row (not_open client ∷ (4, not (is_ppq ppq)) ∷ (15, has_queue client queue) ∷ bad_tempo tempo ∷ [])
-    (kept (changed client (put_queue queue (Some (new_queue ppq tempo)))) replies.Done)
-own_command files moment actor client named used (CreateQueueFrom queue file) =
-    row (not_open client ∷ (15, has_queue client queue) ∷ (20, not (is_some (file_at files file))) ∷ [])
-    (kept (changed client (put_queue queue (file_queue (file_at files file)))) replies.Done)
-own_command files moment actor client named used (DeleteQueue q) =
-    row (not_open client ∷ not_yours actor q ∷ no_queue client q ∷ [])
-    (record (kept (changed client (put_queue q.queue None)) replies.Done) { queue_gone = λ n. n == q.queue })
-own_command files moment actor client named used (Start q) =
-    row (not_open client ∷ not_yours actor q ∷ no_queue client q ∷ (18, queue_is runs (queue_of client q.queue)) ∷ [])
-    (queue_changed client q (clocked (λ c. started c moment)))
-own_command files moment actor client named used (Stop q) =
-    row (not_open client ∷ not_yours actor q ∷ no_queue client q ∷ (19, not (queue_is runs (queue_of client q.queue))) ∷ [])
-    (queue_changed client q (clocked (λ c. stopped c moment)))
-own_command files moment actor client named used (Continue q) =
-    row (not_open client ∷ not_yours actor q ∷ no_queue client q ∷ (18, queue_is runs (queue_of client q.queue)) ∷ [])
-    (queue_changed client q (clocked (λ c. resumed c moment)))
-own_command files moment actor client named used (Tempo q tempo) =
-    row (not_open client ∷ not_yours actor q ∷ no_queue client q ∷ (22, not (is_tempo tempo) || queue_is counts_frames (queue_of client q.queue)) ∷ [])
-    (queue_changed client q (clocked (λ c. with_tempo c moment tempo)))
-own_command files moment actor client named used (QueueStatus q) =
-    row (not_open client ∷ not_visible actor q named ∷ none_named named ∷ [])
-    (kept client (queue_status moment named))
-own_command files moment actor client named used (Share q) =
-    row (not_open client ∷ not_yours actor q ∷ no_queue client q ∷ [])
-    (queue_changed client q (λ x. record x { shared = true }))
-own_command files moment actor client named used (Schedule q port due message) =
-    row (not_open client ∷ no_port client port ∷ not_visible actor q named ∷ none_named named ∷ (23, queue_is (passes_end moment due) named) ∷ (24, used == out_size client) ∷ [])
-    (record (kept client replies.Done) { added = record { port = port; accepted = moment; events = scheduled moment named due message } ∷ [] })
-own_command files moment actor client named used (Play q port file) =
-    let f = file_at files file in
-    row (not_open client ∷ no_port client port ∷ not_visible actor q named ∷ none_named named ∷ (20, not (is_some f)) ∷ (21, not (has_division named f)) ∷ (24, used == out_size client) ∷ [])
-    (record (kept client replies.Done) { added = record { port = port; accepted = moment; events = file_events f } ∷ [] })
-own_command files moment actor client named used DropOutput =
-    row (not_open client ∷ [])
-    (record (kept client replies.Done) { dropped = λ p. true })
-own_command files moment actor client named used (Connect source target) = row [] (kept client replies.Done)
-own_command files moment actor client named used (Disconnect source target) = row [] (kept client replies.Done)
-own_command files moment actor client named used (Receive max) = row [] (kept client replies.Done)
-own_command files moment actor client named used PoolStatus = row [] (kept client replies.Done)
-
--- ---- the input pool
-
-pub record PoolAnswer : Type 0 where
-  pub pool : Option Pool
-  pub reply : Reply
-
--- the oldest are taken
-abbrev pub received : ℕ → Option Pool → PoolAnswer
-received max None = record { pool = None; reply = replies.Received [] }
-received max (Some p) = record { pool = Some (record p { waiting = drop max p.waiting }); reply = replies.Received (take max p.waiting) }
-
-abbrev pub receive_refusal : Option Client → ℕ → Option ℕ
-receive_refusal client max = first_refusal (not_open client ∷ (4, not (is_size max)) ∷ [])
-
-abbrev pub pool_status : Option Pool → ℕ → Reply
-pool_status None used = replies.Pools 0 0 used
-pool_status (Some p) used = replies.Pools (length p.waiting) p.lost used
-
-abbrev pub status_refusal : Option Client → Option ℕ
-status_refusal client = first_refusal (not_open client ∷ [])
+-- what is still to be sent from a port, and since when
+abbrev pub playback : ℕ → ℕ → List Event → Playback
+playback port moment events = record { port = port; accepted = moment; events = events }

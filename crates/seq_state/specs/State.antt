@@ -1,21 +1,19 @@
 -- The plain state: who is open, with which nodes and queues, what waits, the subscriptions, and what is still to be sent.
-use Rattle.std.specs.Prelude.{◌≡◌, ℕ, ℤ, Bool, List, [], Option, Some, None, ◌⊎◌, refl}
-use Rattle.std.proofs.Common.{inl, inr}
+use Rattle.std.specs.Prelude.{ℕ, Bool, List, [], Option, Some, None, refl}
 use Rattle.std.specs.Ordering.{nat_cmp}
-use Rattle.std.specs.Coded.{Coded, code_by, coded×, coded⊎, coded_list, coded_option, coded_bool, coded_ℕ, coded_ℤ}
+use Rattle.std.specs.Coded.{Coded, code_by, coded×, coded_list, coded_bool, coded_ℕ}
 use Rattle.std.specs.FinMap
 use Rattle.std.specs.FinMap.{FinMap}
 use Rattle.tempo_clock.specs.Clocks.{Clock}
+use Rattle.tempo_clock.specs.Codes.{coded_clock, coded_due}
 use Rattle.tempo_clock.specs.declared.due.Due.{Due}
-use Rattle.tempo_clock.specs.declared.due.Due.TheVariants.{Tick, Nanos}
-use Rattle.tempo_clock.specs.declared.entry.TempoEntry.{TempoEntry}
+use Rattle.route_filter.specs.Codes.{coded_rule}
 use Rattle.route_filter.specs.declared.rule_args.RuleArgs.{RuleArgs}
+use Rattle.node_table.specs.Codes.{coded_queue_addr}
 use Rattle.node_table.specs.declared.caps.Caps.{Caps}
-use Rattle.node_table.specs.declared.number.Addr.{Addr}
-use Rattle.node_table.specs.declared.number.Node.{Node}
-use Rattle.node_table.specs.declared.number.Node.TheVariants.{Port, Filter}
+use Rattle.node_table.specs.declared.number.QueueAddr.{QueueAddr}
+use Rattle.patch_graph.specs.Codes.{coded_edge}
 use Rattle.patch_graph.specs.declared.edge.Edge.{Edge}
-use Rattle.seq_state.specs.declared.input.QueueAddr.{QueueAddr}
 use Rattle.seq_state.specs.declared.log.Arrival.{Arrival}
 
 -- A port, with what still matters of the bytes it was fed.
@@ -100,22 +98,8 @@ put m k (Some x) = FinMap.insert m k x
 abbrev pub coded_port : Coded PortInfo
 coded_port = code_by (List ℕ × (ℕ × List ℕ)) (coded× (coded_list coded_ℕ) (coded× coded_ℕ (coded_list coded_ℕ))) (λ p. (p.name, (p.caps.0, p.fed))) (λ c. record { name = c.0; caps = record { 0 = c.1.0 }; fed = c.1.1 }) (λ _. refl)
 
-abbrev pub coded_rule : Coded RuleArgs
-coded_rule =
-    code_by (ℕ × (ℕ × (ℕ × (ℕ × (ℤ × Option ℕ))))) (coded× coded_ℕ (coded× coded_ℕ (coded× coded_ℕ (coded× coded_ℕ (coded× coded_ℤ (coded_option coded_ℕ))))))
-    (λ r. (r.channels, (r.kinds, (r.low, (r.high, (r.shift, r.channel))))))
-    (λ c. record { channels = c.0; kinds = c.1.0; low = c.1.1.0; high = c.1.1.1.0; shift = c.1.1.1.1.0; channel = c.1.1.1.1.1 }) (λ _. refl)
-
 abbrev pub coded_filter : Coded FilterInfo
 coded_filter = code_by (ℕ × RuleArgs) (coded× coded_ℕ coded_rule) (λ f. (f.caps.0, f.rule)) (λ c. record { caps = record { 0 = c.0 }; rule = c.1 }) (λ _. refl)
-
-abbrev pub coded_entry : Coded TempoEntry
-coded_entry = code_by (ℕ × ℕ) (coded× coded_ℕ coded_ℕ) (λ e. (e.tick, e.tempo)) (λ c. record { tick = c.0; tempo = c.1 }) (λ _. refl)
-
-abbrev pub coded_clock : Coded Clock
-coded_clock =
-    code_by (ℕ × (List TempoEntry × (ℕ × Option ℕ))) (coded× coded_ℕ (coded× (coded_list coded_entry) (coded× coded_ℕ (coded_option coded_ℕ)))) (λ c. (c.map.division, (c.map.entries, (c.time, c.since))))
-    (λ p. record { map = record { division = p.0; entries = p.1.0 }; time = p.1.1.0; since = p.1.1.1 }) (λ _. refl)
 
 abbrev pub coded_queue : Coded Queue
 coded_queue = code_by (Clock × Bool) (coded× coded_clock coded_bool) (λ q. (q.clock, q.shared)) (λ p. record { clock = p.0; shared = p.1 }) (λ _. refl)
@@ -133,42 +117,6 @@ coded_arrival = code_by (ℕ × (ℕ × List ℕ)) (coded× coded_ℕ (coded× c
 abbrev pub coded_pool : Coded Pool
 coded_pool = code_by (ℕ × (List Arrival × ℕ)) (coded× coded_ℕ (coded× (coded_list coded_arrival) coded_ℕ)) (λ p. (p.size, (p.waiting, p.lost))) (λ c. record { size = c.0; waiting = c.1.0; lost = c.1.1 }) (λ _. refl)
 
-abbrev pub node_either : Node → ℕ ⊎ ℕ
-node_either (Port n) = inl n
-node_either (Filter n) = inr n
-
-abbrev pub either_node : ℕ ⊎ ℕ → Node
-either_node (inl n) = Port n
-either_node (inr n) = Filter n
-
-pub node_back : (n : Node) → either_node (node_either n) ≡ n
-node_back (Port n) = refl
-node_back (Filter n) = refl
-
-abbrev pub coded_node : Coded Node
-coded_node = code_by (ℕ ⊎ ℕ) (coded⊎ coded_ℕ coded_ℕ) node_either either_node node_back
-
-abbrev pub coded_addr : Coded Addr
-coded_addr = code_by (ℕ × Node) (coded× coded_ℕ coded_node) (λ a. (a.client, a.node)) (λ p. record { client = p.0; node = p.1 }) (λ _. refl)
-
-abbrev pub coded_edge : Coded Edge
-coded_edge = code_by (Addr × Addr) (coded× coded_addr coded_addr) (λ e. (e.source, e.target)) (λ p. record { source = p.0; target = p.1 }) (λ _. refl)
-
-abbrev pub due_either : Due → ℕ ⊎ ℕ
-due_either (Tick n) = inl n
-due_either (Nanos n) = inr n
-
-abbrev pub either_due : ℕ ⊎ ℕ → Due
-either_due (inl n) = Tick n
-either_due (inr n) = Nanos n
-
-pub due_back : (d : Due) → either_due (due_either d) ≡ d
-due_back (Tick n) = refl
-due_back (Nanos n) = refl
-
-abbrev pub coded_due : Coded Due
-coded_due = code_by (ℕ ⊎ ℕ) (coded⊎ coded_ℕ coded_ℕ) due_either either_due due_back
-
 abbrev pub coded_event : Coded Event
 coded_event = code_by (Due × List ℕ) (coded× coded_due (coded_list coded_ℕ)) (λ e. (e.due, e.message)) (λ p. record { due = p.0; message = p.1 }) (λ _. refl)
 
@@ -177,8 +125,9 @@ coded_playback = code_by (ℕ × (ℕ × List Event)) (coded× coded_ℕ (coded�
 
 abbrev pub coded_pending : Coded Pending
 coded_pending =
-    code_by (ℕ × (ℕ × (ℕ × Playback))) (coded× coded_ℕ (coded× coded_ℕ (coded× coded_ℕ coded_playback))) (λ p. (p.client, (p.queue.client, (p.queue.queue, p.playback))))
-    (λ c. record { client = c.0; queue = record { client = c.1.0; queue = c.1.1.0 }; playback = c.1.1.1 }) (λ _. refl)
+    code_by (ℕ × (QueueAddr × Playback)) (coded× coded_ℕ (coded× coded_queue_addr coded_playback))
+    (λ p. (p.client, (p.queue, p.playback)))
+    (λ c. record { client = c.0; queue = c.1.0; playback = c.1.1 }) (λ _. refl)
 
 abbrev pub coded_state : Coded State
 coded_state =

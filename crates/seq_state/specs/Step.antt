@@ -1,31 +1,31 @@
 -- Settling, one input, and a run.
-use Rattle.std.specs.Prelude.{ℕ, zero, suc, ◌+◌, ◌-◌, ◌^◌, ◌≤◌, ◌==◌, nat_le, nat_lt, min, Bool, true, false, not, ◌&&◌, ◌||◌, if◌then◌else◌, List, [], ◌∷◌, ◌++◌, map, length, Option, Some, None, is_some}
+use Rattle.std.specs.Prelude.{ℕ, zero, suc, ◌+◌, ◌-◌, ◌^◌, ◌≤◌, ◌==◌, nat_le, nat_lt, min, Bool, true, false, not, ◌&&◌, ◌||◌, if◌then◌else◌, List, [], ◌∷◌, ◌++◌, map, length, Option, Some, None}
 use Rattle.std.specs.List.{filter, flat_map}
 use Rattle.std.specs.Ordering.{nat_cmp}
 use Rattle.std.specs.FinMap
 use Rattle.std.specs.FinMap.{FinMap}
 use Rattle.tempo_clock.specs.Clocks.{moment_of}
-use Rattle.node_table.specs.Capabilities.{permits}
+use Rattle.tempo_clock.specs.declared.due.Due.{Due}
 use Rattle.node_table.specs.declared.caps.Caps.{Caps}
 use Rattle.node_table.specs.declared.number.Addr.{Addr}
 use Rattle.node_table.specs.declared.number.Node.{Node}
-use Rattle.node_table.specs.declared.number.Node.TheVariants.{Port, Filter}
-use Rattle.patch_graph.specs.Chains.{makes_cycle}
-use Rattle.patch_graph.specs.Edges.{edge, has_edge, without_edge, sources_of, most_sources}
+use Rattle.node_table.specs.declared.number.Node.TheVariants.{Port}
+use Rattle.node_table.specs.declared.number.QueueAddr.{QueueAddr}
 use Rattle.patch_graph.specs.declared.edge.Edge.{Edge}
 use Rattle.seq_state.specs.declared.input.Command.{Command}
-use Rattle.seq_state.specs.declared.input.Command.TheVariants.{Connect, Disconnect, Receive, PoolStatus}
 use Rattle.seq_state.specs.declared.input.Input.{Input}
-use Rattle.seq_state.specs.declared.input.QueueAddr.{QueueAddr}
 use Rattle.seq_state.specs.declared.log.Delivery.{Delivery}
 use Rattle.seq_state.specs.declared.log.LogEntry.{LogEntry}
 use Rattle.seq_state.specs.declared.log.LogEntry.TheVariants.{Delivered, Replied}
 use Rattle.seq_state.specs.declared.log.Reply.{Reply}
-use Rattle.seq_state.specs.declared.log.Reply.TheVariants.{Done, Refused}
+use Rattle.seq_state.specs.declared.log.Reply.TheVariants.{Refused}
+use Rattle.seq_state.specs.declared.refusal.Refusal.{Refusal}
 use Rattle.seq_state.specs.Files.{File}
-use Rattle.seq_state.specs.State.{PortInfo, FilterInfo, Queue, Client, Pool, Event, Playback, Pending, State, start, queues_of, put}
+use Rattle.seq_state.specs.Refusals.{number_of}
+use Rattle.seq_state.specs.State.{Queue, Client, Pool, Event, Playback, Pending, State, start, queues_of, put}
 use Rattle.seq_state.specs.Copies.{copies}
-use Rattle.seq_state.specs.Own.{first_refusal, Own, Row, port_of, filter_of, queue_named, visible, own_command, PoolAnswer, received, receive_refusal, pool_status, status_refusal}
+use Rattle.seq_state.specs.Own.{Own, node_caps}
+use Rattle.seq_state.specs.Table.{Asked, Row, first_refusal, queue_named, visible, command_row}
 
 -- ---- delivering
 
@@ -66,13 +66,14 @@ pub record Timed : Type 0 where
   pub port : ℕ
   pub message : List ℕ
 
-abbrev pub moment_in : Option Queue → ℕ → Event → Option ℕ
-moment_in None accepted e = None
-moment_in (Some q) accepted e = moment_of q.clock accepted e.due
+-- when something accepted then is due by a queue, if the queue comes to it as it runs now
+abbrev pub moment_in : Option Queue → ℕ → Due → Option ℕ
+moment_in None accepted due = None
+moment_in (Some q) accepted due = moment_of q.clock accepted due
 
--- an event's moment, if its queue comes to it as it runs now
+-- an event's moment, if it has one
 abbrev pub event_moment : FinMap nat_cmp Client → Pending → Event → Option ℕ
-event_moment clients p e = moment_in (FinMap.get (queues_of (FinMap.get clients p.queue.client)) p.queue.queue) p.playback.accepted e
+event_moment clients p e = moment_in (FinMap.get (queues_of (FinMap.get clients p.queue.client)) p.queue.queue) p.playback.accepted e.due
 
 abbrev pub is_at : ℕ → Option ℕ → Bool
 is_at m None = false
@@ -135,7 +136,7 @@ without_due s m = record s { pending = filter is_left (map (playback_after s.cli
 abbrev pub settle : State → ℕ → Settled
 settle s m = sent (without_due s m) (flat_map (event_copies s) (due s m))
 
--- ---- the actor's own
+-- ---- the effect of a command
 
 -- A state, what was delivered on the way to it, and the reply.
 pub record Stepped : Type 0 where
@@ -159,18 +160,13 @@ abbrev pub pending_of : ℕ → Option QueueAddr → Playback → Pending
 pending_of actor None p = record { client = actor; queue = record { client = actor; queue = 0 }; playback = p }
 pending_of actor (Some q) p = record { client = actor; queue = q; playback = p }
 
--- the queue that a command names, where the actor may use it
-abbrev pub named_queue : FinMap nat_cmp Client → ℕ → Option QueueAddr → Option Queue
-named_queue clients actor None = None
-named_queue clients actor (Some q) = visible actor q.client (FinMap.get (queues_of (FinMap.get clients q.client)) q.queue)
-
--- the state with the actor's own changed
+-- the state after what a command does to the actor's own
 abbrev pub with_own : State → ℕ → Option QueueAddr → Own → State
 with_own s actor q own =
     record {
       clients = put s.clients actor own.client;
       pools = put s.pools actor (own.pool (FinMap.get s.pools actor));
-      edges = filter (λ e. not (loses actor own.gone e)) s.edges;
+      edges = own.edges (filter (λ e. not (loses actor own.gone e)) s.edges);
       pending = filter (λ p. not (drops actor own p)) s.pending ++ filter is_left (map (pending_of actor q) own.added);
     }
 
@@ -181,95 +177,55 @@ send_copies s moment actor sends = flat_map (λ m. copies s moment (port_addr ac
 abbrev pub stepped : Settled → Reply → Stepped
 stepped r reply = record { state = r.state; delivered = r.delivered; reply = reply }
 
--- a refusal leaves the state as it is
-abbrev pub unless : Option ℕ → State → Stepped → Stepped
-unless None s effect = effect
-unless (Some n) s effect = record { state = s; delivered = []; reply = Refused n }
-
 abbrev pub after_own : State → ℕ → ℕ → Option QueueAddr → Own → Stepped
-after_own s moment actor q own = stepped (sent (with_own s actor q own) (send_copies s moment actor own.sends)) own.reply
+after_own s moment actor q own =
+    stepped (sent (with_own s actor q own) (send_copies s moment actor own.sends)) (own.reply (FinMap.get s.pools actor))
 
-abbrev pub after_row : State → ℕ → ℕ → Option QueueAddr → Row → Stepped
-after_row s moment actor q row = unless row.refusal s (after_own s moment actor q row.own)
+-- ---- one input
 
-abbrev pub after_pool : State → ℕ → PoolAnswer → Stepped
-after_pool s actor answer = record { state = record s { pools = put s.pools actor answer.pool }; delivered = []; reply = answer.reply }
-
--- ---- subscriptions
-
-abbrev pub port_caps : Option PortInfo → Option Caps
-port_caps None = None
-port_caps (Some p) = Some p.caps
-
-abbrev pub filter_caps : Option FilterInfo → Option Caps
-filter_caps None = None
-filter_caps (Some f) = Some f.caps
-
-abbrev pub node_caps : Option Client → Node → Option Caps
-node_caps client (Port n) = port_caps (port_of client n)
-node_caps client (Filter n) = filter_caps (filter_of client n)
+-- the queue that a command names, where the actor may use it
+abbrev pub named_queue : FinMap nat_cmp Client → ℕ → Option QueueAddr → Option Queue
+named_queue clients actor None = None
+named_queue clients actor (Some q) = visible actor q.client (FinMap.get (queues_of (FinMap.get clients q.client)) q.queue)
 
 -- what a node allows, if it is there
 abbrev pub caps_at : State → Addr → Option Caps
 caps_at s a = node_caps (FinMap.get s.clients a.client) a.node
 
--- the test of capabilities
-abbrev pub permitted : ℕ → Addr → Option Caps → Addr → Option Caps → Bool
-permitted actor source None target write = false
-permitted actor source (Some r) target None = false
-permitted actor source (Some r) target (Some w) = permits actor source r.0 target w.0
+-- what the row of a command looks at
+abbrev pub asked : List File → State → ℕ → ℕ → Command → Asked
+asked files s moment actor command =
+    record {
+      files = files;
+      moment = moment;
+      actor = actor;
+      client = FinMap.get s.clients actor;
+      queue = named_queue s.clients actor (queue_named command);
+      used = used s actor;
+      nodes = caps_at s;
+      edges = s.edges;
+    }
 
--- the refusal of a change of the subscriptions, with the conditions that it has besides
-abbrev pub patch_refusal : State → ℕ → Addr → Addr → List (ℕ × Bool) → Option ℕ
-patch_refusal s actor source target more =
-    first_refusal (
-    (1, not (is_some (FinMap.get s.clients actor)))
-    ∷ (8, not (is_some (caps_at s source)))
-    ∷ (9, not (is_some (caps_at s target)))
-    ∷ (10, not (permitted actor source (caps_at s source) target (caps_at s target)))
-    ∷ more
-    )
-
-abbrev pub connect_refusal : State → ℕ → Addr → Addr → Option ℕ
-connect_refusal s actor source target =
-    patch_refusal s actor source target ((11, has_edge s.edges source target) ∷ (13, nat_le most_sources (sources_of s.edges target)) ∷ (14, makes_cycle s.edges source target) ∷ [])
-
-abbrev pub disconnect_refusal : State → ℕ → Addr → Addr → Option ℕ
-disconnect_refusal s actor source target = patch_refusal s actor source target ((12, not (has_edge s.edges source target)) ∷ [])
-
--- the youngest edge stands last
-abbrev pub connected : Addr → Addr → List Edge → List Edge
-connected source target edges = edges ++ edge source target ∷ []
-
-abbrev pub disconnected : Addr → Addr → List Edge → List Edge
-disconnected source target edges = without_edge edges source target
-
--- the subscriptions changed
-abbrev pub after_patch : State → Option ℕ → List Edge → Stepped
-after_patch s refusal edges = unless refusal s (record { state = record s { edges = edges }; delivered = []; reply = Done })
-
--- ---- one input
-
--- the row of a command of the actor's own
 abbrev pub row_of : List File → State → ℕ → ℕ → Command → Row
-row_of files s moment actor command = own_command files moment actor (FinMap.get s.clients actor) (named_queue s.clients actor (queue_named command)) (used s actor) command
+row_of files s moment actor command = command_row (asked files s moment actor command) command
 
 -- the refusal of a command, if one stands
-abbrev pub refusal_of : List File → State → ℕ → ℕ → Command → Option ℕ
-refusal_of files s moment actor (Connect source target) = connect_refusal s actor source target
-refusal_of files s moment actor (Disconnect source target) = disconnect_refusal s actor source target
-refusal_of files s moment actor (Receive max) = receive_refusal (FinMap.get s.clients actor) max
-refusal_of files s moment actor PoolStatus = status_refusal (FinMap.get s.clients actor)
-refusal_of files s moment actor command = (row_of files s moment actor command).refusal
+abbrev pub refusal_of : List File → State → ℕ → ℕ → Command → Option Refusal
+refusal_of files s moment actor command = first_refusal (row_of files s moment actor command).conditions
+
+-- what a command does, where none stands
+abbrev pub effect_of : List File → State → ℕ → ℕ → Command → Stepped
+effect_of files s moment actor command =
+    after_own s moment actor (queue_named command) (row_of files s moment actor command).own
+
+-- a refusal leaves the state as it is, and is the reply
+abbrev pub unless : Option Refusal → State → Stepped → Stepped
+unless None s effect = effect
+unless (Some r) s effect = record { state = s; delivered = []; reply = Refused (number_of r) }
 
 abbrev pub command_step : List File → State → ℕ → ℕ → Command → Stepped
-command_step files s moment actor (Connect source target) = after_patch s (connect_refusal s actor source target) (connected source target s.edges)
-command_step files s moment actor (Disconnect source target) = after_patch s (disconnect_refusal s actor source target) (disconnected source target s.edges)
-command_step files s moment actor (Receive max) =
-    unless (receive_refusal (FinMap.get s.clients actor) max) s (after_pool s actor (received max (FinMap.get s.pools actor)))
-command_step files s moment actor PoolStatus =
-    unless (status_refusal (FinMap.get s.clients actor)) s (record { state = s; delivered = []; reply = pool_status (FinMap.get s.pools actor) (used s actor) })
-command_step files s moment actor command = after_row s moment actor (queue_named command) (row_of files s moment actor command)
+command_step files s moment actor command =
+    unless (refusal_of files s moment actor command) s (effect_of files s moment actor command)
 
 -- first settling, then the command
 abbrev pub step : List File → State → Input → Stepped

@@ -2,9 +2,8 @@
 
 use memory::Items;
 use midi_wire::Message;
-use node_table::{Addr, Caps, ClientId, FilterNo, PortNo, QueueNo};
+use node_table::{Addr, Caps, ClientId, FilterNo, PortNo, QueueAddr, QueueNo};
 use route_filter::RuleArgs;
-use std::fmt;
 
 /// One command of one client at one moment.
 #[derive(Drop)]
@@ -136,26 +135,6 @@ pub enum Command {
     },
     /// Asks how full the client's pools are.
     PoolStatus,
-}
-
-/// The address of a queue, printed as `128:q0`.
-#[derive(Clone, Copy, Debug, PartialEq, Eq, PartialOrd, Ord, Hash)]
-pub struct QueueAddr {
-    pub client: ClientId,
-    pub queue: QueueNo,
-}
-
-impl fmt::Display for QueueAddr {
-    ghost use Rattle.std.specs.Prelude.{Some};
-    ghost use Rattle.seq_state.specs.Texts.{queue_text};
-
-    ghost output = { λ a. Some (queue_text a.client a.queue) };
-
-    fn fmt<W: fmt::Write>(&self, f: &mut fmt::Formatter<W>) -> fmt::Result {
-        let client = self.client;
-        let queue = self.queue;
-        write!(f, "{client}:q{queue}")
-    }
 }
 
 /// When a scheduled message is due, by its queue's clock.

@@ -1,19 +1,18 @@
 //! What the sequencer means: the words of its commands, replies and logs, its plain state, the step of one input, the
 //! plain run of a list of inputs, and what the owner of a circle of clients sees of a run.
 //!
-//! The definitions stand in `specs/`; the laws about them, and runs worked out from them, are the contracts of
-//! the functions of `laws` and `rows`, which do nothing.
+//! The definitions stand in `specs/`, the commands in `specs/Table.antt`; the laws about them are the contracts of the
+//! functions of `laws`, which do nothing.
 #![tactic(auto)]
 
 mod input;
 mod laws;
 mod log;
 mod refusal;
-mod rows;
 #[cfg(test)]
 mod tests;
 
-pub use input::{Command, DueAt, Input, QueueAddr};
+pub use input::{Command, DueAt, Input};
 pub use laws::{
     bounds_hold, circle_alone, circle_heard_alone, circles_meet, due_in_order,
     filters_make_no_cycle, lists_that_agree, moments_never_fall, one_input, paths_within,
@@ -22,9 +21,3 @@ pub use laws::{
 pub use log::{Arrival, Delivery, LogEntry, Reply};
 pub use patch_graph::Edge;
 pub use refusal::Refusal;
-pub use rows::{
-    changed_filter, circles_of_runs, closed_client, copies_by_edge_age, counted_frames,
-    deleted_port, dropped_output, each_condition, each_refusal, equal_moments, input_overflow,
-    lost_count_stays, output_full, played_file, queue_clock, restarted_queue, shared_queue,
-    third_clients,
-};

@@ -1,5 +1,4 @@
 use super::*;
-use node_table::{ClientId, QueueNo};
 use std::test::Fail;
 
 #[test]
@@ -19,13 +18,4 @@ fn refusals_come_back_from_their_numbers(rt: HostRuntime) {
         assert_eq!(rt; refusal.is_some(), there, "at {number}");
     }
     assert_eq!(rt; Refusal::from_number(14), Some(Refusal::Cycle));
-}
-
-#[test]
-fn addresses_of_queues_have_their_text(rt: HostRuntime) -> Result<(), Fail> {
-    let client = ClientId::new(128).expect(&rt, "a client's number");
-    let queue = QueueNo::new(7).expect(&rt, "a queue's number");
-    let text = QueueAddr { client, queue }.to_string(rt.alloc())?;
-    assert_eq!(rt; text.as_str(), "128:q7");
-    Ok(())
 }

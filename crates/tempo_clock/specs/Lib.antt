@@ -5,3 +5,4 @@ pub mod Kept
 pub mod Clocks
 pub mod Laws
 pub mod Worked
+pub mod Codes

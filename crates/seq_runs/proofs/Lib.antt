@@ -1,0 +1,17 @@
+pub mod Worked
+pub mod EqualMoments
+pub mod CopiesByEdgeAge
+pub mod InputOverflow
+pub mod OutputFull
+pub mod ThirdClients
+pub mod DeletedPort
+pub mod SharedQueue
+pub mod Examples
+pub mod Conditions
+pub mod PlayedFile
+pub mod DroppedOutput
+pub mod ChangedFilter
+pub mod QueueClock
+pub mod ClosedClient
+pub mod CountedFrames
+pub mod RestartedQueue
