@@ -16,6 +16,7 @@ use Rattle.node_table.specs.declared.number.Node.TheVariants.{Port, Filter}
 use Rattle.patch_graph.specs.Edges.{edge, is_edge, has_edge, sources_of, most_sources}
 use Rattle.patch_graph.specs.Chains.{makes_cycle}
 use Rattle.patch_graph.specs.declared.edge.Edge.{Edge}
+use Rattle.patch_graph.proofs.Same.{same-is}
 use Rattle.seq_state.specs.declared.input.Command.{Command}
 use Rattle.seq_state.specs.declared.input.Command.TheVariants.{Open, Close, CreatePort, DeletePort, CreateFilter, SetFilter, DeleteFilter, Connect, Disconnect, Bytes, CreateQueue, CreateQueueFrom, DeleteQueue, Start, Stop, Continue, Tempo, Share, Schedule, Play, Receive, PoolStatus}
 use Rattle.node_table.specs.declared.number.QueueAddr.{QueueAddr}
@@ -310,17 +311,6 @@ module _ (s : State) (actor : ℕ) (q : Option QueueAddr) (own : Own) (b : Bound
 
 -- ---- subscriptions
 
-pub same-equal : (a b : Addr) → same a b ≡ true → a ≡ b
-same-equal a b h =
-    ap (λ c. let x : Addr = record { client = c; node = a.node } in x) (eqb-true a.client b.client (both_left (eqb a.client b.client) (same_node a.node b.node) h))
-    ∙ ap (λ n. let x : Addr = record { client = b.client; node = n } in x) (go a.node b.node (both_right (eqb a.client b.client) (same_node a.node b.node) h))
-  where
-    go : (m n : Node) → same_node m n ≡ true → m ≡ n
-    go (Port m) (Port n) e = ap Port (eqb-true m n e)
-    go (Filter m) (Filter n) e = ap Filter (eqb-true m n e)
-    go (Port m) (Filter n) e = absurd (false≢true e)
-    go (Filter m) (Port n) e = absurd (false≢true e)
-
 few-sources : (a : Asked) (source target : Addr) → first_refusal (command_row a (Connect source target)).conditions ≡ None → sources_of a.edges target < most_sources
 unfolding command_row
 few-sources a source target e =
@@ -346,7 +336,7 @@ few-connected edges source target b l t =
     (go (same t target) refl)
   where
     go : (x : Bool) → same t target ≡ x → sources_of edges t + length (cond x (edge source target ∷ []) []) ≤ most_sources
-    go true h = let m : sources_of edges t < most_sources = subst (λ i. sources_of edges i < most_sources) (sym (same-equal t target h)) l in omega arith
+    go true h = let m : sources_of edges t < most_sources = subst (λ i. sources_of edges i < most_sources) (sym (same-is t target h)) l in omega arith
     go false h = let m : sources_of edges t ≤ most_sources = b t in omega arith
 
 few-filtered : (p : Edge → Bool) (edges : List Edge) → FewSources edges → FewSources (filter p edges)

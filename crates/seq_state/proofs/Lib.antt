@@ -12,3 +12,7 @@ pub mod Rising
 pub mod Bounds
 pub mod Cycles
 pub mod Refused
+pub mod Lowest
+pub mod Ends
+pub mod Changes
+pub mod Circles

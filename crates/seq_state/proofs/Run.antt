@@ -184,7 +184,7 @@ module _ (files : List File) (owner : ℕ) (member : ℕ → Bool) where
 
   -- ---- a closed circle's edges come from members at each state
 
-  within_after : member owner ≡ true → (inputs : List Input) (s : State) → Within owner member s → IsClosedFrom files owner member s inputs → Within owner member (state_after files s inputs)
+  pub within_after : member owner ≡ true → (inputs : List Input) (s : State) → Within owner member s → IsClosedFrom files owner member s inputs → Within owner member (state_after files s inputs)
   within_after o [] s w c = w
   within_after o (i ∷ inputs) s w c = within_after o inputs (step files s i).state (within_step o i s w c.0 c.1 (member i.actor) refl) c.2
 

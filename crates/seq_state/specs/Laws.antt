@@ -1,13 +1,13 @@
 -- What follows of the step and of circles, for all states and all lists of inputs.
-use Rattle.std.specs.Prelude.{Option, Some, None, if◌then◌else◌, nat_le, nat_lt, length, ◌≡◌, ℕ, ◌==◌, ◌≤◌, ◌<◌, Bool, true, false, ◌&&◌, IsTrue, IsFalse, List, [], ◌∷◌, ◌++◌, map}
+use Rattle.std.specs.Prelude.{Option, Some, None, is_some, if◌then◌else◌, nat_le, nat_lt, length, ◌≡◌, ℕ, ◌==◌, ◌≤◌, ◌<◌, Bool, true, false, ◌&&◌, IsTrue, IsFalse, List, [], ◌∷◌, ◌++◌, map}
 use Rattle.std.specs.List.{filter, filter_map, flat_map, list_all}
 use Rattle.std.specs.Ordering.{nat_cmp}
 use Rattle.std.specs.FinMap
 use Rattle.std.specs.FinMap.{FinMap}
 use Rattle.tempo_clock.specs.Laws.{IsToldBy}
 use Rattle.tempo_clock.specs.Ticks.{resolution}
-use Rattle.patch_graph.specs.Chains.{makes_cycle}
-use Rattle.patch_graph.specs.Edges.{has_edge, sources_of, most_sources}
+use Rattle.patch_graph.specs.Chains.{Reaches}
+use Rattle.patch_graph.specs.Edges.{sources_of, most_sources}
 use Rattle.patch_graph.specs.Paths.{end_of, paths}
 use Rattle.node_table.specs.declared.number.Addr.{Addr}
 use Rattle.patch_graph.specs.declared.edge.Edge.{Edge}
@@ -18,7 +18,7 @@ use Rattle.seq_state.specs.declared.log.LogEntry.TheVariants.{Delivered, Replied
 use Rattle.seq_state.specs.Files.{File}
 use Rattle.seq_state.specs.State.{Pool, queues_of, Queue, Client, Event, Pending, State, start}
 use Rattle.seq_state.specs.Own.{out_size}
-use Rattle.seq_state.specs.Step.{used, event_moment, step, Stepped, settle, Settled, state_after, Timed, due, all_at, IsRefusal, IsTimed, plain}
+use Rattle.seq_state.specs.Step.{caps_at, is_left, used, event_moment, step, Stepped, settle, Settled, state_after, Timed, due, all_at, IsRefusal, IsTimed, plain}
 use Rattle.seq_state.specs.Circle.{is_inner, view, Sight, IsClosed, inner_node, only}
 use Rattle.seq_state.specs.Heard.{port_of, port_bytes}
 
@@ -201,12 +201,51 @@ pub record BoundsLaw : Type 0 where
   pub settled : (s : State) (m : ℕ) → Bounded s → Bounded (settle s m).state
   pub stepped : (files : List File) (s : State) (i : Input) → Bounded s → Bounded (step files s i).state
 
--- none of the edges closes a chain of filters that comes back to its beginning
-abbrev pub NoCycles : List Edge → Type 0
-NoCycles edges = (source target : Addr) → has_edge edges source target ≡ true → makes_cycle edges source target ≡ false
+-- no chain of filters comes back to its beginning
+abbrev pub NoReturn : List Edge → Type 0
+NoReturn edges = (a : Addr) → Reaches edges a a → ⊥
 
 -- so it is at first, and stays so
 pub record CycleLaw : Type 0 where
-  pub at_first : NoCycles start.edges
-  pub settled : (s : State) (m : ℕ) → NoCycles s.edges → NoCycles (settle s m).state.edges
-  pub stepped : (files : List File) (s : State) (i : Input) → NoCycles s.edges → NoCycles (step files s i).state.edges
+  pub at_first : NoReturn start.edges
+  pub settled : (s : State) (m : ℕ) → NoReturn s.edges → NoReturn (settle s m).state.edges
+  pub stepped : (files : List File) (s : State) (i : Input) → NoReturn s.edges → NoReturn (step files s i).state.edges
+
+-- both ends of each edge are there
+abbrev pub is_there : State → Addr → Bool
+is_there s a = is_some (caps_at s a)
+
+abbrev pub has_ends : State → Edge → Bool
+has_ends s e = is_there s e.source && is_there s e.target
+
+abbrev pub EndsThere : State → Type 0
+EndsThere s = list_all (has_ends s) s.edges ≡ true
+
+-- so it is at first, and stays so
+pub record EndsLaw : Type 0 where
+  pub at_first : EndsThere start
+  pub settled : (s : State) (m : ℕ) → EndsThere s → EndsThere (settle s m).state
+  pub stepped : (files : List File) (s : State) (i : Input) → EndsThere s → EndsThere (step files s i).state
+
+-- each playback has an event to send
+abbrev pub AreFilled : State → Type 0
+AreFilled s = list_all is_left s.pending ≡ true
+
+-- so it is at first, and stays so
+pub record FilledLaw : Type 0 where
+  pub at_first : AreFilled start
+  pub settled : (s : State) (m : ℕ) → AreFilled s → AreFilled (settle s m).state
+  pub stepped : (files : List File) (s : State) (i : Input) → AreFilled s → AreFilled (step files s i).state
+
+-- ---- circles
+
+-- in a closed circle each edge to a port of the owner or to a member's filter comes from a member
+abbrev pub SourcesLaw : Type 0
+SourcesLaw =
+    (files : List File) (owner : ℕ) (member : ℕ → Bool) (inputs : List Input) →
+    IsClosed files owner member inputs →
+    list_all (λ e. member e.source.client) (filter (into owner member) (state_after files start inputs).edges) ≡ true
+
+-- the circle of all clients is closed, whatever they say
+abbrev pub AllClosedLaw : Type 0
+AllClosedLaw = (files : List File) (owner : ℕ) (inputs : List Input) → IsClosed files owner (λ c. true) inputs

@@ -8,3 +8,4 @@ pub mod Step
 pub mod Circle
 pub mod Heard
 pub mod Laws
+pub mod Changes

@@ -1,8 +1,9 @@
 //! What holds of the step and of circles, for all lists of inputs. These functions do nothing: their contracts are the laws.
 
+ghost use Rattle.seq_state.specs.Changes.{LowestLaw, OthersLaw, EdgesLaw, PendingLaw, ReceiveLaw};
 ghost use Rattle.seq_state.specs.Circle.{IsolationLaw};
 ghost use Rattle.seq_state.specs.Heard.{PortBytesLaw};
-ghost use Rattle.seq_state.specs.Laws.{OneInputLaw, PathLaw, SettlingLaw, DueLaw, SortLaw, MeetLaw, RefusedLaw, AgreeLaw, RisingLaw, ReadyLaw, BoundsLaw, CycleLaw};
+ghost use Rattle.seq_state.specs.Laws.{OneInputLaw, PathLaw, SettlingLaw, DueLaw, SortLaw, MeetLaw, RefusedLaw, AgreeLaw, RisingLaw, ReadyLaw, BoundsLaw, CycleLaw, EndsLaw, FilledLaw, SourcesLaw, AllClosedLaw};
 
 /// What the owner of a closed circle sees of a run is what it sees of the plain run of the circle's inputs alone.
 pub fn circle_alone()
@@ -69,7 +70,53 @@ pub fn bounds_hold()
     ensures { BoundsLaw }
 {}
 
-/// In each state of a run no chain of filters comes back to its beginning.
+/// In each state of a run no chain of filters comes back to its beginning, whichever way it goes.
 pub fn filters_make_no_cycle()
     ensures { CycleLaw }
+{}
+
+/// In each state of a run both ends of every subscription are there.
+pub fn ends_are_there()
+    ensures { EndsLaw }
+{}
+
+/// In each state of a run every playback has an event to send.
+pub fn playbacks_have_events()
+    ensures { FilledLaw }
+{}
+
+/// The refusals of each command are tested in the order of their numbers: the one that is told is the lowest whose
+/// condition holds.
+pub fn lowest_is_told()
+    ensures { LowestLaw }
+{}
+
+/// A command leaves what it does not name: other clients, and the actor's other ports, filters and queues.
+pub fn others_stay()
+    ensures { OthersLaw }
+{}
+
+/// The subscriptions that each command takes and makes, by its name.
+pub fn edges_that_go()
+    ensures { EdgesLaw }
+{}
+
+/// The playbacks that each command drops and adds, by its name.
+pub fn playbacks_that_go()
+    ensures { PendingLaw }
+{}
+
+/// What was waiting is what a Receive gives, and then what waits still; none is lost by it.
+pub fn receive_takes_the_oldest()
+    ensures { ReceiveLaw }
+{}
+
+/// In a closed circle the subscriptions to the owner's ports and the members' filters come from members.
+pub fn sources_within()
+    ensures { SourcesLaw }
+{}
+
+/// The circle of all clients is closed: so there is a closed circle round each owner.
+pub fn all_are_closed()
+    ensures { AllClosedLaw }
 {}

@@ -14,9 +14,11 @@ mod tests;
 
 pub use input::{Command, DueAt, Input};
 pub use laws::{
-    bounds_hold, circle_alone, circle_heard_alone, circles_meet, due_in_order,
-    filters_make_no_cycle, lists_that_agree, moments_never_fall, one_input, paths_within,
-    queues_keep_up, refused_changes_nothing, settling_in_two,
+    all_are_closed, bounds_hold, circle_alone, circle_heard_alone, circles_meet, due_in_order,
+    edges_that_go, ends_are_there, filters_make_no_cycle, lists_that_agree, lowest_is_told,
+    moments_never_fall, one_input, others_stay, paths_within, playbacks_have_events,
+    playbacks_that_go, queues_keep_up, receive_takes_the_oldest, refused_changes_nothing,
+    settling_in_two, sources_within,
 };
 pub use log::{Arrival, Delivery, LogEntry, Reply};
 pub use patch_graph::Edge;
