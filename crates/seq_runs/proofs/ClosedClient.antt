@@ -21,55 +21,8 @@ use Rattle.seq_state.specs.declared.refusal.Refusal.TheVariants as refusal
 use Rattle.seq_state.specs.Step.{settle, sent, send_copies, port_addr, step, log_from, with_own}
 use Rattle.seq_runs.specs.Rows.{at, caps, queue_at, note, came, waits}
 use Rattle.seq_state.proofs.Effects.{step-connects, step-asks}
+use Rattle.seq_runs.proofs.Beginnings.{i0, s1, step0, i1, s2, step1, i2, a2, s3, step2}
 use Rattle.seq_runs.proofs.Worked.{to, settled_to, moved, with_own-moved, command-step, own-step, refused-step, patch-step, log-step, log-end, settle-sorted, settle-still, clock-moment, ways, paths-ways, finds}
-
-abbrev i0 : Input
-i0 = at 0 128 (Open (codes "a") 8 8)
-
-abbrev a0 : Client
-a0 = new_client (codes "a") 8 8
-
-abbrev o0 : Own
-o0 = record (kept (Some a0)) { pool = λ p. Some (record { size = 8; waiting = []; lost = 0 }) }
-
-abbrev s1 : State
-s1 = with_own start 128 None o0
-
-step0 : step [] start i0 ≡ to s1 [] Done
-unfolding command_row
-step0 = own-step [] start start i0 [] (settle-still start 0 refl) o0 s1 s1 [] (simp finds) refl refl
-
-abbrev i1 : Input
-i1 = at 0 128 (CreatePort 0 (codes "out") (caps 33))
-
-abbrev a1 : Client
-a1 = record a0 { ports = FinMap.insert a0.ports 0 (record { name = codes "out"; caps = caps 33; fed = [] }) }
-
-abbrev o1 : Own
-o1 = kept (Some a1)
-
-abbrev s2 : State
-s2 = moved s1 128 None o1
-
-step1 : step [] s1 i1 ≡ to s2 [] Done
-unfolding command_row
-step1 = own-step [] s1 s1 i1 [] (settle-still s1 0 refl) o1 s2 s2 [] (simp finds) (with_own-moved s1 128 None o1 (λ p. refl)) refl
-
-abbrev i2 : Input
-i2 = at 0 128 (CreateQueue 0 480 500000)
-
-abbrev a2 : Client
-a2 = record a1 { queues = FinMap.insert a1.queues 0 (held_queue (one_tempo 480 500000)) }
-
-abbrev o2 : Own
-o2 = kept (Some a2)
-
-abbrev s3 : State
-s3 = moved s2 128 None o2
-
-step2 : step [] s2 i2 ≡ to s3 [] Done
-unfolding command_row
-step2 = own-step [] s2 s2 i2 [] (settle-still s2 0 refl) o2 s3 s3 [] (simp finds) (with_own-moved s2 128 None o2 (λ p. refl)) refl
 
 abbrev i3 : Input
 i3 = at 0 128 (Share (queue_at 128 0))
@@ -340,9 +293,9 @@ log =
 
 pub run : log_from [] start 0 inputs 200 ≡ log
 run =
-    log-step [] start s1 i0 (drop 1 inputs) 0 200 [] Done (drop 1 log) step0
-    (log-step [] s1 s2 i1 (drop 2 inputs) 1 200 [] Done (drop 2 log) step1
-    (log-step [] s2 s3 i2 (drop 3 inputs) 2 200 [] Done (drop 3 log) step2
+    log-step [] start s1 i0 (drop 1 inputs) 0 200 [] Done (drop 1 log) (step0 [])
+    (log-step [] s1 s2 i1 (drop 2 inputs) 1 200 [] Done (drop 2 log) (step1 [])
+    (log-step [] s2 s3 i2 (drop 3 inputs) 2 200 [] Done (drop 3 log) (step2 [])
     (log-step [] s3 s4 i3 (drop 4 inputs) 3 200 [] Done (drop 4 log) step3
     (log-step [] s4 s5 i4 (drop 5 inputs) 4 200 [] Done (drop 5 log) step4
     (log-step [] s5 s6 i5 (drop 6 inputs) 5 200 [] Done (drop 6 log) step5

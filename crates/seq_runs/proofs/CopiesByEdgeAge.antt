@@ -18,39 +18,8 @@ use Rattle.seq_state.specs.Table.{command_row, connected}
 use Rattle.seq_state.specs.Step.{sent, send_copies, port_addr, step, log_from, with_own}
 use Rattle.seq_runs.specs.Rows.{at, caps, filter_addr, note, came, waits}
 use Rattle.seq_state.proofs.Effects.{step-connects}
+use Rattle.seq_runs.proofs.Beginnings.{i0, s1, step0, i1, a1, s2, step1}
 use Rattle.seq_runs.proofs.Worked.{to, settled_to, moved, with_own-moved, own-step, patch-step, log-step, log-end, settle-still, ways, paths-ways, finds}
-
-abbrev i0 : Input
-i0 = at 0 128 (Open (codes "a") 8 8)
-
-abbrev a0 : Client
-a0 = new_client (codes "a") 8 8
-
-abbrev o0 : Own
-o0 = record (kept (Some a0)) { pool = λ p. Some (record { size = 8; waiting = []; lost = 0 }) }
-
-abbrev s1 : State
-s1 = with_own start 128 None o0
-
-step0 : step [] start i0 ≡ to s1 [] Done
-unfolding command_row
-step0 = own-step [] start start i0 [] (settle-still start 0 refl) o0 s1 s1 [] (simp finds) refl refl
-
-abbrev i1 : Input
-i1 = at 0 128 (CreatePort 0 (codes "out") (caps 33))
-
-abbrev a1 : Client
-a1 = record a0 { ports = FinMap.insert a0.ports 0 (record { name = codes "out"; caps = caps 33; fed = [] }) }
-
-abbrev o1 : Own
-o1 = kept (Some a1)
-
-abbrev s2 : State
-s2 = moved s1 128 None o1
-
-step1 : step [] s1 i1 ≡ to s2 [] Done
-unfolding command_row
-step1 = own-step [] s1 s1 i1 [] (settle-still s1 0 refl) o1 s2 s2 [] (simp finds) (with_own-moved s1 128 None o1 (λ p. refl)) refl
 
 abbrev i2 : Input
 i2 = at 0 128 (CreateFilter 0 (caps 99) (moved_by (pos 0)))
@@ -213,8 +182,8 @@ log =
 
 pub run : log_from [] start 0 inputs 10 ≡ log
 run =
-    log-step [] start s1 i0 (drop 1 inputs) 0 10 [] Done (drop 1 log) step0
-    (log-step [] s1 s2 i1 (drop 2 inputs) 1 10 [] Done (drop 2 log) step1
+    log-step [] start s1 i0 (drop 1 inputs) 0 10 [] Done (drop 1 log) (step0 [])
+    (log-step [] s1 s2 i1 (drop 2 inputs) 1 10 [] Done (drop 2 log) (step1 [])
     (log-step [] s2 s3 i2 (drop 3 inputs) 2 10 [] Done (drop 3 log) step2
     (log-step [] s3 s4 i3 (drop 4 inputs) 3 10 [] Done (drop 4 log) step3
     (log-step [] s4 s5 i4 (drop 5 inputs) 4 10 [] Done (drop 5 log) step4

@@ -19,39 +19,8 @@ use Rattle.seq_state.specs.declared.refusal.Refusal.TheVariants as refusal
 use Rattle.seq_state.specs.Step.{settle, port_addr, step, log_from, with_own}
 use Rattle.seq_runs.specs.Rows.{frames, frames_song, at, caps, queue_at, note, came, waits}
 use Rattle.seq_state.proofs.Effects.{step-connects}
+use Rattle.seq_runs.proofs.Beginnings.{i0, s1, step0, i1, a1, s2, step1}
 use Rattle.seq_runs.proofs.Worked.{to, settled_to, moved, with_own-moved, own-step, refused-step, patch-step, log-step, log-end, settle-sorted, settle-still, clock-moment, ways, paths-ways, finds}
-
-abbrev i0 : Input
-i0 = at 0 128 (Open (codes "a") 8 8)
-
-abbrev a0 : Client
-a0 = new_client (codes "a") 8 8
-
-abbrev o0 : Own
-o0 = record (kept (Some a0)) { pool = λ p. Some (record { size = 8; waiting = []; lost = 0 }) }
-
-abbrev s1 : State
-s1 = with_own start 128 None o0
-
-step0 : step (frames_song ∷ []) start i0 ≡ to s1 [] Done
-unfolding command_row
-step0 = own-step (frames_song ∷ []) start start i0 [] (settle-still start 0 refl) o0 s1 s1 [] (simp finds) refl refl
-
-abbrev i1 : Input
-i1 = at 0 128 (CreatePort 0 (codes "out") (caps 33))
-
-abbrev a1 : Client
-a1 = record a0 { ports = FinMap.insert a0.ports 0 (record { name = codes "out"; caps = caps 33; fed = [] }) }
-
-abbrev o1 : Own
-o1 = kept (Some a1)
-
-abbrev s2 : State
-s2 = moved s1 128 None o1
-
-step1 : step (frames_song ∷ []) s1 i1 ≡ to s2 [] Done
-unfolding command_row
-step1 = own-step (frames_song ∷ []) s1 s1 i1 [] (settle-still s1 0 refl) o1 s2 s2 [] (simp finds) (with_own-moved s1 128 None o1 (λ p. refl)) refl
 
 abbrev i2 : Input
 i2 = at 0 128 (CreateQueueFrom 0 0)
@@ -202,14 +171,14 @@ moment0 : moment_of (record { map = frames; time = 0; since = Some 1 }) 0 (Tick 
 unfolding nanos_at numerator duration tempo_or resolution
 moment0 = clock-moment frames 0 1 0 0 (Tick 0) refl (omega arith)
 
-moment1 : moment_of (record { map = frames; time = 0; since = Some 1 }) 0 (Tick 480) ≡ Some 480000001
+moment1 : moment_of (record { map = frames; time = 0; since = Some 1 }) 0 (Tick 480) ≡ Some 200000001
 unfolding nanos_at numerator duration tempo_or resolution
-moment1 = clock-moment frames 0 1 0 480000000 (Tick 480) refl (omega arith)
+moment1 = clock-moment frames 0 1 0 200000000 (Tick 480) refl (omega arith)
 
 abbrev u_last : State
-u_last = record s11 { pending = []; pools = FinMap.insert (FinMap.insert s11.pools 129 (record { size = 8; waiting = waits 1 0 (note 0x3C) ∷ []; lost = 0 })) 129 (record { size = 8; waiting = waits 1 0 (note 0x3C) ∷ waits 480000001 0 (0x90 ∷ 0x3C ∷ 0x00 ∷ []) ∷ []; lost = 0 }) }
+u_last = record s11 { pending = []; pools = FinMap.insert (FinMap.insert s11.pools 129 (record { size = 8; waiting = waits 1 0 (note 0x3C) ∷ []; lost = 0 })) 129 (record { size = 8; waiting = waits 1 0 (note 0x3C) ∷ waits 200000001 0 (0x90 ∷ 0x3C ∷ 0x00 ∷ []) ∷ []; lost = 0 }) }
 
-settle_last : settle s11 600000000 ≡ settled_to u_last (came 1 129 0 (note 0x3C) ∷ came 480000001 129 0 (0x90 ∷ 0x3C ∷ 0x00 ∷ []) ∷ [])
+settle_last : settle s11 600000000 ≡ settled_to u_last (came 1 129 0 (note 0x3C) ∷ came 200000001 129 0 (0x90 ∷ 0x3C ∷ 0x00 ∷ []) ∷ [])
 unfolding ways
 settle_last = settle-sorted s11 600000000 ∙ simp (finds, paths-ways, moment0, moment1)
 
@@ -220,12 +189,12 @@ abbrev log : List LogEntry
 log =
     Replied 0 0 128 Done ∷ Replied 1 0 128 Done ∷ Replied 2 0 128 Done ∷ Replied 3 0 128 Done ∷ Replied 4 0 128 (Refused 22) ∷ Replied 5 0 128 Done
     ∷ Replied 6 0 128 (Refused 21) ∷ Replied 7 0 129 Done ∷ Replied 8 0 129 Done ∷ Replied 9 0 129 Done ∷ Replied 10 1 128 Done
-    ∷ Delivered (came 1 129 0 (note 0x3C)) ∷ Delivered (came 480000001 129 0 (0x90 ∷ 0x3C ∷ 0x00 ∷ [])) ∷ []
+    ∷ Delivered (came 1 129 0 (note 0x3C)) ∷ Delivered (came 200000001 129 0 (0x90 ∷ 0x3C ∷ 0x00 ∷ [])) ∷ []
 
 pub run : log_from (frames_song ∷ []) start 0 inputs 600000000 ≡ log
 run =
-    log-step (frames_song ∷ []) start s1 i0 (drop 1 inputs) 0 600000000 [] Done (drop 1 log) step0
-    (log-step (frames_song ∷ []) s1 s2 i1 (drop 2 inputs) 1 600000000 [] Done (drop 2 log) step1
+    log-step (frames_song ∷ []) start s1 i0 (drop 1 inputs) 0 600000000 [] Done (drop 1 log) (step0 (frames_song ∷ []))
+    (log-step (frames_song ∷ []) s1 s2 i1 (drop 2 inputs) 1 600000000 [] Done (drop 2 log) (step1 (frames_song ∷ []))
     (log-step (frames_song ∷ []) s2 s3 i2 (drop 3 inputs) 2 600000000 [] Done (drop 3 log) step2
     (log-step (frames_song ∷ []) s3 s4 i3 (drop 4 inputs) 3 600000000 [] Done (drop 4 log) step3
     (log-step (frames_song ∷ []) s4 s4 i4 (drop 5 inputs) 4 600000000 [] (Refused 22) (drop 5 log) step4
@@ -235,4 +204,4 @@ run =
     (log-step (frames_song ∷ []) s8 s9 i8 (drop 9 inputs) 8 600000000 [] Done (drop 9 log) step8
     (log-step (frames_song ∷ []) s9 s10 i9 (drop 10 inputs) 9 600000000 [] Done (drop 10 log) step9
     (log-step (frames_song ∷ []) s10 s11 i10 (drop 11 inputs) 10 600000000 [] Done (drop 11 log) step10
-    (log-end (frames_song ∷ []) s11 u_last 11 600000000 (came 1 129 0 (note 0x3C) ∷ came 480000001 129 0 (0x90 ∷ 0x3C ∷ 0x00 ∷ []) ∷ []) settle_last)))))))))))
+    (log-end (frames_song ∷ []) s11 u_last 11 600000000 (came 1 129 0 (note 0x3C) ∷ came 200000001 129 0 (0x90 ∷ 0x3C ∷ 0x00 ∷ []) ∷ []) settle_last)))))))))))

@@ -1,4 +1,5 @@
 pub mod Worked
+pub mod Beginnings
 pub mod EqualMoments
 pub mod CopiesByEdgeAge
 pub mod InputOverflow
@@ -8,6 +9,7 @@ pub mod DeletedPort
 pub mod SharedQueue
 pub mod Examples
 pub mod Conditions
+pub mod Steps
 pub mod PlayedFile
 pub mod DroppedOutput
 pub mod ChangedFilter
@@ -15,3 +17,6 @@ pub mod QueueClock
 pub mod ClosedClient
 pub mod CountedFrames
 pub mod RestartedQueue
+pub mod NoisyStranger
+pub mod SendInside
+pub mod OpenedAgain

@@ -19,71 +19,8 @@ use Rattle.seq_state.specs.Table.{command_row, connected}
 use Rattle.seq_state.specs.Step.{settle, port_addr, step, log_from, with_own}
 use Rattle.seq_runs.specs.Rows.{at, caps, queue_at, note, came, waits}
 use Rattle.seq_state.proofs.Effects.{step-connects}
+use Rattle.seq_runs.proofs.Beginnings.{i0, s1, step0, i1, s2, step1, i2, s3, step2, i3, a3, s4, step3}
 use Rattle.seq_runs.proofs.Worked.{to, settled_to, moved, with_own-moved, own-step, patch-step, log-step, log-end, settle-sorted, settle-still, clock-moment, tick-at_one, ways, paths-ways, finds}
-
-abbrev i0 : Input
-i0 = at 0 128 (Open (codes "a") 8 8)
-
-abbrev a0 : Client
-a0 = new_client (codes "a") 8 8
-
-abbrev o0 : Own
-o0 = record (kept (Some a0)) { pool = λ p. Some (record { size = 8; waiting = []; lost = 0 }) }
-
-abbrev s1 : State
-s1 = with_own start 128 None o0
-
-step0 : step [] start i0 ≡ to s1 [] Done
-unfolding command_row
-step0 = own-step [] start start i0 [] (settle-still start 0 refl) o0 s1 s1 [] (simp finds) refl refl
-
-abbrev i1 : Input
-i1 = at 0 128 (CreatePort 0 (codes "out") (caps 33))
-
-abbrev a1 : Client
-a1 = record a0 { ports = FinMap.insert a0.ports 0 (record { name = codes "out"; caps = caps 33; fed = [] }) }
-
-abbrev o1 : Own
-o1 = kept (Some a1)
-
-abbrev s2 : State
-s2 = moved s1 128 None o1
-
-step1 : step [] s1 i1 ≡ to s2 [] Done
-unfolding command_row
-step1 = own-step [] s1 s1 i1 [] (settle-still s1 0 refl) o1 s2 s2 [] (simp finds) (with_own-moved s1 128 None o1 (λ p. refl)) refl
-
-abbrev i2 : Input
-i2 = at 0 128 (CreateQueue 0 480 500000)
-
-abbrev a2 : Client
-a2 = record a1 { queues = FinMap.insert a1.queues 0 (held_queue (one_tempo 480 500000)) }
-
-abbrev o2 : Own
-o2 = kept (Some a2)
-
-abbrev s3 : State
-s3 = moved s2 128 None o2
-
-step2 : step [] s2 i2 ≡ to s3 [] Done
-unfolding command_row
-step2 = own-step [] s2 s2 i2 [] (settle-still s2 0 refl) o2 s3 s3 [] (simp finds) (with_own-moved s2 128 None o2 (λ p. refl)) refl
-
-abbrev i3 : Input
-i3 = at 0 128 (Start (queue_at 128 0))
-
-abbrev a3 : Client
-a3 = record a2 { queues = FinMap.insert a2.queues 0 (record { clock = record { map = two_a_second; time = 0; since = Some 0 }; shared = false }) }
-
-abbrev o3 : Own
-o3 = kept (Some a3)
-
-abbrev s4 : State
-s4 = moved s3 128 (Some (queue_at 128 0)) o3
-
-step3 : step [] s3 i3 ≡ to s4 [] Done
-unfolding command_row
-step3 = own-step [] s3 s3 i3 [] (settle-still s3 0 refl) o3 s4 s4 [] (simp finds) (with_own-moved s3 128 (Some (queue_at 128 0)) o3 (λ p. refl)) refl
 
 abbrev i4 : Input
 i4 = at 0 129 (Open (codes "b") 8 8)
@@ -217,10 +154,10 @@ log =
 
 pub run : log_from [] start 0 inputs 2100000 ≡ log
 run =
-    log-step [] start s1 i0 (drop 1 inputs) 0 2100000 [] Done (drop 1 log) step0
-    (log-step [] s1 s2 i1 (drop 2 inputs) 1 2100000 [] Done (drop 2 log) step1
-    (log-step [] s2 s3 i2 (drop 3 inputs) 2 2100000 [] Done (drop 3 log) step2
-    (log-step [] s3 s4 i3 (drop 4 inputs) 3 2100000 [] Done (drop 4 log) step3
+    log-step [] start s1 i0 (drop 1 inputs) 0 2100000 [] Done (drop 1 log) (step0 [])
+    (log-step [] s1 s2 i1 (drop 2 inputs) 1 2100000 [] Done (drop 2 log) (step1 [])
+    (log-step [] s2 s3 i2 (drop 3 inputs) 2 2100000 [] Done (drop 3 log) (step2 [])
+    (log-step [] s3 s4 i3 (drop 4 inputs) 3 2100000 [] Done (drop 4 log) (step3 [])
     (log-step [] s4 s5 i4 (drop 5 inputs) 4 2100000 [] Done (drop 5 log) step4
     (log-step [] s5 s6 i5 (drop 6 inputs) 5 2100000 [] Done (drop 6 log) step5
     (log-step [] s6 s7 i6 (drop 7 inputs) 6 2100000 [] Done (drop 7 log) step6

@@ -22,23 +22,8 @@ use Rattle.std.proofs.lemmas.Bool.{false≢true}
 use Rattle.seq_state.specs.Circle.{IsClosed}
 use Rattle.seq_runs.specs.Rows.{at, caps, queue_at, note, came, waits}
 use Rattle.seq_state.proofs.Effects.{step-connects, step-asks}
+use Rattle.seq_runs.proofs.Beginnings.{i0, a0, s1, step0}
 use Rattle.seq_runs.proofs.Worked.{to, settled_to, moved, with_own-moved, command-step, own-step, refused-step, patch-step, closed-step, closed-rest, closed-names, log-step, log-end, settle-sorted, settle-still, clock-moment, tick-at_first, ways, paths-ways, finds}
-
-abbrev i0 : Input
-i0 = at 0 128 (Open (codes "a") 8 8)
-
-abbrev a0 : Client
-a0 = new_client (codes "a") 8 8
-
-abbrev o0 : Own
-o0 = record (kept (Some a0)) { pool = λ p. Some (record { size = 8; waiting = []; lost = 0 }) }
-
-abbrev s1 : State
-s1 = with_own start 128 None o0
-
-step0 : step [] start i0 ≡ to s1 [] Done
-unfolding command_row
-step0 = own-step [] start start i0 [] (settle-still start 0 refl) o0 s1 s1 [] (simp finds) refl refl
 
 abbrev i1 : Input
 i1 = at 0 128 (CreateQueue 0 480 500000)
@@ -290,7 +275,7 @@ log =
 
 pub run : log_from [] start 0 inputs 200 ≡ log
 run =
-    log-step [] start s1 i0 (drop 1 inputs) 0 200 [] Done (drop 1 log) step0
+    log-step [] start s1 i0 (drop 1 inputs) 0 200 [] Done (drop 1 log) (step0 [])
     (log-step [] s1 s2 i1 (drop 2 inputs) 1 200 [] Done (drop 2 log) step1
     (log-step [] s2 s3 i2 (drop 3 inputs) 2 200 [] Done (drop 3 log) step2
     (log-step [] s3 s4 i3 (drop 4 inputs) 3 200 [] Done (drop 4 log) step3
@@ -312,7 +297,7 @@ run =
 pub all_closed : IsClosed [] 129 (λ c. (c == 128) || (c == 129) || (c == 130)) inputs
 all_closed = (
   refl,
-  closed-step [] 129 (λ c. (c == 128) || (c == 129) || (c == 130)) start s1 i0 (drop 1 inputs) [] Done step0 (tt) (tt) (
+  closed-step [] 129 (λ c. (c == 128) || (c == 129) || (c == 130)) start s1 i0 (drop 1 inputs) [] Done (step0 []) (tt) (tt) (
       closed-step [] 129 (λ c. (c == 128) || (c == 129) || (c == 130)) s1 s2 i1 (drop 2 inputs) [] Done step1 (tt) (tt) (
       closed-step [] 129 (λ c. (c == 128) || (c == 129) || (c == 130)) s2 s3 i2 (drop 3 inputs) [] Done step2 (tt) (λ m. refl) (
       closed-step [] 129 (λ c. (c == 128) || (c == 129) || (c == 130)) s3 s4 i3 (drop 4 inputs) [] Done step3 (tt) (tt) (
@@ -335,7 +320,7 @@ all_closed = (
 pub without_owner : IsClosed [] 129 (λ c. (c == 129) || (c == 130)) inputs → ⊥
 without_owner h =
     let h0 = h.1 in
-    let h1 = closed-rest [] 129 (λ c. (c == 129) || (c == 130)) start s1 i0 (drop 1 inputs) [] Done step0 h0 in
+    let h1 = closed-rest [] 129 (λ c. (c == 129) || (c == 130)) start s1 i0 (drop 1 inputs) [] Done (step0 []) h0 in
     let h2 = closed-rest [] 129 (λ c. (c == 129) || (c == 130)) s1 s2 i1 (drop 2 inputs) [] Done step1 h1 in
     let h3 = closed-rest [] 129 (λ c. (c == 129) || (c == 130)) s2 s3 i2 (drop 3 inputs) [] Done step2 h2 in
     let h4 = closed-rest [] 129 (λ c. (c == 129) || (c == 130)) s3 s4 i3 (drop 4 inputs) [] Done step3 h3 in

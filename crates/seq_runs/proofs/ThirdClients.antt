@@ -20,23 +20,8 @@ use Rattle.std.proofs.lemmas.Bool.{false≢true}
 use Rattle.seq_state.specs.Circle.{IsClosed}
 use Rattle.seq_runs.specs.Rows.{at, caps, note, came, waits}
 use Rattle.seq_state.proofs.Effects.{step-connects, step-parts}
+use Rattle.seq_runs.proofs.Beginnings.{i0, a0, s1, step0}
 use Rattle.seq_runs.proofs.Worked.{to, settled_to, moved, with_own-moved, own-step, refused-step, patch-step, closed-step, closed-rest, closed-here, log-step, log-end, settle-still, ways, paths-ways, finds}
-
-abbrev i0 : Input
-i0 = at 0 128 (Open (codes "a") 8 8)
-
-abbrev a0 : Client
-a0 = new_client (codes "a") 8 8
-
-abbrev o0 : Own
-o0 = record (kept (Some a0)) { pool = λ p. Some (record { size = 8; waiting = []; lost = 0 }) }
-
-abbrev s1 : State
-s1 = with_own start 128 None o0
-
-step0 : step [] start i0 ≡ to s1 [] Done
-unfolding command_row
-step0 = own-step [] start start i0 [] (settle-still start 0 refl) o0 s1 s1 [] (simp finds) refl refl
 
 abbrev i1 : Input
 i1 = at 0 128 (CreatePort 0 (codes "o") (caps 161))
@@ -210,7 +195,7 @@ log =
 
 pub run : log_from [] start 0 inputs 10 ≡ log
 run =
-    log-step [] start s1 i0 (drop 1 inputs) 0 10 [] Done (drop 1 log) step0
+    log-step [] start s1 i0 (drop 1 inputs) 0 10 [] Done (drop 1 log) (step0 [])
     (log-step [] s1 s2 i1 (drop 2 inputs) 1 10 [] Done (drop 2 log) step1
     (log-step [] s2 s3 i2 (drop 3 inputs) 2 10 [] Done (drop 3 log) step2
     (log-step [] s3 s4 i3 (drop 4 inputs) 3 10 [] Done (drop 4 log) step3
@@ -229,7 +214,7 @@ run =
 pub pair_closed : IsClosed [] 129 (λ c. (c == 128) || (c == 129)) inputs
 pair_closed = (
   refl,
-  closed-step [] 129 (λ c. (c == 128) || (c == 129)) start s1 i0 (drop 1 inputs) [] Done step0 (tt) (tt) (
+  closed-step [] 129 (λ c. (c == 128) || (c == 129)) start s1 i0 (drop 1 inputs) [] Done (step0 []) (tt) (tt) (
       closed-step [] 129 (λ c. (c == 128) || (c == 129)) s1 s2 i1 (drop 2 inputs) [] Done step1 (tt) (tt) (
       closed-step [] 129 (λ c. (c == 128) || (c == 129)) s2 s3 i2 (drop 3 inputs) [] Done step2 (tt) (tt) (
       closed-step [] 129 (λ c. (c == 128) || (c == 129)) s3 s4 i3 (drop 4 inputs) [] Done step3 (tt) (tt) (
@@ -249,7 +234,7 @@ pair_closed = (
 pub alone_open : IsClosed [] 129 (λ c. (c == 129)) inputs → ⊥
 alone_open h =
     let h0 = h.1 in
-    let h1 = closed-rest [] 129 (λ c. (c == 129)) start s1 i0 (drop 1 inputs) [] Done step0 h0 in
+    let h1 = closed-rest [] 129 (λ c. (c == 129)) start s1 i0 (drop 1 inputs) [] Done (step0 []) h0 in
     let h2 = closed-rest [] 129 (λ c. (c == 129)) s1 s2 i1 (drop 2 inputs) [] Done step1 h1 in
     let h3 = closed-rest [] 129 (λ c. (c == 129)) s2 s3 i2 (drop 3 inputs) [] Done step2 h2 in
     let h4 = closed-rest [] 129 (λ c. (c == 129)) s3 s4 i3 (drop 4 inputs) [] Done step3 h3 in

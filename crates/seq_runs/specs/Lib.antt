@@ -1,3 +1,4 @@
 pub mod Rows
 pub mod Examples
 pub mod Conditions
+pub mod Steps

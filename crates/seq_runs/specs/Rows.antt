@@ -1,5 +1,5 @@
 -- Worked runs, with their logs written out by hand. Beside each stands what it shows, and a wrong reading that it refuses.
-use Rattle.std.specs.Prelude.{◌≡◌, ◌==◌, ◌||◌, ℕ, pos, negsuc, true, false, List, [], ◌∷◌, codes}
+use Rattle.std.specs.Prelude.{◌≡◌, ◌==◌, ◌||◌, ℕ, pos, negsuc, Bool, true, false, List, [], ◌∷◌, codes}
 use Rattle.tempo_clock.specs.Entries.{smpte_word}
 use Rattle.tempo_clock.specs.Ticks.{Tempos}
 use Rattle.route_filter.specs.Worked.{moved_by}
@@ -17,7 +17,8 @@ use Rattle.seq_state.specs.declared.log.LogEntry.TheVariants.{Delivered, Replied
 use Rattle.seq_state.specs.declared.log.Reply.TheVariants.{Done, Messages, Queue, Received, Pools, Refused}
 use Rattle.seq_state.specs.Files.{File}
 use Rattle.seq_state.specs.Step.{plain, port_addr}
-use Rattle.seq_state.specs.Circle.{IsClosed}
+use Rattle.seq_state.specs.Heard.{port_of, port_bytes}
+use Rattle.seq_state.specs.Circle.{IsClosed, view, Came, Told, Outside}
 
 -- ---- short forms
 
@@ -48,9 +49,9 @@ waits moment port message = record { moment = moment; port = port; message = mes
 abbrev pub song : File
 song = record { division = 480; entries = record { tick = 0; tempo = 500000 } ∷ []; events = record { tick = 0; message = note 0x3C } ∷ record { tick = 480; message = 0x90 ∷ 0x3C ∷ 0x00 ∷ [] } ∷ [] }
 
--- the same at 25 frames per second with 40 ticks each, and no tempo
+-- the same at 30 frames per second with 80 ticks each, and no tempo
 abbrev pub frames : Tempos
-frames = record { division = smpte_word 25 40; entries = [] }
+frames = record { division = smpte_word 30 80; entries = [] }
 
 abbrev pub frames_song : File
 frames_song = record { division = frames.division; entries = frames.entries; events = song.events }
@@ -284,7 +285,7 @@ CountedFrames =
     plain (frames_song ∷ []) counted_frames 600000000 ≡
     Replied 0 0 128 Done ∷ Replied 1 0 128 Done ∷ Replied 2 0 128 Done ∷ Replied 3 0 128 Done ∷ Replied 4 0 128 (Refused 22) ∷ Replied 5 0 128 Done
     ∷ Replied 6 0 128 (Refused 21) ∷ Replied 7 0 129 Done ∷ Replied 8 0 129 Done ∷ Replied 9 0 129 Done ∷ Replied 10 1 128 Done
-    ∷ Delivered (came 1 129 0 (note 0x3C)) ∷ Delivered (came 480000001 129 0 (0x90 ∷ 0x3C ∷ 0x00 ∷ [])) ∷ []
+    ∷ Delivered (came 1 129 0 (note 0x3C)) ∷ Delivered (came 200000001 129 0 (0x90 ∷ 0x3C ∷ 0x00 ∷ [])) ∷ []
 
 -- A queue that was held is started again: it runs from 0, not from where it was held. Ticks after the present are counted from
 -- the last tick that has come.
@@ -311,3 +312,127 @@ pub record Circles : Type 0 where
   pub alone : IsClosed [] 129 (λ c. c == 129) third_clients → ⊥
   pub three : IsClosed [] 129 (λ c. (c == 128) || (c == 129) || (c == 130)) shared_queue
   pub without_owner : IsClosed [] 129 (λ c. (c == 129) || (c == 130)) shared_queue → ⊥
+
+-- A stranger opens, listens to a member, tries to join its port to the owner's and to part the owner's subscription, schedules,
+-- is told that its output pool is full, overflows its own input, and closes. The owner joins a member's port to the
+-- stranger's.
+abbrev pub noisy_stranger : List Input
+noisy_stranger =
+    at 0 128 (Open (codes "a") 8 8)
+    ∷ at 0 128 (CreatePort 0 (codes "out") (caps 33))
+    ∷ at 0 129 (Open (codes "b") 8 8)
+    ∷ at 0 129 (CreatePort 0 (codes "in") (caps 2))
+    ∷ at 0 129 (Connect (port_addr 128 0) (port_addr 129 0))
+    ∷ at 1 131 (Open (codes "x") 1 1)
+    ∷ at 1 131 (CreatePort 0 (codes "y") (caps 99))
+    ∷ at 1 129 (Connect (port_addr 128 0) (port_addr 131 0))
+    ∷ at 1 131 (Connect (port_addr 128 0) (port_addr 131 0))
+    ∷ at 1 131 (Connect (port_addr 131 0) (port_addr 129 0))
+    ∷ at 2 131 (Disconnect (port_addr 128 0) (port_addr 129 0))
+    ∷ at 2 131 (CreateFilter 0 (caps 99) (moved_by (pos 0)))
+    ∷ at 2 131 (CreateQueue 0 480 500000)
+    ∷ at 2 131 (Schedule (queue_at 131 0) 0 (due_at.Nanos 5) (note 0x7F))
+    ∷ at 2 131 (Schedule (queue_at 131 0) 0 (due_at.Nanos 5) (note 0x7F))
+    ∷ at 5 128 (Send 0 (note 0x3C))
+    ∷ at 6 128 (Send 0 (note 0x3D))
+    ∷ at 9 131 Close ∷ []
+
+-- the owner of the circle of the two that mind their business
+abbrev pub is_one_of_two : ℕ → Bool
+is_one_of_two c = (c == 128) || (c == 129)
+
+-- The circle of the owner 129 with 128 is closed, whatever the stranger 131 says; that of 131 with 128 is not, since 129,
+-- which does not belong to it, joined 131's port. What 129 sees is its own replies, but for how its Connect at the
+-- stranger's port ended, and what came to its port, with its moments.
+pub record NoisyStranger : Type 0 where
+  pub log :
+    plain [] noisy_stranger 10 ≡
+    Replied 0 0 128 Done
+    ∷ Replied 1 0 128 Done
+    ∷ Replied 2 0 129 Done
+    ∷ Replied 3 0 129 Done
+    ∷ Replied 4 0 129 Done
+    ∷ Replied 5 1 131 Done
+    ∷ Replied 6 1 131 Done
+    ∷ Replied 7 1 129 Done
+    ∷ Replied 8 1 131 (Refused 11)
+    ∷ Replied 9 1 131 (Refused 10)
+    ∷ Replied 10 2 131 (Refused 10)
+    ∷ Replied 11 2 131 Done
+    ∷ Replied 12 2 131 Done
+    ∷ Replied 13 2 131 Done
+    ∷ Replied 14 2 131 (Refused 24)
+    ∷ Delivered (came 5 129 0 (note 0x3C))
+    ∷ Delivered (came 5 131 0 (note 0x3C))
+    ∷ Replied 15 5 128 Done
+    ∷ Delivered (came 6 129 0 (note 0x3D))
+    ∷ Replied 16 6 128 Done
+    ∷ Replied 17 9 131 Done ∷ []
+  pub pair : IsClosed [] 129 is_one_of_two noisy_stranger
+  pub other_pair : IsClosed [] 131 (λ c. (c == 128) || (c == 131)) noisy_stranger → ⊥
+  pub seen :
+    view 129 is_one_of_two noisy_stranger (plain [] noisy_stranger 10) ≡
+    Told 0 Done ∷ Told 0 Done ∷ Told 0 Done ∷ Outside 1 ∷ Came (came 5 129 0 (note 0x3C)) ∷ Came (came 6 129 0 (note 0x3D)) ∷ []
+
+-- A message is sent from a port between two halves of another, which the port's bytes complete after it.
+abbrev pub send_inside_message : List Input
+send_inside_message =
+    at 0 128 (Open (codes "a") 8 8)
+    ∷ at 0 128 (CreatePort 0 (codes "out") (caps 33))
+    ∷ at 0 129 (Open (codes "b") 8 8)
+    ∷ at 0 129 (CreatePort 0 (codes "in") (caps 66))
+    ∷ at 0 129 (Connect (port_addr 128 0) (port_addr 129 0))
+    ∷ at 5 128 (Bytes 0 (0x90 ∷ 0x3C ∷ []))
+    ∷ at 5 128 (Send 0 (0xB0 ∷ 0x07 ∷ 0x7F ∷ []))
+    ∷ at 5 128 (Bytes 0 (0x40 ∷ [])) ∷ []
+
+pub record SendInside : Type 0 where
+  pub log :
+    plain [] send_inside_message 10 ≡
+    Replied 0 0 128 Done
+    ∷ Replied 1 0 128 Done
+    ∷ Replied 2 0 129 Done
+    ∷ Replied 3 0 129 Done
+    ∷ Replied 4 0 129 Done
+    ∷ Replied 5 5 128 (Messages 0)
+    ∷ Delivered (came 5 129 0 (0xB0 ∷ 0x07 ∷ 0x7F ∷ []))
+    ∷ Replied 6 5 128 Done
+    ∷ Delivered (came 5 129 0 (note 0x3C))
+    ∷ Replied 7 5 128 (Messages 1) ∷ []
+  pub bytes : port_bytes (port_of 129 0) (plain [] send_inside_message 10) ≡ 0xB0 ∷ 0x07 ∷ 0x7F ∷ 0x90 ∷ 0x3C ∷ 0x40 ∷ []
+
+-- A client with something waiting and something lost closes and opens again: it finds nothing waiting, nothing lost, and no
+-- subscription.
+abbrev pub opened_again : List Input
+opened_again =
+    at 0 128 (Open (codes "a") 8 8)
+    ∷ at 0 128 (CreatePort 0 (codes "out") (caps 33))
+    ∷ at 0 129 (Open (codes "b") 1 8)
+    ∷ at 0 129 (CreatePort 0 (codes "in") (caps 66))
+    ∷ at 0 129 (Connect (port_addr 128 0) (port_addr 129 0))
+    ∷ at 1 128 (Send 0 (note 0x3C))
+    ∷ at 2 128 (Send 0 (note 0x3D))
+    ∷ at 3 129 PoolStatus
+    ∷ at 4 129 Close
+    ∷ at 4 129 (Open (codes "b") 1 8)
+    ∷ at 4 129 PoolStatus
+    ∷ at 4 129 (CreatePort 0 (codes "in") (caps 66))
+    ∷ at 5 128 (Send 0 (note 0x3E)) ∷ []
+
+abbrev pub OpenedAgain : Type 0
+OpenedAgain =
+    plain [] opened_again 10 ≡
+    Replied 0 0 128 Done
+    ∷ Replied 1 0 128 Done
+    ∷ Replied 2 0 129 Done
+    ∷ Replied 3 0 129 Done
+    ∷ Replied 4 0 129 Done
+    ∷ Delivered (came 1 129 0 (note 0x3C))
+    ∷ Replied 5 1 128 Done
+    ∷ Replied 6 2 128 Done
+    ∷ Replied 7 3 129 (Pools 1 1 0)
+    ∷ Replied 8 4 129 Done
+    ∷ Replied 9 4 129 Done
+    ∷ Replied 10 4 129 (Pools 0 0 0)
+    ∷ Replied 11 4 129 Done
+    ∷ Replied 12 5 128 Done ∷ []

@@ -3,7 +3,8 @@
 
 ghost use Rattle.seq_runs.specs.Conditions.{EachCondition};
 ghost use Rattle.seq_runs.specs.Examples.{EachRefusal, LostStays};
-ghost use Rattle.seq_runs.specs.Rows.{Circles, EqualMoments, CopiesByEdgeAge, InputOverflow, OutputFull, ThirdClients, DeletedPort, SharedQueue, PlayedFile, DroppedOutput, ChangedFilter, QueueClock, ClosedClient, CountedFrames, RestartedQueue};
+ghost use Rattle.seq_runs.specs.Steps.{EachStep};
+ghost use Rattle.seq_runs.specs.Rows.{Circles, SendInside, OpenedAgain, NoisyStranger, EqualMoments, CopiesByEdgeAge, InputOverflow, OutputFull, ThirdClients, DeletedPort, SharedQueue, PlayedFile, DroppedOutput, ChangedFilter, QueueClock, ClosedClient, CountedFrames, RestartedQueue};
 
 /// Two clients each schedule a note for 100, the one with the greater number first. At equal moments the events come in the
 /// order of their commands, and with their own moment, not by client number nor with the moment of the settling step.
@@ -106,4 +107,27 @@ pub fn lost_count_stays()
 /// For each command and each refusal of its row a case in which that is the answer.
 pub fn each_condition()
     ensures { EachCondition }
+{}
+
+/// Single commands in a state that is given: filters in the order of a path, arrivals at another port than the first, what may
+/// be done to another's shared queue, whose events count and go, and the least and the greatest of each range.
+pub fn each_step()
+    ensures { EachStep }
+{}
+
+/// A stranger says all that it may beside two that mind their business: their circle is closed, and what its owner sees is spelled
+/// out. A circle that one from outside has joined is not closed.
+pub fn noisy_stranger()
+    ensures { NoisyStranger }
+{}
+
+/// A message is sent between two halves of another: it goes out at once, and the other is completed as if nothing had come
+/// between. The bytes at the port that hears both are those of the two messages in the order in which they came.
+pub fn send_inside_message()
+    ensures { SendInside }
+{}
+
+/// A client that closes and opens again finds nothing waiting, nothing lost, and no subscription.
+pub fn opened_again()
+    ensures { OpenedAgain }
 {}

@@ -1,0 +1,152 @@
+-- What single commands do in a state that is given.
+use Rattle.std.specs.Prelude.{◌≡◌, ◌-◌, ◌^◌, ℕ, pos, true, false, List, [], ◌∷◌, Option, Some, None, codes}
+use Rattle.std.specs.FinMap
+use Rattle.tempo_clock.specs.declared.due.Due.TheVariants.{Nanos, Tick}
+use Rattle.route_filter.specs.Worked.{moved_by}
+use Rattle.node_table.specs.declared.number.Addr.{Addr}
+use Rattle.patch_graph.specs.Edges.{edge}
+use Rattle.seq_state.specs.declared.input.Command.TheVariants.{Open, CreatePort, CreateQueue, CreateQueueFrom, DeleteQueue, Start, Stop, Continue, Tempo, QueueStatus, Share, Schedule, Play, Send, DropOutput, Receive, PoolStatus}
+use Rattle.seq_state.specs.declared.input.DueAt.TheVariants as due_at
+use Rattle.seq_state.specs.declared.input.Input.{Input}
+use Rattle.seq_state.specs.declared.log.Delivery.{Delivery}
+use Rattle.seq_state.specs.declared.log.Reply.{Reply}
+use Rattle.seq_state.specs.declared.log.Reply.TheVariants.{Done, Queue, Received, Pools, Refused}
+use Rattle.seq_state.specs.Files.{File}
+use Rattle.seq_state.specs.State as state
+use Rattle.seq_state.specs.State.{FilterInfo, Client, Pool, Pending, State}
+use Rattle.seq_state.specs.Own.{held_queue, one_tempo, public}
+use Rattle.seq_state.specs.Step.{step, port_addr}
+use Rattle.seq_runs.specs.Rows.{at, caps, filter_addr, queue_at, note, came, waits, song}
+use Rattle.seq_runs.specs.Examples.{out_port, in_port}
+
+-- ---- the state
+
+-- a filter that raises notes by a fifth, and one that lets none pass below 67 and raises by an octave
+abbrev pub fifth : FilterInfo
+fifth = record { caps = caps 99; rule = moved_by (pos 7) }
+
+abbrev pub high_octave : FilterInfo
+high_octave = record { caps = caps 99; rule = record (moved_by (pos 12)) { low = 67 } }
+
+-- a client with a port, both filters, and two queues that are held at 0, of which others may use the first
+abbrev pub host : Client
+host =
+    record {
+      name = codes "a";
+      in_size = 8;
+      out_size = 8;
+      ports = FinMap.insert FinMap.empty 0 out_port;
+      filters = FinMap.insert (FinMap.insert FinMap.empty 0 fifth) 1 high_octave;
+      queues = FinMap.insert (FinMap.insert FinMap.empty 0 (public (held_queue (one_tempo 480 500000)))) 1 (held_queue (one_tempo 480 500000));
+    }
+
+-- a client with two ports that listens
+abbrev pub listener : Client
+listener =
+    record {
+      name = codes "b";
+      in_size = 2;
+      out_size = 8;
+      ports = FinMap.insert (FinMap.insert FinMap.empty 0 in_port) 1 in_port;
+      filters = FinMap.empty;
+      queues = FinMap.empty;
+    }
+
+-- a client with a port of its own and no queue
+abbrev pub guest : Client
+guest =
+    record {
+      name = codes "c";
+      in_size = 1;
+      out_size = 2;
+      ports = FinMap.insert FinMap.empty 0 out_port;
+      filters = FinMap.empty;
+      queues = FinMap.empty;
+    }
+
+-- what the listener has waiting, and what found no room before
+abbrev pub half_full : Pool
+half_full = record { size = 2; waiting = waits 3 0 (note 1) ∷ []; lost = 5 }
+
+-- the host's port leads through both filters to the listener's port 0, and the guest's to its port 1
+abbrev pub hall : State
+hall =
+    record {
+      clients = FinMap.insert (FinMap.insert (FinMap.insert FinMap.empty 128 host) 129 listener) 130 guest;
+      pools =
+          FinMap.insert (FinMap.insert (FinMap.insert FinMap.empty 128 (record { size = 8; waiting = []; lost = 0 })) 129 half_full) 130
+          (record { size = 1; waiting = []; lost = 0 });
+      edges =
+          edge (port_addr 128 0) (filter_addr 128 0) ∷ edge (filter_addr 128 0) (filter_addr 128 1)
+          ∷ edge (filter_addr 128 1) (port_addr 129 0) ∷ edge (port_addr 130 0) (port_addr 129 1) ∷ [];
+      pending = [];
+    }
+
+-- an event of the guest's, and one of the host's, on the host's first queue
+abbrev pub event_of : ℕ → Pending
+event_of client =
+    record {
+      client = client;
+      queue = queue_at 128 0;
+      playback = record { port = 0; accepted = 0; events = record { due = Nanos 5; message = note 60 } ∷ [] };
+    }
+
+abbrev pub both_waiting : State
+both_waiting = record hall { pending = event_of 130 ∷ event_of 128 ∷ [] }
+
+abbrev pub files : List File
+files = song ∷ []
+
+-- ---- what is said of a step
+
+abbrev pub Replies : State → Input → Reply → Type 0
+Replies s i reply = (step files s i).reply ≡ reply
+
+abbrev pub Delivers : State → Input → List Delivery → Type 0
+Delivers s i ds = (step files s i).delivered ≡ ds
+
+-- ---- the steps
+
+pub record EachStep : Type 0 where
+  -- a message goes through the filters in the order of the path: 60 would not pass the second one first
+  pub two_filters : Delivers hall (at 5 128 (Send 0 (note 60))) (came 5 129 0 (note 79) ∷ [])
+  -- the second filter tests what the first made of it
+  pub below_the_second : Delivers hall (at 5 128 (Send 0 (note 59))) []
+  -- a delivery and an arrival name the port that the message came to
+  pub port_one : Delivers hall (at 5 130 (Send 0 (note 60))) (came 5 129 1 (note 60) ∷ [])
+  pub port_one_waits :
+    FinMap.get (step files hall (at 5 130 (Send 0 (note 60)))).state.pools 129
+    ≡ Some (record half_full { waiting = waits 3 0 (note 1) ∷ waits 5 1 (note 60) ∷ [] })
+  -- who may use another's shared queue plays on it, schedules on it and asks what it shows
+  pub play_on_shared : Replies hall (at 5 130 (Play (queue_at 128 0) 0 0)) Done
+  pub schedule_on_shared : Replies hall (at 5 130 (Schedule (queue_at 128 0) 0 (due_at.Nanos 9) (note 60))) Done
+  pub status_of_shared : Replies hall (at 5 130 (QueueStatus (queue_at 128 0))) (Queue false 0 0)
+  -- and does nothing else to it
+  pub start_of_shared : Replies hall (at 5 130 (Start (queue_at 128 0))) (Refused 16)
+  pub stop_of_shared : Replies hall (at 5 130 (Stop (queue_at 128 0))) (Refused 16)
+  pub continue_of_shared : Replies hall (at 5 130 (Continue (queue_at 128 0))) (Refused 16)
+  pub tempo_of_shared : Replies hall (at 5 130 (Tempo (queue_at 128 0) 250000)) (Refused 16)
+  pub share_of_shared : Replies hall (at 5 130 (Share (queue_at 128 0))) (Refused 16)
+  pub delete_of_shared : Replies hall (at 5 130 (DeleteQueue (queue_at 128 0))) (Refused 16)
+  -- what a client has pending counts as its own, on whoever's queue
+  pub used_by_guest : Replies both_waiting (at 0 130 PoolStatus) (Pools 0 0 1)
+  pub used_by_host : Replies both_waiting (at 0 128 PoolStatus) (Pools 0 0 1)
+  pub used_by_listener : Replies both_waiting (at 0 129 PoolStatus) (Pools 1 5 0)
+  -- DropOutput drops the actor's and no other's, on whoever's queue
+  pub dropped_by_guest : (step files both_waiting (at 0 130 DropOutput)).state.pending ≡ event_of 128 ∷ []
+  pub dropped_by_host : (step files both_waiting (at 0 128 DropOutput)).state.pending ≡ event_of 130 ∷ []
+  -- a queue may be shared twice
+  pub shared_twice : Replies hall (at 5 128 (Share (queue_at 128 0))) Done
+  -- a queue that is made from a file is private
+  pub made_private :
+    Replies (step files hall (at 5 128 (CreateQueueFrom 3 0))).state (at 5 130 (QueueStatus (queue_at 128 3))) (Refused 16)
+  -- the least and the greatest of each range are taken
+  pub least_sizes : Replies hall (at 5 131 (Open (codes "d") 1 1)) Done
+  pub greatest_sizes : Replies hall (at 5 131 (Open (codes "d") 2000 2000)) Done
+  pub longest_name : Replies hall (at 5 128 (CreatePort 1 (codes "abcdefghijklmnopqrstuvwxyz012345") (caps 0))) Done
+  pub least_queue : Replies hall (at 5 128 (CreateQueue 3 1 1)) Done
+  pub greatest_queue : Replies hall (at 5 128 (CreateQueue 3 32767 16777215)) Done
+  pub receive_one : Replies hall (at 5 129 (Receive 1)) (Received (waits 3 0 (note 1) ∷ []))
+  pub receive_many : Replies hall (at 5 129 (Receive 2000)) (Received (waits 3 0 (note 1) ∷ []))
+  pub greatest_time : Replies hall (at 5 128 (Schedule (queue_at 128 0) 0 (due_at.NanosAfter (2 ^ 64 - 1)) (note 60))) Done
+  pub greatest_tick : Replies hall (at 5 128 (Schedule (queue_at 128 0) 0 (due_at.TickAfter (2 ^ 64 - 1)) (note 60))) Done
