@@ -1,0 +1,9 @@
+mod Told
+mod CellLemmas
+mod OrderLemmas
+mod KeyLemmas
+mod StoredLemmas
+mod RetainLemmas
+mod Outcomes
+mod Single
+mod Tracking

@@ -1,0 +1,4 @@
+pub mod Due
+pub mod Keys
+pub mod Stored
+pub mod Tracked

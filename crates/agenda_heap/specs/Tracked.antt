@@ -1,0 +1,11 @@
+-- What a test knows of the agenda that it drives.
+use Rattle.std.specs.Prelude.{◌≡◌, ℕ, Bool, false, List, Some, is_some, length, slice_index_or}
+use Rattle.std.specs.Ordering.{nat_cmp}
+use Rattle.std.specs.FinMap.{FinMap, get}
+use Rattle.agenda_heap.specs.declared.due_key.DueKey.{DueKey}
+
+-- a key's rank is its cell, and these 16 flags tell which cells are there
+pub record IsTracked (m : FinMap nat_cmp DueKey) (there : List Bool) : Type 0 where
+  pub ranked : (q : ℕ) (k : DueKey) → get m q ≡ Some k → k.rank ≡ q
+  pub told : (q : ℕ) → is_some (get m q) ≡ slice_index_or there q false
+  pub sixteen : length there ≡ 16
