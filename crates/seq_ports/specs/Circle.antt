@@ -1,5 +1,5 @@
 -- A circle of clients, and what its owner sees.
-use Rattle.std.specs.Prelude.{◌≡◌, ℕ, ◌==◌, Bool, false, not, if◌then◌else◌, IsTrue, IsFalse, List, [], ◌∷◌, Option, Some, None, slice_get}
+use Rattle.std.specs.Prelude.{◌≡◌, ℕ, ◌==◌, Bool, true, false, not, if◌then◌else◌, IsTrue, IsFalse, List, [], ◌∷◌, Option, Some, None, slice_get}
 use Rattle.std.specs.List.{filter, flat_map}
 use Rattle.node_table.specs.declared.number.Addr.{Addr}
 use Rattle.node_table.specs.declared.number.Node.{Node}
@@ -84,3 +84,7 @@ IsolationLaw =
     (owner : ℕ) (member : ℕ → Bool) (inputs : List Input) (end : ℕ) →
     IsTimed inputs end → IsClosed owner member inputs →
     view owner member inputs (plain inputs end) ≡ view owner member (only member inputs) (plain (only member inputs) end)
+
+-- the circle of all clients is closed, whatever they say
+abbrev pub AllClosedLaw : Type 0
+AllClosedLaw = (owner : ℕ) (inputs : List Input) → IsClosed owner (λ c. true) inputs

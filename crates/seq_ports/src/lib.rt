@@ -7,7 +7,7 @@
 mod input;
 mod log;
 
-ghost use Rattle.seq_ports.specs.Circle.{IsolationLaw};
+ghost use Rattle.seq_ports.specs.Circle.{IsolationLaw, AllClosedLaw};
 ghost use Rattle.seq_ports.specs.Heard.{PortBytesLaw};
 ghost use Rattle.seq_ports.specs.Rows.{FirstNote};
 
@@ -27,7 +27,12 @@ pub fn circle_heard_alone()
     ensures { PortBytesLaw }
 {}
 
-/// One note from one client to another, computed from the definitions.
+/// The circle of all clients is closed: so there is a closed circle round each owner.
+pub fn all_are_closed()
+    ensures { AllClosedLaw }
+{}
+
+/// One note from one client to another, and what its listener sees, computed from the definitions.
 pub fn first_note()
     ensures { FirstNote }
 {}
