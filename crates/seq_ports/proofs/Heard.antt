@@ -1,11 +1,10 @@
 -- What comes to a port of the owner is part of what the owner sees.
 use Rattle.std.proofs.Common.{◌≡◌, ℕ, Bool, true, false, cond, eqb, ◌&&◌, List, [], ◌∷◌, ◌++◌, Option, Some, None, refl, sym, ap, ◌∙◌}
 use Rattle.std.specs.Prelude.{slice_get}
-use Rattle.std.specs.List.{filter_map, cons_option, flat_map}
+use Rattle.std.specs.List.{filter_map, cons_option}
 use Rattle.midi_wire.specs.Writings.{written}
 use Rattle.node_table.specs.declared.number.PortAddr.{PortAddr}
 use Rattle.seq_ports.specs.declared.input.Input.{Input}
-use Rattle.seq_state.specs.declared.log.Delivery.{Delivery}
 use Rattle.seq_ports.specs.declared.log.LogEntry.{LogEntry}
 use Rattle.seq_ports.specs.declared.log.LogEntry.TheVariants.{Delivered, Replied}
 use Rattle.seq_ports.specs.declared.log.Reply.{Reply}

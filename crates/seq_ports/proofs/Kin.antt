@@ -1,5 +1,5 @@
 -- Two states that are alike within a circle, and that each input keeps them so.
-use Rattle.std.proofs.Common.{◌≡◌, ℕ, ◌+◌, Bool, true, false, not, cond, eqb, ◌&&◌, List, [], ◌∷◌, ◌++◌, map, drop, Option, Some, None, refl, sym, ap, subst, ◌∙◌, arith, append-nil}
+use Rattle.std.proofs.Common.{◌≡◌, ℕ, ◌+◌, Bool, true, false, not, cond, eqb, List, [], ◌∷◌, ◌++◌, map, drop, Option, Some, None, refl, sym, ap, subst, ◌∙◌, arith, append-nil}
 use Rattle.std.specs.Prelude.{is_some, nat_le, length}
 use Rattle.std.specs.List.{filter, filter_map, list_any, list_all, flat_map}
 use Rattle.std.specs.Ordering.{nat_cmp, eq_by_cmp}
@@ -24,7 +24,7 @@ use Rattle.seq_ports.specs.declared.log.LogEntry.TheVariants.{Delivered, Replied
 use Rattle.seq_ports.specs.declared.log.Reply.{Reply}
 use Rattle.seq_ports.specs.State.{Client, State, start}
 use Rattle.seq_ports.specs.Own.{Own, Row, first_refusal, own_command}
-use Rattle.seq_ports.specs.Step.{port_addr, delivery, copies, sent, Stepped, unless, loses, put, with_own, after_own, after_row, caps_at, node_caps, permitted, patch_refusal, connect_refusal, disconnect_refusal, connected, disconnected, after_patch, command_step, step, log_from, plain, IsTimed, IsRefusal}
+use Rattle.seq_ports.specs.Step.{port_addr, delivery, copies, sent, Stepped, unless, loses, put, after_own, after_row, caps_at, node_caps, permitted, patch_refusal, connect_refusal, disconnect_refusal, connected, disconnected, after_patch, command_step, step, log_from, IsRefusal}
 use Rattle.seq_ports.specs.Circle.{only, is_inner, inner_node, aims_outside, IsClosedAt, IsClosedFrom, Sight, Came, Told, Outside, sight, sight_of_reply, is_to, view, IsolationLaw}
 use Rattle.seq_state.proofs.Lists.{both_left, both_right, filter-filter, filter-wider, list_any-wider, filter-under, filter-never, list_all-one, not_by, filter-outside, refuted, list_all-filter, list_all-append, filter-append, filter-filter_map, filter-flat_map, flat_map-agree, flat_map-none, flat_map-append, slice_get-drop, drop-next}
 

@@ -1,7 +1,5 @@
 -- A worked run: one note from one client to another.
 use Rattle.std.specs.Prelude.{◌≡◌, ℕ, true, List, [], ◌∷◌}
-use Rattle.node_table.specs.declared.number.Addr.{Addr}
-use Rattle.node_table.specs.declared.number.Node.TheVariants.{Port}
 use Rattle.seq_ports.specs.declared.input.Command.{Command}
 use Rattle.seq_ports.specs.declared.input.Command.TheVariants.{Open, CreatePort, Connect, Bytes}
 use Rattle.seq_ports.specs.declared.input.Input.{Input}
@@ -36,5 +34,5 @@ first_log =
 pub record FirstNote : Type 0 where
   pub log : plain first_note 10 ≡ first_log
   pub seen :
-    view 129 (λ c. true) first_note (plain first_note 10) ≡
-    Told 0 Done ∷ Told 0 Done ∷ Told 0 Done ∷ Came note_came ∷ []
+      view 129 (λ c. true) first_note (plain first_note 10) ≡
+      Told 0 Done ∷ Told 0 Done ∷ Told 0 Done ∷ Came note_came ∷ []

@@ -1,5 +1,5 @@
 -- Each refusal, computed.
-use Rattle.std.proofs.Common.{◌≡◌, ◌-◌, ◌^◌, ℕ, List, [], Option, Some, refl, ap, ◌∙◌, arith}
+use Rattle.std.proofs.Common.{◌≡◌, ◌-◌, ◌^◌, [], Some, refl, ap, ◌∙◌, arith}
 use Rattle.std.specs.Prelude.{codes}
 use Rattle.tempo_clock.specs.Ticks.{tick_at, nanos_at, numerator, duration, tempo_or, resolution}
 use Rattle.tempo_clock.proofs.Moments.{moment-held}

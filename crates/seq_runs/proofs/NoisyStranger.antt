@@ -1,5 +1,5 @@
 -- The run `noisy_stranger`, input by input, and two circles of it.
-use Rattle.std.proofs.Common.{◌≡◌, ℕ, pos, true, false, ◌||◌, ◌==◌, List, [], ◌∷◌, drop, Some, None, refl, sym, ap, ◌∙◌, arith}
+use Rattle.std.proofs.Common.{◌≡◌, pos, true, ◌||◌, ◌==◌, List, [], ◌∷◌, drop, Some, None, refl, sym, ap, ◌∙◌}
 use Rattle.std.specs.Prelude.{codes}
 use Rattle.std.specs.FinMap
 use Rattle.std.proofs.lemmas.Bool.{false≢true}
@@ -336,24 +336,24 @@ pub pair_closed : IsClosed [] 129 (λ c. (c == 128) || (c == 129)) inputs
 pair_closed = (
   refl,
   (closed-step [] 129 (λ c. (c == 128) || (c == 129)) start s1 i0 (drop 1 inputs) [] Done step0 (tt) (tt)
-  (closed-step [] 129 (λ c. (c == 128) || (c == 129)) s1 s2 i1 (drop 2 inputs) [] Done step1 (tt) (tt)
-  (closed-step [] 129 (λ c. (c == 128) || (c == 129)) s2 s3 i2 (drop 3 inputs) [] Done step2 (tt) (tt)
-  (closed-step [] 129 (λ c. (c == 128) || (c == 129)) s3 s4 i3 (drop 4 inputs) [] Done step3 (tt) (tt)
-  (closed-step [] 129 (λ c. (c == 128) || (c == 129)) s4 s5 i4 (drop 5 inputs) [] Done step4 (λ i. (λ m. refl, λ n. absurd (false≢true (sym n)))) (tt)
-  (closed-step [] 129 (λ c. (c == 128) || (c == 129)) s5 s6 i5 (drop 6 inputs) [] Done step5 (tt) (tt)
-  (closed-step [] 129 (λ c. (c == 128) || (c == 129)) s6 s7 i6 (drop 7 inputs) [] Done step6 (tt) (tt)
-  (closed-step [] 129 (λ c. (c == 128) || (c == 129)) s7 s8 i7 (drop 8 inputs) [] Done step7 (λ i. absurd (false≢true i)) (tt)
-  (closed-step [] 129 (λ c. (c == 128) || (c == 129)) s8 s8 i8 (drop 9 inputs) [] (Refused 11) step8 (λ i. absurd (false≢true i)) (tt)
-  (closed-step [] 129 (λ c. (c == 128) || (c == 129)) s8 s8 i9 (drop 10 inputs) [] (Refused 10) step9 (λ i. (λ m. absurd (false≢true m), λ n. tt)) (tt)
-  (closed-step [] 129 (λ c. (c == 128) || (c == 129)) s8 s8 i10 (drop 11 inputs) [] (Refused 10) step10 (λ i. (λ m. absurd (false≢true m), λ n. tt)) (tt)
-  (closed-step [] 129 (λ c. (c == 128) || (c == 129)) s8 s12 i11 (drop 12 inputs) [] Done step11 (tt) (tt)
-  (closed-step [] 129 (λ c. (c == 128) || (c == 129)) s12 s13 i12 (drop 13 inputs) [] Done step12 (tt) (tt)
-  (closed-step [] 129 (λ c. (c == 128) || (c == 129)) s13 s14 i13 (drop 14 inputs) [] Done step13 (tt) (λ m. absurd (false≢true m))
-  (closed-step [] 129 (λ c. (c == 128) || (c == 129)) s14 s14 i14 (drop 15 inputs) [] (Refused 24) step14 (tt) (λ m. absurd (false≢true m))
-  (closed-step [] 129 (λ c. (c == 128) || (c == 129)) s14 s16 i15 (drop 16 inputs) (came 5 129 0 (note 0x3C) ∷ came 5 131 0 (note 0x3C) ∷ []) Done step15 (tt) (tt)
-  (closed-step [] 129 (λ c. (c == 128) || (c == 129)) s16 s17 i16 (drop 17 inputs) (came 6 129 0 (note 0x3D) ∷ []) Done step16 (tt) (tt)
-  (closed-step [] 129 (λ c. (c == 128) || (c == 129)) s17 s18 i17 (drop 18 inputs) [] Done step17 (tt) (tt)
-  tt)))))))))))))))))),
+      (closed-step [] 129 (λ c. (c == 128) || (c == 129)) s1 s2 i1 (drop 2 inputs) [] Done step1 (tt) (tt)
+      (closed-step [] 129 (λ c. (c == 128) || (c == 129)) s2 s3 i2 (drop 3 inputs) [] Done step2 (tt) (tt)
+      (closed-step [] 129 (λ c. (c == 128) || (c == 129)) s3 s4 i3 (drop 4 inputs) [] Done step3 (tt) (tt)
+      (closed-step [] 129 (λ c. (c == 128) || (c == 129)) s4 s5 i4 (drop 5 inputs) [] Done step4 (λ i. (λ m. refl, λ n. absurd (false≢true (sym n)))) (tt)
+      (closed-step [] 129 (λ c. (c == 128) || (c == 129)) s5 s6 i5 (drop 6 inputs) [] Done step5 (tt) (tt)
+      (closed-step [] 129 (λ c. (c == 128) || (c == 129)) s6 s7 i6 (drop 7 inputs) [] Done step6 (tt) (tt)
+      (closed-step [] 129 (λ c. (c == 128) || (c == 129)) s7 s8 i7 (drop 8 inputs) [] Done step7 (λ i. absurd (false≢true i)) (tt)
+      (closed-step [] 129 (λ c. (c == 128) || (c == 129)) s8 s8 i8 (drop 9 inputs) [] (Refused 11) step8 (λ i. absurd (false≢true i)) (tt)
+      (closed-step [] 129 (λ c. (c == 128) || (c == 129)) s8 s8 i9 (drop 10 inputs) [] (Refused 10) step9 (λ i. (λ m. absurd (false≢true m), λ n. tt)) (tt)
+      (closed-step [] 129 (λ c. (c == 128) || (c == 129)) s8 s8 i10 (drop 11 inputs) [] (Refused 10) step10 (λ i. (λ m. absurd (false≢true m), λ n. tt)) (tt)
+      (closed-step [] 129 (λ c. (c == 128) || (c == 129)) s8 s12 i11 (drop 12 inputs) [] Done step11 (tt) (tt)
+      (closed-step [] 129 (λ c. (c == 128) || (c == 129)) s12 s13 i12 (drop 13 inputs) [] Done step12 (tt) (tt)
+      (closed-step [] 129 (λ c. (c == 128) || (c == 129)) s13 s14 i13 (drop 14 inputs) [] Done step13 (tt) (λ m. absurd (false≢true m))
+      (closed-step [] 129 (λ c. (c == 128) || (c == 129)) s14 s14 i14 (drop 15 inputs) [] (Refused 24) step14 (tt) (λ m. absurd (false≢true m))
+      (closed-step [] 129 (λ c. (c == 128) || (c == 129)) s14 s16 i15 (drop 16 inputs) (came 5 129 0 (note 0x3C) ∷ came 5 131 0 (note 0x3C) ∷ []) Done step15 (tt) (tt)
+      (closed-step [] 129 (λ c. (c == 128) || (c == 129)) s16 s17 i16 (drop 17 inputs) (came 6 129 0 (note 0x3D) ∷ []) Done step16 (tt) (tt)
+      (closed-step [] 129 (λ c. (c == 128) || (c == 129)) s17 s18 i17 (drop 18 inputs) [] Done step17 (tt) (tt)
+      tt)))))))))))))))))),
 )
 
 pub other_pair_open : IsClosed [] 131 (λ c. (c == 128) || (c == 131)) inputs → ⊥

@@ -8,14 +8,14 @@ use Rattle.tempo_clock.specs.Worked.{two_a_second}
 use Rattle.tempo_clock.specs.declared.due.Due.TheVariants.{Tick, Nanos}
 use Rattle.tempo_clock.proofs.Moments.{moment-held}
 use Rattle.patch_graph.specs.Edges.{most_sources}
-use Rattle.seq_state.specs.declared.input.Command.TheVariants.{Open, CreatePort, Connect, CreateQueue, Start, Stop, Continue, Tempo, QueueStatus, Schedule, PoolStatus}
+use Rattle.seq_state.specs.declared.input.Command.TheVariants.{Open, CreatePort, Connect, Start, Stop, Continue, Tempo, QueueStatus, Schedule, PoolStatus}
 use Rattle.seq_state.specs.declared.input.DueAt.TheVariants as due_at
 use Rattle.seq_state.specs.declared.input.Input.{Input}
 use Rattle.seq_state.specs.declared.log.LogEntry.{LogEntry}
 use Rattle.seq_state.specs.declared.log.LogEntry.TheVariants.{Delivered, Replied}
 use Rattle.seq_state.specs.declared.log.Reply.TheVariants.{Done, Queue, Pools}
 use Rattle.seq_state.specs.State.{State, Client, start}
-use Rattle.seq_state.specs.Own.{Own, kept, new_client, held_queue, one_tempo}
+use Rattle.seq_state.specs.Own.{Own, kept, new_client}
 use Rattle.seq_state.specs.Table.{command_row, connected}
 use Rattle.seq_state.specs.Step.{settle, port_addr, step, log_from, with_own}
 use Rattle.seq_runs.specs.Rows.{at, caps, queue_at, note, came, waits}

@@ -1,24 +1,24 @@
 -- The run `send_inside_message`, input by input.
-use Rattle.std.proofs.Common.{◌≡◌, ℕ, false, List, [], ◌∷◌, drop, Some, None, refl, ap, ◌∙◌, arith}
+use Rattle.std.proofs.Common.{◌≡◌, List, [], ◌∷◌, drop, Some, None, refl, ap, ◌∙◌}
 use Rattle.std.specs.Prelude.{codes}
 use Rattle.std.specs.FinMap
 use Rattle.midi_wire.specs.Kinds.{kind_of_status}
 use Rattle.midi_wire.specs.Messages.{begins}
 use Rattle.midi_wire.specs.Readings.{reading, rest}
 use Rattle.patch_graph.specs.Edges.{most_sources}
-use Rattle.seq_state.specs.declared.input.Command.TheVariants.{Open, Close, CreatePort, Connect, Bytes, Send, PoolStatus}
+use Rattle.seq_state.specs.declared.input.Command.TheVariants.{Open, CreatePort, Connect, Bytes, Send}
 use Rattle.seq_state.specs.declared.input.Input.{Input}
 use Rattle.seq_state.specs.declared.log.LogEntry.{LogEntry}
 use Rattle.seq_state.specs.declared.log.LogEntry.TheVariants.{Delivered, Replied}
-use Rattle.seq_state.specs.declared.log.Reply.TheVariants.{Done, Messages, Pools}
+use Rattle.seq_state.specs.declared.log.Reply.TheVariants.{Done, Messages}
 use Rattle.seq_state.specs.State.{State, Client, start}
 use Rattle.seq_state.specs.Own.{Own, kept, new_client, new_pool, new_port}
 use Rattle.seq_state.specs.Table.{command_row, connected}
 use Rattle.seq_state.specs.Step.{sent, send_copies, port_addr, step, log_from, with_own, plain}
 use Rattle.seq_state.specs.Heard.{port_of, port_bytes}
 use Rattle.seq_runs.specs.Rows.{at, caps, note, came, waits, send_inside_message, SendInside}
-use Rattle.seq_state.proofs.Effects.{step-connects, step-asks}
-use Rattle.seq_runs.proofs.Worked.{to, settled_to, moved, with_own-moved, command-step, own-step, patch-step, log-step, log-end, settle-still, ways, paths-ways, finds}
+use Rattle.seq_state.proofs.Effects.{step-connects}
+use Rattle.seq_runs.proofs.Worked.{to, settled_to, moved, with_own-moved, own-step, patch-step, log-step, log-end, settle-still, ways, paths-ways, finds}
 
 abbrev i0 : Input
 i0 = at 0 128 (Open (codes "a") 8 8)

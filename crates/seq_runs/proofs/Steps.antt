@@ -1,8 +1,7 @@
 -- Single steps, computed.
-use Rattle.std.proofs.Common.{◌≡◌, ◌-◌, ◌^◌, ℕ, false, List, [], ◌∷◌, Option, Some, None, refl, sym, ap, subst, ◌∙◌, arith}
+use Rattle.std.proofs.Common.{◌≡◌, ◌-◌, ◌^◌, false, [], ◌∷◌, Some, None, refl, ap, ◌∙◌}
 use Rattle.std.specs.Prelude.{codes}
 use Rattle.std.specs.FinMap
-use Rattle.tempo_clock.specs.Ticks.{tick_at}
 use Rattle.tempo_clock.proofs.Moments.{moment-held}
 use Rattle.midi_wire.specs.Kinds.{kind_of_status}
 use Rattle.midi_wire.specs.Messages.{begins}
@@ -19,7 +18,7 @@ use Rattle.seq_state.specs.Table.{command_row}
 use Rattle.seq_state.specs.Step.{settle, Stepped, unless, refusal_of, effect_of, step}
 use Rattle.seq_runs.specs.Rows.{at, caps, queue_at, note, waits}
 use Rattle.seq_runs.specs.Steps.{hall, both_waiting, files, EachStep}
-use Rattle.seq_runs.proofs.Worked.{to, settled_to, command-step, refused-step, settle-sorted, settle-still, tick-at_first, ways, paths-ways, finds}
+use Rattle.seq_runs.proofs.Worked.{settled_to, command-step, refused-step, settle-sorted, settle-still, tick-at_first, ways, paths-ways, finds}
 
 -- where nothing is due, and no refusal stands
 module _ (s : State) (i : Input) (first : settle s i.moment ≡ settled_to s []) where

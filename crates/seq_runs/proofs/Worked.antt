@@ -2,10 +2,8 @@
 use Rattle.std.proofs.Common.{◌≡◌, ℕ, zero, suc, ◌+◌, ◌-◌, ◌*◌, ◌^◌, ◌<◌, max, Bool, true, false, not, cond, eqb, List, [], ◌∷◌, ◌++◌, map, Option, Some, None, Ok, Err, refl, sym, ap, subst, ◌∙◌, arith}
 use Rattle.std.specs.List.{filter, flat_map}
 use Rattle.std.specs.Ordering.{nat_cmp}
-use Rattle.std.specs.Cmp.{nat_cmp_total}
 use Rattle.std.specs.FinMap
 use Rattle.std.specs.FinMap.{FinMap}
-use Rattle.std.proofs.lemmas.Bool.{eqb-true}
 use Rattle.tempo_clock.specs.Clocks.{moment_of, due_time}
 use Rattle.tempo_clock.specs.Ticks.{Tempos, nanos_at, numerator, duration, tempo_or, resolution, tick_at, first_tick_from, changed}
 use Rattle.tempo_clock.specs.Worked.{two_a_second}

@@ -346,33 +346,33 @@ is_one_of_two c = (c == 128) || (c == 129)
 -- stranger's port ended, and what came to its port, with its moments.
 pub record NoisyStranger : Type 0 where
   pub log :
-    plain [] noisy_stranger 10 ≡
-    Replied 0 0 128 Done
-    ∷ Replied 1 0 128 Done
-    ∷ Replied 2 0 129 Done
-    ∷ Replied 3 0 129 Done
-    ∷ Replied 4 0 129 Done
-    ∷ Replied 5 1 131 Done
-    ∷ Replied 6 1 131 Done
-    ∷ Replied 7 1 129 Done
-    ∷ Replied 8 1 131 (Refused 11)
-    ∷ Replied 9 1 131 (Refused 10)
-    ∷ Replied 10 2 131 (Refused 10)
-    ∷ Replied 11 2 131 Done
-    ∷ Replied 12 2 131 Done
-    ∷ Replied 13 2 131 Done
-    ∷ Replied 14 2 131 (Refused 24)
-    ∷ Delivered (came 5 129 0 (note 0x3C))
-    ∷ Delivered (came 5 131 0 (note 0x3C))
-    ∷ Replied 15 5 128 Done
-    ∷ Delivered (came 6 129 0 (note 0x3D))
-    ∷ Replied 16 6 128 Done
-    ∷ Replied 17 9 131 Done ∷ []
+      plain [] noisy_stranger 10 ≡
+      Replied 0 0 128 Done
+      ∷ Replied 1 0 128 Done
+      ∷ Replied 2 0 129 Done
+      ∷ Replied 3 0 129 Done
+      ∷ Replied 4 0 129 Done
+      ∷ Replied 5 1 131 Done
+      ∷ Replied 6 1 131 Done
+      ∷ Replied 7 1 129 Done
+      ∷ Replied 8 1 131 (Refused 11)
+      ∷ Replied 9 1 131 (Refused 10)
+      ∷ Replied 10 2 131 (Refused 10)
+      ∷ Replied 11 2 131 Done
+      ∷ Replied 12 2 131 Done
+      ∷ Replied 13 2 131 Done
+      ∷ Replied 14 2 131 (Refused 24)
+      ∷ Delivered (came 5 129 0 (note 0x3C))
+      ∷ Delivered (came 5 131 0 (note 0x3C))
+      ∷ Replied 15 5 128 Done
+      ∷ Delivered (came 6 129 0 (note 0x3D))
+      ∷ Replied 16 6 128 Done
+      ∷ Replied 17 9 131 Done ∷ []
   pub pair : IsClosed [] 129 is_one_of_two noisy_stranger
   pub other_pair : IsClosed [] 131 (λ c. (c == 128) || (c == 131)) noisy_stranger → ⊥
   pub seen :
-    view 129 is_one_of_two noisy_stranger (plain [] noisy_stranger 10) ≡
-    Told 0 Done ∷ Told 0 Done ∷ Told 0 Done ∷ Outside 1 ∷ Came (came 5 129 0 (note 0x3C)) ∷ Came (came 6 129 0 (note 0x3D)) ∷ []
+      view 129 is_one_of_two noisy_stranger (plain [] noisy_stranger 10) ≡
+      Told 0 Done ∷ Told 0 Done ∷ Told 0 Done ∷ Outside 1 ∷ Came (came 5 129 0 (note 0x3C)) ∷ Came (came 6 129 0 (note 0x3D)) ∷ []
 
 -- A message is sent from a port between two halves of another, which the port's bytes complete after it.
 abbrev pub send_inside_message : List Input
@@ -388,17 +388,17 @@ send_inside_message =
 
 pub record SendInside : Type 0 where
   pub log :
-    plain [] send_inside_message 10 ≡
-    Replied 0 0 128 Done
-    ∷ Replied 1 0 128 Done
-    ∷ Replied 2 0 129 Done
-    ∷ Replied 3 0 129 Done
-    ∷ Replied 4 0 129 Done
-    ∷ Replied 5 5 128 (Messages 0)
-    ∷ Delivered (came 5 129 0 (0xB0 ∷ 0x07 ∷ 0x7F ∷ []))
-    ∷ Replied 6 5 128 Done
-    ∷ Delivered (came 5 129 0 (note 0x3C))
-    ∷ Replied 7 5 128 (Messages 1) ∷ []
+      plain [] send_inside_message 10 ≡
+      Replied 0 0 128 Done
+      ∷ Replied 1 0 128 Done
+      ∷ Replied 2 0 129 Done
+      ∷ Replied 3 0 129 Done
+      ∷ Replied 4 0 129 Done
+      ∷ Replied 5 5 128 (Messages 0)
+      ∷ Delivered (came 5 129 0 (0xB0 ∷ 0x07 ∷ 0x7F ∷ []))
+      ∷ Replied 6 5 128 Done
+      ∷ Delivered (came 5 129 0 (note 0x3C))
+      ∷ Replied 7 5 128 (Messages 1) ∷ []
   pub bytes : port_bytes (port_of 129 0) (plain [] send_inside_message 10) ≡ 0xB0 ∷ 0x07 ∷ 0x7F ∷ 0x90 ∷ 0x3C ∷ 0x40 ∷ []
 
 -- A client with something waiting and something lost closes and opens again: it finds nothing waiting, nothing lost, and no

@@ -1,9 +1,8 @@
 -- What single commands do in a state that is given.
-use Rattle.std.specs.Prelude.{◌≡◌, ◌-◌, ◌^◌, ℕ, pos, true, false, List, [], ◌∷◌, Option, Some, None, codes}
+use Rattle.std.specs.Prelude.{◌≡◌, ◌-◌, ◌^◌, ℕ, pos, false, List, [], ◌∷◌, Some, codes}
 use Rattle.std.specs.FinMap
-use Rattle.tempo_clock.specs.declared.due.Due.TheVariants.{Nanos, Tick}
+use Rattle.tempo_clock.specs.declared.due.Due.TheVariants.{Nanos}
 use Rattle.route_filter.specs.Worked.{moved_by}
-use Rattle.node_table.specs.declared.number.Addr.{Addr}
 use Rattle.patch_graph.specs.Edges.{edge}
 use Rattle.seq_state.specs.declared.input.Command.TheVariants.{Open, CreatePort, CreateQueue, CreateQueueFrom, DeleteQueue, Start, Stop, Continue, Tempo, QueueStatus, Share, Schedule, Play, Send, DropOutput, Receive, PoolStatus}
 use Rattle.seq_state.specs.declared.input.DueAt.TheVariants as due_at
@@ -12,7 +11,6 @@ use Rattle.seq_state.specs.declared.log.Delivery.{Delivery}
 use Rattle.seq_state.specs.declared.log.Reply.{Reply}
 use Rattle.seq_state.specs.declared.log.Reply.TheVariants.{Done, Queue, Received, Pools, Refused}
 use Rattle.seq_state.specs.Files.{File}
-use Rattle.seq_state.specs.State as state
 use Rattle.seq_state.specs.State.{FilterInfo, Client, Pool, Pending, State}
 use Rattle.seq_state.specs.Own.{held_queue, one_tempo, public}
 use Rattle.seq_state.specs.Step.{step, port_addr}
@@ -115,8 +113,8 @@ pub record EachStep : Type 0 where
   -- a delivery and an arrival name the port that the message came to
   pub port_one : Delivers hall (at 5 130 (Send 0 (note 60))) (came 5 129 1 (note 60) ∷ [])
   pub port_one_waits :
-    FinMap.get (step files hall (at 5 130 (Send 0 (note 60)))).state.pools 129
-    ≡ Some (record half_full { waiting = waits 3 0 (note 1) ∷ waits 5 1 (note 60) ∷ [] })
+      FinMap.get (step files hall (at 5 130 (Send 0 (note 60)))).state.pools 129
+      ≡ Some (record half_full { waiting = waits 3 0 (note 1) ∷ waits 5 1 (note 60) ∷ [] })
   -- who may use another's shared queue plays on it, schedules on it and asks what it shows
   pub play_on_shared : Replies hall (at 5 130 (Play (queue_at 128 0) 0 0)) Done
   pub schedule_on_shared : Replies hall (at 5 130 (Schedule (queue_at 128 0) 0 (due_at.Nanos 9) (note 60))) Done
@@ -139,7 +137,7 @@ pub record EachStep : Type 0 where
   pub shared_twice : Replies hall (at 5 128 (Share (queue_at 128 0))) Done
   -- a queue that is made from a file is private
   pub made_private :
-    Replies (step files hall (at 5 128 (CreateQueueFrom 3 0))).state (at 5 130 (QueueStatus (queue_at 128 3))) (Refused 16)
+      Replies (step files hall (at 5 128 (CreateQueueFrom 3 0))).state (at 5 130 (QueueStatus (queue_at 128 3))) (Refused 16)
   -- the least and the greatest of each range are taken
   pub least_sizes : Replies hall (at 5 131 (Open (codes "d") 1 1)) Done
   pub greatest_sizes : Replies hall (at 5 131 (Open (codes "d") 2000 2000)) Done

@@ -1,6 +1,6 @@
 -- Nothing grows past its bound.
 use Rattle.std.proofs.Common.{◌≡◌, ◌≤◌, ◌<◌, ℕ, zero, suc, ◌+◌, Bool, true, false, not, cond, eqb, ◌&&◌, ◌||◌, ◌⊎◌, inl, inr, List, [], ◌∷◌, ◌++◌, map, length, drop, Option, Some, None, refl, sym, ap, subst, ◌∙◌, arith}
-use Rattle.std.specs.Prelude.{nat_le, nat_lt, is_some, ◌==◌, min}
+use Rattle.std.specs.Prelude.{nat_le, nat_lt, ◌==◌, min}
 use Rattle.std.specs.List.{filter, flat_map}
 use Rattle.std.specs.Ordering.{nat_cmp}
 use Rattle.std.specs.FinMap
@@ -9,16 +9,14 @@ use Rattle.std.proofs.lemmas.Bool.Decides.{nat_tests}
 use Rattle.std.proofs.lemmas.Bool.{false≢true, eqb-true, ltb-true, leb-false}
 use Rattle.std.proofs.lemmas.List.{length-append, length-drop, length-map}
 use Rattle.tempo_clock.specs.Clocks.{started, stopped, resumed, with_tempo}
-use Rattle.node_table.specs.Addresses.{same, same_node}
+use Rattle.node_table.specs.Addresses.{same}
 use Rattle.node_table.specs.declared.number.Addr.{Addr}
-use Rattle.node_table.specs.declared.number.Node.{Node}
-use Rattle.node_table.specs.declared.number.Node.TheVariants.{Port, Filter}
-use Rattle.patch_graph.specs.Edges.{edge, is_edge, has_edge, sources_of, most_sources}
+use Rattle.patch_graph.specs.Edges.{edge, is_edge, sources_of, most_sources}
 use Rattle.patch_graph.specs.Chains.{makes_cycle}
 use Rattle.patch_graph.specs.declared.edge.Edge.{Edge}
 use Rattle.patch_graph.proofs.Same.{same-is}
 use Rattle.seq_state.specs.declared.input.Command.{Command}
-use Rattle.seq_state.specs.declared.input.Command.TheVariants.{Open, Close, CreatePort, DeletePort, CreateFilter, SetFilter, DeleteFilter, Connect, Disconnect, Bytes, CreateQueue, CreateQueueFrom, DeleteQueue, Start, Stop, Continue, Tempo, Share, Schedule, Play, Receive, PoolStatus}
+use Rattle.seq_state.specs.declared.input.Command.TheVariants.{Open, Close, CreatePort, DeletePort, CreateFilter, SetFilter, DeleteFilter, Connect, Disconnect, Bytes, CreateQueue, CreateQueueFrom, DeleteQueue, Start, Stop, Continue, Tempo, Share, Schedule, Play, Receive}
 use Rattle.node_table.specs.declared.number.QueueAddr.{QueueAddr}
 use Rattle.seq_state.specs.declared.log.Arrival.{Arrival}
 use Rattle.seq_state.specs.declared.log.Delivery.{Delivery}
@@ -30,7 +28,7 @@ use Rattle.seq_state.specs.Own.{Own, changed, out_size, put_port, put_filter, pu
 use Rattle.seq_state.specs.Table.{Asked, Condition, first_refusal, command_row, queue_named, connected, already_open, bad_name, bad_sizes, not_open, no_port, not_shared, none_named, bad_time, no_file, division_differs, no_sender, no_dest, not_permitted, already_connected}
 use Rattle.seq_state.specs.Step.{most_lost, offer, offered, playback_after, is_left, due, event_copies, settle, without_due, Stepped, used, loses, drops, pending_of, with_own, send_copies, unless, asked, row_of, refusal_of, effect_of, command_step}
 use Rattle.seq_state.specs.Laws.{pool_size, in_size, Bounded, BoundsLaw}
-use Rattle.seq_state.proofs.Lists.{both_left, both_right, filter-append, filter-map, filter-filter, filter-apart}
+use Rattle.seq_state.proofs.Lists.{filter-append, filter-map, filter-filter, filter-apart}
 use Rattle.seq_state.proofs.Effects.{get-put, none-lost}
 
 -- ---- lengths

@@ -1,34 +1,26 @@
 -- What each command changes, and what it leaves.
-use Rattle.std.proofs.Common.{◌≡◌, ℕ, Bool, true, false, not, cond, eqb, ◌&&◌, ◌||◌, List, [], ◌∷◌, ◌++◌, map, length, Option, Some, None, refl, sym, ap, subst, ◌∙◌, arith, append-nil}
-use Rattle.std.specs.Prelude.{take, drop, min}
+use Rattle.std.proofs.Common.{◌≡◌, ℕ, Bool, true, false, not, cond, eqb, ◌&&◌, ◌||◌, List, [], ◌++◌, map, Option, Some, None, refl, sym, ap, subst, ◌∙◌, arith, append-nil}
+use Rattle.std.specs.Prelude.{take, drop}
 use Rattle.std.specs.List.{filter, list_all}
-use Rattle.std.specs.Ordering.{nat_cmp}
 use Rattle.std.specs.FinMap
-use Rattle.std.specs.FinMap.{FinMap}
-use Rattle.std.proofs.lemmas.Bool.Decides.{nat_tests}
-use Rattle.std.proofs.lemmas.Bool.{false≢true, eqb-true, eq-eqb}
+use Rattle.std.proofs.lemmas.Bool.{false≢true, eq-eqb}
 use Rattle.std.proofs.lemmas.List.{take-append-drop, length-take}
 use Rattle.tempo_clock.specs.Clocks.{started, stopped, resumed, with_tempo}
-use Rattle.node_table.specs.Addresses.{same_node}
-use Rattle.node_table.specs.declared.number.Node.{Node}
-use Rattle.node_table.specs.declared.number.Node.TheVariants.{Port, Filter}
-use Rattle.node_table.specs.declared.number.QueueAddr.{QueueAddr}
-use Rattle.patch_graph.specs.declared.edge.Edge.{Edge}
+use Rattle.node_table.specs.declared.number.Node.TheVariants.{Filter}
 use Rattle.route_filter.specs.declared.rule_args.RuleArgs.{RuleArgs}
 use Rattle.seq_state.specs.declared.input.Command.{Command}
 use Rattle.seq_state.specs.declared.input.Command.TheVariants.{Open, Close, CreatePort, DeletePort, CreateFilter, SetFilter, DeleteFilter, Connect, Disconnect, Bytes, CreateQueue, CreateQueueFrom, DeleteQueue, Start, Stop, Continue, Tempo, Share, Schedule, Play, DropOutput, Receive}
-use Rattle.seq_state.specs.declared.log.Arrival.{Arrival}
 use Rattle.seq_state.specs.declared.log.Reply.TheVariants.{Received}
 use Rattle.seq_state.specs.declared.refusal.Refusal.{Refusal}
 use Rattle.seq_state.specs.Files.{File}
-use Rattle.seq_state.specs.State.{PortInfo, FilterInfo, Queue, Client, Pool, Playback, Pending, State, put, ports_of, filters_of, queues_of}
-use Rattle.seq_state.specs.Own.{Own, kept, changed, port_of, filter_of, queue_of, node_caps, filter_caps, put_port, put_filter, put_queue, port_fed, filter_ruled, queue_map, new_port, new_filter, held_queue, one_tempo, file_queue, file_at, clocked, public, oldest, without_oldest}
-use Rattle.seq_state.specs.Table.{Asked, first_refusal, command_row, queue_named}
-use Rattle.seq_state.specs.Step.{Stepped, is_left, loses, drops, pending_of, with_own, unless, asked, row_of, refusal_of, effect_of, command_step}
-use Rattle.seq_state.specs.Changes.{names_port, names_filter, names_queue, edge_goes, new_edges, pending_goes, adds_playback, is_added, is_playback_of, client_after, OthersLaw, EdgesLaw, PendingLaw, Taken, ReceiveLaw}
+use Rattle.seq_state.specs.State.{PortInfo, FilterInfo, Queue, Client, Pool, Playback, Pending, State, put}
+use Rattle.seq_state.specs.Own.{Own, changed, port_of, filter_of, queue_of, node_caps, filter_caps, put_port, put_filter, put_queue, port_fed, filter_ruled, queue_map, new_port, new_filter, held_queue, one_tempo, file_queue, file_at, clocked, public, oldest, without_oldest}
+use Rattle.seq_state.specs.Table.{Asked, command_row, queue_named}
+use Rattle.seq_state.specs.Step.{Stepped, is_left, loses, drops, pending_of, unless, asked, row_of, refusal_of, effect_of, command_step}
+use Rattle.seq_state.specs.Changes.{names_port, names_filter, names_queue, edge_goes, new_edges, pending_goes, adds_playback, is_added, is_playback_of, client_after, OthersLaw, EdgesLaw, PendingLaw, ReceiveLaw}
 use Rattle.seq_state.proofs.Effects.{get-put, none-lost, none-dropped, step-takes}
 use Rattle.seq_state.proofs.Ends.{get-put_port, get-put_filter, filters-put_port, ports-put_filter, ports-put_queue, filters-put_queue}
-use Rattle.seq_state.proofs.Lists.{and_both, filter-agree, filter-true, list_all-filter}
+use Rattle.seq_state.proofs.Lists.{filter-agree, filter-true, list_all-filter}
 
 -- ---- other clients
 
@@ -183,13 +175,13 @@ pub others_law : OthersLaw
 others_law = record {
   clients = others_after;
   ports = λ files s moment actor command n h.
-  actor_after files s moment actor command (λ o. port_of o n ≡ port_of (FinMap.get s.clients actor) n) refl (row_ports (asked files s moment actor command) command n h);
+      actor_after files s moment actor command (λ o. port_of o n ≡ port_of (FinMap.get s.clients actor) n) refl (row_ports (asked files s moment actor command) command n h);
   filters = λ files s moment actor command n h.
-  actor_after files s moment actor command (λ o. filter_of o n ≡ filter_of (FinMap.get s.clients actor) n) refl (row_filters (asked files s moment actor command) command n h);
+      actor_after files s moment actor command (λ o. filter_of o n ≡ filter_of (FinMap.get s.clients actor) n) refl (row_filters (asked files s moment actor command) command n h);
   queues = λ files s moment actor command n h.
-  actor_after files s moment actor command (λ o. queue_of o n ≡ queue_of (FinMap.get s.clients actor) n) refl (row_queues (asked files s moment actor command) command n h);
+      actor_after files s moment actor command (λ o. queue_of o n ≡ queue_of (FinMap.get s.clients actor) n) refl (row_queues (asked files s moment actor command) command n h);
   caps = λ files s moment actor n rule.
-  actor_after files s moment actor (SetFilter n rule) (λ o. node_caps o (Filter n) ≡ node_caps (FinMap.get s.clients actor) (Filter n)) refl (row_caps (asked files s moment actor (SetFilter n rule)) n rule);
+      actor_after files s moment actor (SetFilter n rule) (λ o. node_caps o (Filter n) ≡ node_caps (FinMap.get s.clients actor) (Filter n)) refl (row_caps (asked files s moment actor (SetFilter n rule)) n rule);
 }
 
 -- ---- subscriptions
@@ -275,10 +267,10 @@ added_row a command h ps = absurd (false≢true h)
 pub pending_law : PendingLaw
 pending_law = record {
   others = λ files s moment actor command r h.
-  ap (λ (x : Stepped). x.state.pending) (done files s moment actor command r) ∙ others_row (asked files s moment actor command) command h s.pending;
+      ap (λ (x : Stepped). x.state.pending) (done files s moment actor command r) ∙ others_row (asked files s moment actor command) command h s.pending;
   added = λ files s moment actor command r h.
-  let x = added_row (asked files s moment actor command) command h s.pending in
-  (x.0, ap (λ (y : Stepped). y.state.pending) (done files s moment actor command r) ∙ x.1, x.2);
+      let x = added_row (asked files s moment actor command) command h s.pending in
+      (x.0, ap (λ (y : Stepped). y.state.pending) (done files s moment actor command r) ∙ x.1, x.2);
 }
 
 -- ---- the input pool

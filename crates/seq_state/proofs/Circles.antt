@@ -1,5 +1,5 @@
 -- Where the subscriptions of a closed circle come from, and that there is one.
-use Rattle.std.proofs.Common.{◌≡◌, ℕ, true, List, [], ◌∷◌, Option, Some, None, refl, sym}
+use Rattle.std.proofs.Common.{ℕ, true, List, [], ◌∷◌, Option, Some, None, refl, sym}
 use Rattle.node_table.specs.declared.number.Addr.{Addr}
 use Rattle.node_table.specs.declared.number.QueueAddr.{QueueAddr}
 use Rattle.std.proofs.lemmas.Bool.{false≢true}

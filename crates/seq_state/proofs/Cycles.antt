@@ -1,10 +1,10 @@
 -- No chain of filters comes back to its beginning.
-use Rattle.std.proofs.Common.{◌≡◌, ℕ, Bool, true, false, not, ◌&&◌, List, [], ◌∷◌, ◌++◌, Option, Some, None, refl, sym, subst}
+use Rattle.std.proofs.Common.{◌≡◌, ℕ, Bool, true, false, not, List, [], ◌∷◌, Option, Some, None, refl, sym, subst}
 use Rattle.std.specs.List.{filter}
 use Rattle.std.proofs.lemmas.Bool.{false≢true}
 use Rattle.node_table.specs.declared.number.Addr.{Addr}
 use Rattle.patch_graph.specs.Chains.{makes_cycle, Reaches, are_edges, is_chain}
-use Rattle.patch_graph.specs.Edges.{is_edge, has_edge}
+use Rattle.patch_graph.specs.Edges.{is_edge}
 use Rattle.patch_graph.specs.declared.edge.Edge.{Edge}
 use Rattle.patch_graph.proofs.Chained.{acyclic-added, acyclic-fewer}
 use Rattle.seq_state.specs.declared.input.Command.{Command}

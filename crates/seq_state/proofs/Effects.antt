@@ -134,4 +134,3 @@ step-asks files s moment actor =
     ap (unless (refusal_of files s moment actor PoolStatus) s)
     (after-pool s moment actor (λ p. p) (pool_status (used s actor))
     ∙ ap (λ x. record { state = record { clients = s.clients; pools = x; edges = s.edges; pending = s.pending }; delivered = []; reply = reply }) (put-same s.pools actor))
-

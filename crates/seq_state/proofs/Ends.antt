@@ -1,10 +1,9 @@
 -- Both ends of each edge are there, and each playback has an event.
-use Rattle.std.proofs.Common.{◌≡◌, ℕ, Bool, true, false, not, cond, eqb, ◌&&◌, ◌||◌, List, [], ◌∷◌, ◌++◌, map, Option, Some, None, refl, sym, ap, subst, ◌∙◌, arith}
+use Rattle.std.proofs.Common.{◌≡◌, ℕ, Bool, true, false, not, cond, eqb, ◌&&◌, ◌||◌, List, [], ◌∷◌, map, Option, Some, None, refl, sym, ap, subst, ◌∙◌, arith}
 use Rattle.std.specs.Prelude.{is_some}
 use Rattle.std.specs.List.{filter, list_all}
 use Rattle.std.specs.Ordering.{nat_cmp}
 use Rattle.std.specs.FinMap
-use Rattle.std.specs.FinMap.{FinMap}
 use Rattle.std.proofs.lemmas.Bool.Decides.{nat_tests}
 use Rattle.std.proofs.lemmas.Bool.{false≢true, eqb-true}
 use Rattle.route_filter.specs.declared.rule_args.RuleArgs.{RuleArgs}
@@ -21,10 +20,10 @@ use Rattle.seq_state.specs.declared.refusal.Refusal.{Refusal}
 use Rattle.seq_state.specs.declared.refusal.Refusal.TheVariants as refusal
 use Rattle.tempo_clock.specs.Clocks.{started, stopped, resumed, with_tempo}
 use Rattle.seq_state.specs.Files.{File}
-use Rattle.seq_state.specs.State.{PortInfo, FilterInfo, Queue, Client, Pending, State, put}
+use Rattle.seq_state.specs.State.{PortInfo, FilterInfo, Queue, Client, State}
 use Rattle.seq_state.specs.Own.{Own, changed, port_of, filter_of, port_caps, filter_caps, node_caps, put_port, put_filter, put_queue, port_fed, filter_ruled, queue_of, queue_map, new_port, new_filter, held_queue, one_tempo, file_queue, file_at, clocked, public}
 use Rattle.seq_state.specs.Table.{Asked, Condition, first_refusal, command_row, queue_named, bad_name, bad_sizes, not_open, not_permitted, already_connected, sources_full, cycle}
-use Rattle.seq_state.specs.Step.{Stepped, playback_after, is_left, settle, loses, drops, pending_of, with_own, unless, caps_at, asked, row_of, refusal_of, effect_of, command_step}
+use Rattle.seq_state.specs.Step.{Stepped, playback_after, is_left, settle, loses, drops, pending_of, with_own, unless, asked, row_of, refusal_of, effect_of, command_step}
 use Rattle.seq_state.specs.Laws.{is_there, has_ends, EndsThere, EndsLaw, AreFilled, FilledLaw}
 use Rattle.seq_state.proofs.Effects.{get-put, none_some}
 use Rattle.seq_state.proofs.Lists.{both_left, both_right, and_both, list_all-filter, list_all-append, list_all-both, list_all-passed, list_all-weaker}
@@ -225,7 +224,7 @@ filled_law = record {
   at_first = refl;
   settled = λ s m w. list_all-passed is_left (map (playback_after s.clients m) s.pending);
   stepped = λ files s i w.
-  let u : State = (settle s i.moment).state in
-  filled_unless u (list_all-passed is_left (map (playback_after s.clients i.moment) s.pending)) (refusal_of files u i.moment i.actor i.command) (effect_of files u i.moment i.actor i.command)
-  (filled_own u i.actor (queue_named i.command) (row_of files u i.moment i.actor i.command).own (list_all-passed is_left (map (playback_after s.clients i.moment) s.pending)));
+      let u : State = (settle s i.moment).state in
+      filled_unless u (list_all-passed is_left (map (playback_after s.clients i.moment) s.pending)) (refusal_of files u i.moment i.actor i.command) (effect_of files u i.moment i.actor i.command)
+      (filled_own u i.actor (queue_named i.command) (row_of files u i.moment i.actor i.command).own (list_all-passed is_left (map (playback_after s.clients i.moment) s.pending)));
 }

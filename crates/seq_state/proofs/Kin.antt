@@ -2,8 +2,7 @@
 use Rattle.std.proofs.Common.{◌≡◌, ℕ, zero, suc, Bool, true, false, not, cond, eqb, ◌&&◌, ◌||◌, List, [], ◌∷◌, ◌++◌, map, length, Option, Some, None, refl, sym, ap, subst, ◌∙◌, arith, append-nil}
 use Rattle.std.specs.Prelude.{is_some, nat_le}
 use Rattle.std.specs.List.{filter, list_any, list_all, flat_map}
-use Rattle.std.specs.Ordering.{nat_cmp, eq_by_cmp}
-use Rattle.std.specs.Cmp.{nat_cmp_total}
+use Rattle.std.specs.Ordering.{nat_cmp}
 use Rattle.std.specs.FinMap
 use Rattle.std.specs.FinMap.{FinMap}
 use Rattle.std.proofs.lemmas.Bool.Decides.{nat_tests}
@@ -20,18 +19,17 @@ use Rattle.node_table.specs.declared.number.QueueAddr.{QueueAddr}
 use Rattle.seq_state.specs.declared.log.Delivery.{Delivery}
 use Rattle.seq_state.specs.declared.log.Reply.{Reply}
 use Rattle.seq_state.specs.declared.input.Command.TheVariants.{Connect, Disconnect}
-use Rattle.seq_state.specs.declared.log.Reply.TheVariants.{Done}
 use Rattle.seq_state.specs.declared.refusal.Refusal.{Refusal}
 use Rattle.seq_state.specs.declared.refusal.Refusal.TheVariants as refusal
 use Rattle.seq_state.specs.Files.{File}
 use Rattle.seq_state.specs.State.{put, Pool, Pending, State, Client, Event, Queue, queues_of, Playback}
 use Rattle.seq_state.specs.Copies.{copies}
-use Rattle.seq_state.specs.Own.{Own, kept, node_caps}
-use Rattle.seq_state.specs.Table.{Asked, Condition, Row, first_refusal, visible, queue_named, command_row, permitted, connected, disconnected}
+use Rattle.seq_state.specs.Own.{Own, node_caps}
+use Rattle.seq_state.specs.Table.{Row, first_refusal, visible, queue_named, command_row, permitted, connected, disconnected}
 use Rattle.seq_state.specs.Step.{delivered, upto, offer, has_room, offered, sent, Timed, playback_at, is_at, event_moment, moment_in, playback_after, is_by, due, all_at, event_copies, port_addr, without_due, is_left, settle, loses, drops, pending_of, with_own, send_copies, Stepped, unless, after_own, used, caps_at, IsRefusal, named_queue, asked, row_of, refusal_of, command_step}
 use Rattle.seq_state.specs.Circle.{is_to, NamesWithin, Sight, aims_outside, Outside, Told, is_inner, IsClosedAt}
 use Rattle.seq_state.specs.Laws.{is_mine, AreKin, into}
-use Rattle.seq_state.proofs.Effects.{get-put, none_some, is_patch, same_row, edges_stay, patched, patch_step, step-connects, step-parts}
+use Rattle.seq_state.proofs.Effects.{get-put, none_some, is_patch, same_row, edges_stay, patch_step, step-connects, step-parts}
 use Rattle.seq_state.proofs.Lists.{both_right, filter-filter, filter-wider, list_any-wider, filter-under, filter-outside, list_all-filter, list_all-append, list_all-one, not_by, refuted, filter-map, filter-append, filter-flat_map, flat_map-agree, flat_map-filter, map-agree_all, flat_map-agree_all, list_all-always, list_all-map, filter-flat_map_by, filter-constant}
 use Rattle.seq_state.proofs.Paths.{from_member, AreWithin, inner_member, heard, same_heard, none_heard, same_inner, inner_filter, are_within, joined_within}
 

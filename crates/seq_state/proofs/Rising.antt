@@ -21,7 +21,7 @@ use Rattle.node_table.specs.declared.number.Node.TheVariants.{Port, Filter}
 use Rattle.patch_graph.specs.Paths.{paths, end_of}
 use Rattle.patch_graph.specs.declared.edge.Edge.{Edge}
 use Rattle.seq_state.specs.declared.input.Command.{Command}
-use Rattle.seq_state.specs.declared.input.Command.TheVariants.{Open, Close, CreatePort, DeletePort, CreateFilter, SetFilter, DeleteFilter, Connect, Disconnect, Bytes, CreateQueue, CreateQueueFrom, DeleteQueue, Start, Stop, Continue, Tempo, Share, Schedule, Play, Receive, PoolStatus}
+use Rattle.seq_state.specs.declared.input.Command.TheVariants.{Open, Close, CreatePort, DeletePort, CreateFilter, SetFilter, DeleteFilter, Bytes, CreateQueue, CreateQueueFrom, DeleteQueue, Start, Stop, Continue, Tempo, Share, Schedule, Play}
 use Rattle.seq_state.specs.declared.input.Input.{Input}
 use Rattle.node_table.specs.declared.number.QueueAddr.{QueueAddr}
 use Rattle.seq_state.specs.declared.log.Delivery.{Delivery}
@@ -32,7 +32,7 @@ use Rattle.seq_state.specs.declared.refusal.Refusal.TheVariants as refusal
 use Rattle.seq_state.specs.Files.{File}
 use Rattle.seq_state.specs.State.{PortInfo, FilterInfo, Queue, Client, Pool, Event, Playback, Pending, State, start, queues_of, put}
 use Rattle.seq_state.specs.Copies.{copy, delivery, carried, copies}
-use Rattle.seq_state.specs.Own.{Own, changed, put_port, port_fed, port_of, put_filter, filter_ruled, filter_of, queue_of, put_queue, queue_changed, clocked, public, new_port, new_filter, held_queue, one_tempo, file_queue, file_at, queue_map}
+use Rattle.seq_state.specs.Own.{Own, changed, put_port, port_fed, port_of, put_filter, filter_ruled, filter_of, queue_of, put_queue, clocked, public, new_port, new_filter, held_queue, one_tempo, file_queue, file_at, queue_map}
 use Rattle.seq_state.specs.Table.{Asked, Condition, first_refusal, not_open, queue_exists, bad_tempo, queue_named, command_row}
 use Rattle.seq_state.specs.Step.{has_room, offer, delivered, Timed, moment_in, event_moment, is_by, playback_after, is_left, due, port_addr, event_copies, Settled, settle, Stepped, drops, pending_of, with_own, send_copies, unless, asked, row_of, refusal_of, effect_of, command_step, step, log_from, IsTimedFrom}
 use Rattle.seq_state.specs.Laws.{IsByMoment, timed_at, timed_of, all_timed, placed, sorted, has_ticks, deliveries_of, NeverFall, RisingLaw, from_now, is_fresh, Ready, ReadyLaw}

@@ -1,5 +1,5 @@
 -- What each command changes, by its name, and what it leaves as it is.
-use Rattle.std.specs.Prelude.{◌≡◌, ℕ, ◌==◌, nat_le, nat_lt, min, Bool, true, false, not, ◌&&◌, ◌||◌, List, [], ◌∷◌, ◌++◌, map, length, Option, Some, None, is_some}
+use Rattle.std.specs.Prelude.{◌≡◌, ℕ, ◌==◌, nat_le, nat_lt, min, Bool, true, false, not, ◌&&◌, ◌||◌, List, [], ◌∷◌, ◌++◌, map, length, Option, Some, None}
 use Rattle.std.specs.List.{filter, list_all, list_any}
 use Rattle.std.specs.FinMap
 use Rattle.node_table.specs.Addresses.{same_node}
@@ -49,8 +49,8 @@ IsLowest cs (Some r) = (holds r cs ≡ true) × (none_below r cs ≡ true)
 pub record LowestLaw : Type 0 where
   pub rising : (a : Asked) (command : Command) → rises (numbers (command_row a command).conditions) ≡ true
   pub lowest :
-    (files : List File) (s : State) (moment actor : ℕ) (command : Command) →
-    IsLowest (row_of files s moment actor command).conditions (refusal_of files s moment actor command)
+      (files : List File) (s : State) (moment actor : ℕ) (command : Command) →
+      IsLowest (row_of files s moment actor command).conditions (refusal_of files s moment actor command)
 
 -- ---- what a command names
 
@@ -133,20 +133,20 @@ client_after files s moment actor command c = FinMap.get (command_step files s m
 -- actor, and the capabilities of a filter that gets another rule.
 pub record OthersLaw : Type 0 where
   pub clients :
-    (files : List File) (s : State) (moment actor : ℕ) (command : Command) (c : ℕ) → (c == actor) ≡ false →
-    client_after files s moment actor command c ≡ FinMap.get s.clients c
+      (files : List File) (s : State) (moment actor : ℕ) (command : Command) (c : ℕ) → (c == actor) ≡ false →
+      client_after files s moment actor command c ≡ FinMap.get s.clients c
   pub ports :
-    (files : List File) (s : State) (moment actor : ℕ) (command : Command) (n : ℕ) → names_port command n ≡ false →
-    port_of (client_after files s moment actor command actor) n ≡ port_of (FinMap.get s.clients actor) n
+      (files : List File) (s : State) (moment actor : ℕ) (command : Command) (n : ℕ) → names_port command n ≡ false →
+      port_of (client_after files s moment actor command actor) n ≡ port_of (FinMap.get s.clients actor) n
   pub filters :
-    (files : List File) (s : State) (moment actor : ℕ) (command : Command) (n : ℕ) → names_filter command n ≡ false →
-    filter_of (client_after files s moment actor command actor) n ≡ filter_of (FinMap.get s.clients actor) n
+      (files : List File) (s : State) (moment actor : ℕ) (command : Command) (n : ℕ) → names_filter command n ≡ false →
+      filter_of (client_after files s moment actor command actor) n ≡ filter_of (FinMap.get s.clients actor) n
   pub queues :
-    (files : List File) (s : State) (moment actor : ℕ) (command : Command) (n : ℕ) → names_queue command n ≡ false →
-    queue_of (client_after files s moment actor command actor) n ≡ queue_of (FinMap.get s.clients actor) n
+      (files : List File) (s : State) (moment actor : ℕ) (command : Command) (n : ℕ) → names_queue command n ≡ false →
+      queue_of (client_after files s moment actor command actor) n ≡ queue_of (FinMap.get s.clients actor) n
   pub caps :
-    (files : List File) (s : State) (moment actor n : ℕ) (rule : RuleArgs) →
-    node_caps (client_after files s moment actor (SetFilter n rule) actor) (Filter n) ≡ node_caps (FinMap.get s.clients actor) (Filter n)
+      (files : List File) (s : State) (moment actor n : ℕ) (rule : RuleArgs) →
+      node_caps (client_after files s moment actor (SetFilter n rule) actor) (Filter n) ≡ node_caps (FinMap.get s.clients actor) (Filter n)
 
 -- a command that is not refused takes from the subscriptions what goes with it, and adds what it makes
 abbrev pub EdgesLaw : Type 0
@@ -158,13 +158,13 @@ EdgesLaw =
 -- most what it schedules or plays.
 pub record PendingLaw : Type 0 where
   pub others :
-    (files : List File) (s : State) (moment actor : ℕ) (command : Command) → refusal_of files s moment actor command ≡ None →
-    adds_playback command ≡ false →
-    (command_step files s moment actor command).state.pending ≡ filter (λ p. not (pending_goes actor command p)) s.pending
+      (files : List File) (s : State) (moment actor : ℕ) (command : Command) → refusal_of files s moment actor command ≡ None →
+      adds_playback command ≡ false →
+      (command_step files s moment actor command).state.pending ≡ filter (λ p. not (pending_goes actor command p)) s.pending
   pub added :
-    (files : List File) (s : State) (moment actor : ℕ) (command : Command) → refusal_of files s moment actor command ≡ None →
-    adds_playback command ≡ true →
-    (more : List Pending) × ((command_step files s moment actor command).state.pending ≡ s.pending ++ more) × (list_all (is_added actor command) more ≡ true)
+      (files : List File) (s : State) (moment actor : ℕ) (command : Command) → refusal_of files s moment actor command ≡ None →
+      adds_playback command ≡ true →
+      (more : List Pending) × ((command_step files s moment actor command).state.pending ≡ s.pending ++ more) × (list_all (is_added actor command) more ≡ true)
 
 -- What was waiting is what a Receive gives, at most so many, and then what waits still; the count of lost messages stays.
 pub record Taken (before after : Pool) (max : ℕ) (given : List Arrival) : Type 0 where

@@ -1,4 +1,4 @@
-use Rattle.std.proofs.Common.{◌≡◌, ℕ, List, [], ◌∷◌, true, refl, sym}
+use Rattle.std.proofs.Common.{ℕ, List, [], ◌∷◌, true, refl, sym}
 use Rattle.std.proofs.lemmas.Bool.{false≢true}
 use Rattle.seq_ports.specs.declared.input.Command.{Command}
 use Rattle.seq_ports.specs.declared.input.Command.TheVariants.{Connect, Disconnect}
