@@ -13,12 +13,12 @@ use Rattle.patch_graph.proofs.Lists.{filter-map, filter-flat_map, filter-false, 
 
 -- ---- the same paths, found by a walk
 
-walk : ℕ → List Edge → Addr → List (List Edge)
+unfoldable pub walk : ℕ → List Edge → Addr → List (List Edge)
 walk zero edges a = []
 walk (suc n) edges a = flat_map (λ e. cond (same a e.source) (cond (is_filter e.target) (map (λ es. e ∷ es) (walk n edges e.target)) ((e ∷ []) ∷ [])) []) edges
 
 -- what a walk makes of one edge
-abbrev hop : ℕ → List Edge → Addr → Edge → List (List Edge)
+abbrev pub hop : ℕ → List Edge → Addr → Edge → List (List Edge)
 hop n edges a e = cond (same a e.source) (cond (is_filter e.target) (map (λ es. e ∷ es) (walk n edges e.target)) ((e ∷ []) ∷ [])) []
 
 no_empty : (n : ℕ) (edges : List Edge) → filter is_last (chains n edges) ≡ []
@@ -46,7 +46,7 @@ chains-walk (suc n) edges a =
     (λ e. ap (λ xs. cond (same a e.source && cond (is_filter e.target) false true) ((e ∷ []) ∷ xs) xs) (filter-map (is_path a) (λ es. e ∷ es) (chains n edges))
     ∙ one_edge (chains n edges) (walk n edges e.target) e (same a e.source) (is_filter e.target) (chains-walk n edges e.target) (no_empty n edges)) edges
 
-paths-walk : (edges : List Edge) (a : Addr) → paths edges a ≡ walk hops edges a
+pub paths-walk : (edges : List Edge) (a : Addr) → paths edges a ≡ walk hops edges a
 unfolding paths
 paths-walk edges a = chains-walk hops edges a
 

@@ -34,7 +34,7 @@ use Rattle.seq_state.specs.Circle.{IsClosedAt, NamesWithin, IsClosedFrom}
 use Rattle.seq_state.specs.Laws.{all_timed, sorted}
 use Rattle.seq_state.proofs.Lists.{flat_map-agree}
 use Rattle.seq_state.proofs.Sorted.{by, sort_law}
-use Rattle.seq_state.proofs.Paths.{walk, hop, paths-walk}
+use Rattle.patch_graph.proofs.Walked.{walk, hop, paths-walk}
 use Rattle.seq_state.proofs.Effects.{get-put, put-same, patch_step}
 
 -- ---- states

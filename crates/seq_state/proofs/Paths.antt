@@ -1,6 +1,6 @@
 -- The paths of a circle.
-use Rattle.std.proofs.Common.{◌≡◌, ℕ, zero, suc, Bool, true, false, not, cond, eqb, ◌&&◌, ◌||◌, ◌⊎◌, inl, inr, List, [], ◌∷◌, ◌++◌, map, Option, Some, None, refl, sym, ap, subst, ◌∙◌, arith}
-use Rattle.std.specs.List.{filter, list_all, flat_map, filter_map}
+use Rattle.std.proofs.Common.{◌≡◌, ℕ, zero, suc, Bool, true, false, not, cond, eqb, ◌&&◌, ◌||◌, ◌⊎◌, inl, inr, List, [], ◌∷◌, map, Option, Some, None, refl, sym, ap, subst, ◌∙◌, arith}
+use Rattle.std.specs.List.{filter, list_all, filter_map}
 use Rattle.std.specs.Ordering.{nat_cmp}
 use Rattle.std.specs.FinMap
 use Rattle.std.specs.FinMap.{FinMap}
@@ -8,7 +8,8 @@ use Rattle.std.proofs.lemmas.Bool.Decides.{nat_tests}
 use Rattle.std.proofs.lemmas.Bool.{false≢true, eqb-true, or_cases}
 use Rattle.node_table.specs.Addresses.{same, is_filter, same_node, is_filter_node}
 use Rattle.patch_graph.specs.Chains.{joined}
-use Rattle.patch_graph.specs.Paths.{is_last, chains, is_path, paths, hops, end_of}
+use Rattle.patch_graph.specs.Paths.{paths, hops, end_of}
+use Rattle.patch_graph.proofs.Walked.{walk, hop, paths-walk}
 use Rattle.node_table.specs.declared.number.Addr.{Addr}
 use Rattle.node_table.specs.declared.number.Node.{Node}
 use Rattle.patch_graph.specs.declared.edge.Edge.{Edge}
@@ -18,50 +19,9 @@ use Rattle.seq_state.specs.State.{State, Client, filters_of}
 use Rattle.seq_state.specs.Copies.{copies, copy, delivery, carried, and_then, passed_by, filter_at}
 use Rattle.seq_state.specs.Circle.{is_to, is_inner, inner_node}
 use Rattle.seq_state.specs.Laws.{into, is_port_of, is_within}
-use Rattle.seq_state.proofs.Lists.{both_left, both_right, filter-false, filter-map, filter-flat_map, flat_map-agree, flat_map-none_under, flat_map-filter, list_all-implied, list_all-weaker, list_all-passed, list_all-map, list_all-flat_map, list_all-filter, list_all-both, and_both, filter-filter_map, filter_map-agree_under, filter-wider}
+use Rattle.seq_state.proofs.Lists.{both_left, both_right, filter-map, filter-flat_map, flat_map-none_under, flat_map-filter, list_all-implied, list_all-weaker, list_all-passed, list_all-map, list_all-flat_map, list_all-filter, list_all-both, and_both, filter-filter_map, filter_map-agree_under, filter-wider}
 
 -- ---- the same paths, found by a walk
-
-unfoldable pub walk : ℕ → List Edge → Addr → List (List Edge)
-walk zero edges a = []
-walk (suc n) edges a = flat_map (λ e. cond (same a e.source) (cond (is_filter e.target) (map (λ es. e ∷ es) (walk n edges e.target)) ((e ∷ []) ∷ [])) []) edges
-
--- what a walk makes of one edge
-abbrev pub hop : ℕ → List Edge → Addr → Edge → List (List Edge)
-hop n edges a e = cond (same a e.source) (cond (is_filter e.target) (map (λ es. e ∷ es) (walk n edges e.target)) ((e ∷ []) ∷ [])) []
-
-flat_map-none_always : {X Y : Type 0} (f : X → List Y) → ((x : X) → f x ≡ []) → (xs : List X) → flat_map f xs ≡ []
-flat_map-none_always f h [] = refl
-flat_map-none_always f h (x ∷ xs) = ap (λ ys. ys ++ flat_map f xs) (h x) ∙ flat_map-none_always f h xs
-
-no_empty : (n : ℕ) (edges : List Edge) → filter is_last (chains n edges) ≡ []
-unfolding chains
-no_empty zero edges = refl
-no_empty (suc n) edges =
-    filter-flat_map is_last (λ e. (e ∷ []) ∷ map (λ es. e ∷ es) (chains n edges)) edges
-    ∙ flat_map-none_always (λ e. filter is_last ((e ∷ []) ∷ map (λ es. e ∷ es) (chains n edges)))
-    (λ e. filter-map is_last (λ es. e ∷ es) (chains n edges) ∙ ap (map (λ es. e ∷ es)) (filter-false (chains n edges))) edges
-
--- one edge in front, by whether it begins at the right place (b) and leads to a filter (c)
-one_edge : (ends more : List (List Edge)) (e : Edge) (b c : Bool) → filter (is_path e.target) ends ≡ more → filter is_last ends ≡ [] →
-    (let longer : List (List Edge) = map (λ es. e ∷ es) (filter (λ es. b && cond c (is_path e.target es) (is_last es)) ends) in
-    cond (b && cond c false true) ((e ∷ []) ∷ longer) longer ≡ cond b (cond c (map (λ es. e ∷ es) more) ((e ∷ []) ∷ [])) [])
-one_edge ends more e false c h k = ap (map (λ es. e ∷ es)) (filter-false ends)
-one_edge ends more e true false h k = ap (λ xs. (e ∷ []) ∷ map (λ es. e ∷ es) xs) k
-one_edge ends more e true true h k = ap (map (λ es. e ∷ es)) h
-
-chains-walk : (n : ℕ) (edges : List Edge) (a : Addr) → filter (is_path a) (chains n edges) ≡ walk n edges a
-unfolding chains walk
-chains-walk zero edges a = refl
-chains-walk (suc n) edges a =
-    filter-flat_map (is_path a) (λ e. (e ∷ []) ∷ map (λ es. e ∷ es) (chains n edges)) edges
-    ∙ flat_map-agree (λ e. filter (is_path a) ((e ∷ []) ∷ map (λ es. e ∷ es) (chains n edges))) (hop n edges a)
-    (λ e. ap (λ xs. cond (same a e.source && cond (is_filter e.target) false true) ((e ∷ []) ∷ xs) xs) (filter-map (is_path a) (λ es. e ∷ es) (chains n edges))
-    ∙ one_edge (chains n edges) (walk n edges e.target) e (same a e.source) (is_filter e.target) (chains-walk n edges e.target) (no_empty n edges)) edges
-
-pub paths-walk : (edges : List Edge) (a : Addr) → paths edges a ≡ walk hops edges a
-unfolding paths
-paths-walk edges a = chains-walk hops edges a
 
 walk-all : (r : Edge → Bool) (n : ℕ) (edges : List Edge) (a : Addr) → list_all r edges ≡ true → list_all (list_all r) (walk n edges a) ≡ true
 unfolding walk
