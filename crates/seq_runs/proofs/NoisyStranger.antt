@@ -1,5 +1,5 @@
 -- The run `noisy_stranger`, input by input, and two circles of it.
-use Rattle.std.proofs.Common.{◌≡◌, pos, true, ◌||◌, ◌==◌, List, [], ◌∷◌, drop, Some, None, refl, sym, ap, ◌∙◌}
+use Rattle.std.proofs.Common.{◌≡◌, ℕ, pos, true, false, ◌||◌, ◌==◌, List, [], ◌∷◌, drop, Some, None, refl, sym, ap, ◌∙◌, arith}
 use Rattle.std.specs.Prelude.{codes}
 use Rattle.std.specs.FinMap
 use Rattle.std.proofs.lemmas.Bool.{false≢true}
@@ -23,39 +23,8 @@ use Rattle.seq_state.specs.Step.{settle, sent, send_copies, port_addr, step, log
 use Rattle.seq_state.specs.Circle.{IsClosed, view}
 use Rattle.seq_runs.specs.Rows.{at, caps, queue_at, note, came, waits, NoisyStranger}
 use Rattle.seq_state.proofs.Effects.{step-connects}
+use Rattle.seq_runs.proofs.Beginnings.{i0, i1, a1, s1, s2, step0, step1}
 use Rattle.seq_runs.proofs.Worked.{to, settled_to, moved, with_own-moved, own-step, refused-step, patch-step, closed-step, closed-rest, closed-here, log-step, log-end, settle-sorted, settle-still, ways, paths-ways, finds}
-
-abbrev i0 : Input
-i0 = at 0 128 (Open (codes "a") 8 8)
-
-abbrev a0 : Client
-a0 = new_client (codes "a") 8 8
-
-abbrev o0 : Own
-o0 = record (kept (Some a0)) { pool = λ p. Some (new_pool 8) }
-
-abbrev s1 : State
-s1 = with_own start 128 None o0
-
-step0 : step [] start i0 ≡ to s1 [] Done
-unfolding command_row
-step0 = own-step [] start start i0 [] (settle-still start 0 refl) o0 s1 s1 [] (simp finds) refl refl
-
-abbrev i1 : Input
-i1 = at 0 128 (CreatePort 0 (codes "out") (caps 33))
-
-abbrev a1 : Client
-a1 = record a0 { ports = FinMap.insert a0.ports 0 (new_port (codes "out") (caps 33)) }
-
-abbrev o1 : Own
-o1 = kept (Some a1)
-
-abbrev s2 : State
-s2 = moved s1 128 None o1
-
-step1 : step [] s1 i1 ≡ to s2 [] Done
-unfolding command_row
-step1 = own-step [] s1 s1 i1 [] (settle-still s1 0 refl) o1 s2 s2 [] (simp finds) (with_own-moved s1 128 None o1 (λ p. refl)) refl
 
 abbrev i2 : Input
 i2 = at 0 129 (Open (codes "b") 8 8)
@@ -312,8 +281,8 @@ log =
 
 pub run : log_from [] start 0 inputs 10 ≡ log
 run =
-    log-step [] start s1 i0 (drop 1 inputs) 0 10 [] Done (drop 1 log) step0
-    (log-step [] s1 s2 i1 (drop 2 inputs) 1 10 [] Done (drop 2 log) step1
+    log-step [] start s1 i0 (drop 1 inputs) 0 10 [] Done (drop 1 log) (step0 [])
+    (log-step [] s1 s2 i1 (drop 2 inputs) 1 10 [] Done (drop 2 log) (step1 [])
     (log-step [] s2 s3 i2 (drop 3 inputs) 2 10 [] Done (drop 3 log) step2
     (log-step [] s3 s4 i3 (drop 4 inputs) 3 10 [] Done (drop 4 log) step3
     (log-step [] s4 s5 i4 (drop 5 inputs) 4 10 [] Done (drop 5 log) step4
@@ -335,32 +304,32 @@ run =
 pub pair_closed : IsClosed [] 129 (λ c. (c == 128) || (c == 129)) inputs
 pair_closed = (
   refl,
-  (closed-step [] 129 (λ c. (c == 128) || (c == 129)) start s1 i0 (drop 1 inputs) [] Done step0 (tt) (tt)
-      (closed-step [] 129 (λ c. (c == 128) || (c == 129)) s1 s2 i1 (drop 2 inputs) [] Done step1 (tt) (tt)
-      (closed-step [] 129 (λ c. (c == 128) || (c == 129)) s2 s3 i2 (drop 3 inputs) [] Done step2 (tt) (tt)
-      (closed-step [] 129 (λ c. (c == 128) || (c == 129)) s3 s4 i3 (drop 4 inputs) [] Done step3 (tt) (tt)
-      (closed-step [] 129 (λ c. (c == 128) || (c == 129)) s4 s5 i4 (drop 5 inputs) [] Done step4 (λ i. (λ m. refl, λ n. absurd (false≢true (sym n)))) (tt)
-      (closed-step [] 129 (λ c. (c == 128) || (c == 129)) s5 s6 i5 (drop 6 inputs) [] Done step5 (tt) (tt)
-      (closed-step [] 129 (λ c. (c == 128) || (c == 129)) s6 s7 i6 (drop 7 inputs) [] Done step6 (tt) (tt)
-      (closed-step [] 129 (λ c. (c == 128) || (c == 129)) s7 s8 i7 (drop 8 inputs) [] Done step7 (λ i. absurd (false≢true i)) (tt)
-      (closed-step [] 129 (λ c. (c == 128) || (c == 129)) s8 s8 i8 (drop 9 inputs) [] (Refused 11) step8 (λ i. absurd (false≢true i)) (tt)
-      (closed-step [] 129 (λ c. (c == 128) || (c == 129)) s8 s8 i9 (drop 10 inputs) [] (Refused 10) step9 (λ i. (λ m. absurd (false≢true m), λ n. tt)) (tt)
-      (closed-step [] 129 (λ c. (c == 128) || (c == 129)) s8 s8 i10 (drop 11 inputs) [] (Refused 10) step10 (λ i. (λ m. absurd (false≢true m), λ n. tt)) (tt)
-      (closed-step [] 129 (λ c. (c == 128) || (c == 129)) s8 s12 i11 (drop 12 inputs) [] Done step11 (tt) (tt)
-      (closed-step [] 129 (λ c. (c == 128) || (c == 129)) s12 s13 i12 (drop 13 inputs) [] Done step12 (tt) (tt)
-      (closed-step [] 129 (λ c. (c == 128) || (c == 129)) s13 s14 i13 (drop 14 inputs) [] Done step13 (tt) (λ m. absurd (false≢true m))
-      (closed-step [] 129 (λ c. (c == 128) || (c == 129)) s14 s14 i14 (drop 15 inputs) [] (Refused 24) step14 (tt) (λ m. absurd (false≢true m))
-      (closed-step [] 129 (λ c. (c == 128) || (c == 129)) s14 s16 i15 (drop 16 inputs) (came 5 129 0 (note 0x3C) ∷ came 5 131 0 (note 0x3C) ∷ []) Done step15 (tt) (tt)
-      (closed-step [] 129 (λ c. (c == 128) || (c == 129)) s16 s17 i16 (drop 17 inputs) (came 6 129 0 (note 0x3D) ∷ []) Done step16 (tt) (tt)
-      (closed-step [] 129 (λ c. (c == 128) || (c == 129)) s17 s18 i17 (drop 18 inputs) [] Done step17 (tt) (tt)
-      tt)))))))))))))))))),
+  (closed-step [] 129 (λ c. (c == 128) || (c == 129)) start s1 i0 (drop 1 inputs) [] Done (step0 []) (tt) (tt)
+  (closed-step [] 129 (λ c. (c == 128) || (c == 129)) s1 s2 i1 (drop 2 inputs) [] Done (step1 []) (tt) (tt)
+  (closed-step [] 129 (λ c. (c == 128) || (c == 129)) s2 s3 i2 (drop 3 inputs) [] Done step2 (tt) (tt)
+  (closed-step [] 129 (λ c. (c == 128) || (c == 129)) s3 s4 i3 (drop 4 inputs) [] Done step3 (tt) (tt)
+  (closed-step [] 129 (λ c. (c == 128) || (c == 129)) s4 s5 i4 (drop 5 inputs) [] Done step4 (λ i. (λ m. refl, λ n. absurd (false≢true (sym n)))) (tt)
+  (closed-step [] 129 (λ c. (c == 128) || (c == 129)) s5 s6 i5 (drop 6 inputs) [] Done step5 (tt) (tt)
+  (closed-step [] 129 (λ c. (c == 128) || (c == 129)) s6 s7 i6 (drop 7 inputs) [] Done step6 (tt) (tt)
+  (closed-step [] 129 (λ c. (c == 128) || (c == 129)) s7 s8 i7 (drop 8 inputs) [] Done step7 (λ i. absurd (false≢true i)) (tt)
+  (closed-step [] 129 (λ c. (c == 128) || (c == 129)) s8 s8 i8 (drop 9 inputs) [] (Refused 11) step8 (λ i. absurd (false≢true i)) (tt)
+  (closed-step [] 129 (λ c. (c == 128) || (c == 129)) s8 s8 i9 (drop 10 inputs) [] (Refused 10) step9 (λ i. (λ m. absurd (false≢true m), λ n. tt)) (tt)
+  (closed-step [] 129 (λ c. (c == 128) || (c == 129)) s8 s8 i10 (drop 11 inputs) [] (Refused 10) step10 (λ i. (λ m. absurd (false≢true m), λ n. tt)) (tt)
+  (closed-step [] 129 (λ c. (c == 128) || (c == 129)) s8 s12 i11 (drop 12 inputs) [] Done step11 (tt) (tt)
+  (closed-step [] 129 (λ c. (c == 128) || (c == 129)) s12 s13 i12 (drop 13 inputs) [] Done step12 (tt) (tt)
+  (closed-step [] 129 (λ c. (c == 128) || (c == 129)) s13 s14 i13 (drop 14 inputs) [] Done step13 (tt) (λ m. absurd (false≢true m))
+  (closed-step [] 129 (λ c. (c == 128) || (c == 129)) s14 s14 i14 (drop 15 inputs) [] (Refused 24) step14 (tt) (λ m. absurd (false≢true m))
+  (closed-step [] 129 (λ c. (c == 128) || (c == 129)) s14 s16 i15 (drop 16 inputs) (came 5 129 0 (note 0x3C) ∷ came 5 131 0 (note 0x3C) ∷ []) Done step15 (tt) (tt)
+  (closed-step [] 129 (λ c. (c == 128) || (c == 129)) s16 s17 i16 (drop 17 inputs) (came 6 129 0 (note 0x3D) ∷ []) Done step16 (tt) (tt)
+  (closed-step [] 129 (λ c. (c == 128) || (c == 129)) s17 s18 i17 (drop 18 inputs) [] Done step17 (tt) (tt)
+  tt)))))))))))))))))),
 )
 
 pub other_pair_open : IsClosed [] 131 (λ c. (c == 128) || (c == 131)) inputs → ⊥
 other_pair_open h =
     let h0 = h.1 in
-    let h1 = closed-rest [] 131 (λ c. (c == 128) || (c == 131)) start s1 i0 (drop 1 inputs) [] Done step0 h0 in
-    let h2 = closed-rest [] 131 (λ c. (c == 128) || (c == 131)) s1 s2 i1 (drop 2 inputs) [] Done step1 h1 in
+    let h1 = closed-rest [] 131 (λ c. (c == 128) || (c == 131)) start s1 i0 (drop 1 inputs) [] Done (step0 []) h0 in
+    let h2 = closed-rest [] 131 (λ c. (c == 128) || (c == 131)) s1 s2 i1 (drop 2 inputs) [] Done (step1 []) h1 in
     let h3 = closed-rest [] 131 (λ c. (c == 128) || (c == 131)) s2 s3 i2 (drop 3 inputs) [] Done step2 h2 in
     let h4 = closed-rest [] 131 (λ c. (c == 128) || (c == 131)) s3 s4 i3 (drop 4 inputs) [] Done step3 h3 in
     let h5 = closed-rest [] 131 (λ c. (c == 128) || (c == 131)) s4 s5 i4 (drop 5 inputs) [] Done step4 h4 in

@@ -1,56 +1,25 @@
 -- The run `send_inside_message`, input by input.
-use Rattle.std.proofs.Common.{◌≡◌, List, [], ◌∷◌, drop, Some, None, refl, ap, ◌∙◌}
+use Rattle.std.proofs.Common.{◌≡◌, ℕ, false, List, [], ◌∷◌, drop, Some, None, refl, ap, ◌∙◌, arith}
 use Rattle.std.specs.Prelude.{codes}
 use Rattle.std.specs.FinMap
 use Rattle.midi_wire.specs.Kinds.{kind_of_status}
 use Rattle.midi_wire.specs.Messages.{begins}
 use Rattle.midi_wire.specs.Readings.{reading, rest}
 use Rattle.patch_graph.specs.Edges.{most_sources}
-use Rattle.seq_state.specs.declared.input.Command.TheVariants.{Open, CreatePort, Connect, Bytes, Send}
+use Rattle.seq_state.specs.declared.input.Command.TheVariants.{Open, Close, CreatePort, Connect, Bytes, Send, PoolStatus}
 use Rattle.seq_state.specs.declared.input.Input.{Input}
 use Rattle.seq_state.specs.declared.log.LogEntry.{LogEntry}
 use Rattle.seq_state.specs.declared.log.LogEntry.TheVariants.{Delivered, Replied}
-use Rattle.seq_state.specs.declared.log.Reply.TheVariants.{Done, Messages}
+use Rattle.seq_state.specs.declared.log.Reply.TheVariants.{Done, Messages, Pools}
 use Rattle.seq_state.specs.State.{State, Client, start}
 use Rattle.seq_state.specs.Own.{Own, kept, new_client, new_pool, new_port}
 use Rattle.seq_state.specs.Table.{command_row, connected}
 use Rattle.seq_state.specs.Step.{sent, send_copies, port_addr, step, log_from, with_own, plain}
 use Rattle.seq_state.specs.Heard.{port_of, port_bytes}
 use Rattle.seq_runs.specs.Rows.{at, caps, note, came, waits, send_inside_message, SendInside}
-use Rattle.seq_state.proofs.Effects.{step-connects}
-use Rattle.seq_runs.proofs.Worked.{to, settled_to, moved, with_own-moved, own-step, patch-step, log-step, log-end, settle-still, ways, paths-ways, finds}
-
-abbrev i0 : Input
-i0 = at 0 128 (Open (codes "a") 8 8)
-
-abbrev a0 : Client
-a0 = new_client (codes "a") 8 8
-
-abbrev o0 : Own
-o0 = record (kept (Some a0)) { pool = λ p. Some (new_pool 8) }
-
-abbrev s1 : State
-s1 = with_own start 128 None o0
-
-step0 : step [] start i0 ≡ to s1 [] Done
-unfolding command_row
-step0 = own-step [] start start i0 [] (settle-still start 0 refl) o0 s1 s1 [] (simp finds) refl refl
-
-abbrev i1 : Input
-i1 = at 0 128 (CreatePort 0 (codes "out") (caps 33))
-
-abbrev a1 : Client
-a1 = record a0 { ports = FinMap.insert a0.ports 0 (new_port (codes "out") (caps 33)) }
-
-abbrev o1 : Own
-o1 = kept (Some a1)
-
-abbrev s2 : State
-s2 = moved s1 128 None o1
-
-step1 : step [] s1 i1 ≡ to s2 [] Done
-unfolding command_row
-step1 = own-step [] s1 s1 i1 [] (settle-still s1 0 refl) o1 s2 s2 [] (simp finds) (with_own-moved s1 128 None o1 (λ p. refl)) refl
+use Rattle.seq_state.proofs.Effects.{step-connects, step-asks}
+use Rattle.seq_runs.proofs.Beginnings.{i0, i1, a1, s1, s2, step0, step1}
+use Rattle.seq_runs.proofs.Worked.{to, settled_to, moved, with_own-moved, command-step, own-step, patch-step, log-step, log-end, settle-still, ways, paths-ways, finds}
 
 abbrev i2 : Input
 i2 = at 0 129 (Open (codes "b") 8 8)
@@ -174,8 +143,8 @@ log =
 
 pub run : log_from [] start 0 inputs 10 ≡ log
 run =
-    log-step [] start s1 i0 (drop 1 inputs) 0 10 [] Done (drop 1 log) step0
-    (log-step [] s1 s2 i1 (drop 2 inputs) 1 10 [] Done (drop 2 log) step1
+    log-step [] start s1 i0 (drop 1 inputs) 0 10 [] Done (drop 1 log) (step0 [])
+    (log-step [] s1 s2 i1 (drop 2 inputs) 1 10 [] Done (drop 2 log) (step1 [])
     (log-step [] s2 s3 i2 (drop 3 inputs) 2 10 [] Done (drop 3 log) step2
     (log-step [] s3 s4 i3 (drop 4 inputs) 3 10 [] Done (drop 4 log) step3
     (log-step [] s4 s5 i4 (drop 5 inputs) 4 10 [] Done (drop 5 log) step4
