@@ -1,0 +1,115 @@
+//! What waits to be read.
+
+ghost use Rattle.std.specs.Prelude.{◌≡◌, ◌↔◌, ◌≤◌, ◌<◌, ◌^◌, length, IfOk, OnOk, OnErr, IsErrOf, false};
+ghost use Rattle.cell_pools.specs.Pools.{most_waiting, is_size, empty_pool, has_room, after_offer, taken, after_take};
+
+use crate::fault::PoolFault;
+use circular_buffer::HeapCircularBuffer;
+use memory::OutOfMemory;
+use std::alloc::Global;
+use std::marker::Model;
+
+/// How many items a pool may hold at most.
+pub const MOST_WAITING: u32 = 2000;
+
+/// What waits to be read, the oldest first. What finds no room is dropped and counted.
+///
+/// `new` takes all the memory that the items need, so a full pool costs what an empty one does.
+#[derive(Drop)]
+pub struct InPool<T> {
+    alloc: Global,
+    items: HeapCircularBuffer<T>,
+    lost: u64,
+}
+
+impl<T> Model for InPool<T> {
+    ghost use Rattle.std.specs.Prelude.{length};
+    ghost use Rattle.cell_pools.specs.Pools.{Pool, coded_pool, IsBounded};
+
+    ghost Value = { Pool T };
+
+    ghost coded = { coded_pool T.code };
+
+    ghost view = { λ p.
+        record { size = p.items.capacity; waiting = p.items.items; lost = p.lost } };
+
+    ghost invariant = { λ p. IsBounded p.items.capacity (length p.items.items) };
+}
+
+impl<T> InPool<T> {
+    /// A pool in which nothing waits, for 1 to 2,000 items.
+    pub fn new(alloc: Global, size: u32) -> Result<InPool<T>, PoolFault>
+        ensures ok { IfOk result (λ p. p ≡ empty_pool size) }
+        ensures bad_size { IsErrOf result PoolFault.BadSize ↔ (is_size size ≡ false) }
+    {
+        if size < 1 || size > MOST_WAITING {
+            return Err(PoolFault::BadSize);
+        }
+        let items = HeapCircularBuffer::with_capacity(alloc, size as usize)?;
+        Ok(InPool {
+            alloc,
+            items,
+            lost: 0,
+        })
+    }
+
+    /// Adds an item where there is room, and else drops and counts it. It takes no memory.
+    pub fn offer(&mut self, item: T) -> bool
+    where
+        T: Drop,
+        ensures kept { result ≡ has_room self.old }
+        ensures after { self.new ≡ after_offer self.old item }
+    {
+        match self.items.try_push_back(item) {
+            Ok(()) => true,
+            Err(_) => {
+                self.lost = self.lost.saturating_add(1);
+                false
+            }
+        }
+    }
+
+    /// Takes the oldest items, `max` of them or all where there are fewer.
+    ///
+    /// Memory is for the answer alone. Where it is refused, all stays as it was.
+    pub fn take(&mut self, max: u32) -> Result<Vec<T>, OutOfMemory>
+    where
+        T: Drop,
+        ensures ok { IfOk result (λ items. items.items ≡ taken max self.old) }
+        ensures left { OnOk result (self.new ≡ after_take max self.old) }
+        ensures err { OnErr result (self.new ≡ self.old) }
+    {
+        let count = self.items.len().min(max as usize);
+        let mut taken = Vec::with_capacity(self.alloc, count)?;
+        for _turn in 0..count {
+            let item = self.items.pop_front().unwrap();
+            taken.push(item).ok().unwrap();
+        }
+        Ok(taken)
+    }
+
+    /// How many items wait.
+    pub fn waiting(&self) -> u32
+        ensures value { result ≡ length self.now.waiting }
+        ensures within { result ≤ self.now.size }
+    {
+        self.items.len() as u32
+    }
+
+    /// How many items found no room. The count stays at 2^64 - 1.
+    pub fn lost(&self) -> u64
+        ensures value { result ≡ self.now.lost }
+        ensures bounded { self.now.lost < 2 ^ 64 }
+    {
+        self.lost
+    }
+
+    /// How many items may wait.
+    pub fn size(&self) -> u32
+        ensures value { result ≡ self.now.size }
+        ensures least { 1 ≤ self.now.size }
+        ensures most { self.now.size ≤ most_waiting }
+    {
+        self.items.capacity() as u32
+    }
+}
