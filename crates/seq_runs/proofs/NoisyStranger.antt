@@ -17,7 +17,8 @@ use Rattle.seq_state.specs.declared.log.LogEntry.TheVariants.{Delivered, Replied
 use Rattle.seq_state.specs.declared.log.Reply.TheVariants.{Done, Refused}
 use Rattle.seq_state.specs.declared.refusal.Refusal.TheVariants as refusal
 use Rattle.seq_state.specs.State.{State, Client, start}
-use Rattle.seq_state.specs.Own.{Own, kept, new_client, new_pool, new_port, new_filter, held_queue, one_tempo, playback}
+use Rattle.cell_pools.specs.Pools.{empty_pool}
+use Rattle.seq_state.specs.Own.{Own, kept, new_client, new_port, new_filter, held_queue, one_tempo, playback}
 use Rattle.seq_state.specs.Table.{command_row, connected}
 use Rattle.seq_state.specs.Step.{settle, sent, send_copies, port_addr, step, log_from, with_own}
 use Rattle.seq_state.specs.Circle.{IsClosed, view}
@@ -33,7 +34,7 @@ abbrev b0 : Client
 b0 = new_client (codes "b") 8 8
 
 abbrev o2 : Own
-o2 = record (kept (Some b0)) { pool = λ p. Some (new_pool 8) }
+o2 = record (kept (Some b0)) { pool = λ p. Some (empty_pool 8) }
 
 abbrev s3 : State
 s3 = with_own s2 129 None o2
@@ -75,7 +76,7 @@ abbrev x0 : Client
 x0 = new_client (codes "x") 1 1
 
 abbrev o5 : Own
-o5 = record (kept (Some x0)) { pool = λ p. Some (new_pool 1) }
+o5 = record (kept (Some x0)) { pool = λ p. Some (empty_pool 1) }
 
 abbrev s6 : State
 s6 = with_own s5 131 None o5
@@ -197,7 +198,7 @@ abbrev v15 : State
 v15 = moved s14 128 None o15
 
 abbrev s16 : State
-s16 = record v15 { pools = FinMap.insert (FinMap.insert s14.pools 129 (record (new_pool 8) { waiting = waits 5 0 (note 0x3C) ∷ [] })) 131 (record (new_pool 1) { waiting = waits 5 0 (note 0x3C) ∷ [] }) }
+s16 = record v15 { pools = FinMap.insert (FinMap.insert s14.pools 129 (record (empty_pool 8) { waiting = waits 5 0 (note 0x3C) ∷ [] })) 131 (record (empty_pool 1) { waiting = waits 5 0 (note 0x3C) ∷ [] }) }
 
 sends15 : sent v15 (send_copies s14 5 128 o15.sends) ≡ settled_to s16 (came 5 129 0 (note 0x3C) ∷ came 5 131 0 (note 0x3C) ∷ [])
 unfolding ways begins kind_of_status
@@ -221,7 +222,7 @@ abbrev v16 : State
 v16 = moved s16 128 None o16
 
 abbrev s17 : State
-s17 = record v16 { pools = FinMap.insert (FinMap.insert s16.pools 129 (record (new_pool 8) { waiting = waits 5 0 (note 0x3C) ∷ waits 6 0 (note 0x3D) ∷ [] })) 131 (record (new_pool 1) { waiting = waits 5 0 (note 0x3C) ∷ []; lost = 1 }) }
+s17 = record v16 { pools = FinMap.insert (FinMap.insert s16.pools 129 (record (empty_pool 8) { waiting = waits 5 0 (note 0x3C) ∷ waits 6 0 (note 0x3D) ∷ [] })) 131 (record (empty_pool 1) { waiting = waits 5 0 (note 0x3C) ∷ []; lost = 1 }) }
 
 sends16 : sent v16 (send_copies s16 6 128 o16.sends) ≡ settled_to s17 (came 6 129 0 (note 0x3D) ∷ [])
 unfolding ways begins kind_of_status

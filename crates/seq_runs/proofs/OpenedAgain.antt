@@ -11,7 +11,8 @@ use Rattle.seq_state.specs.declared.log.LogEntry.{LogEntry}
 use Rattle.seq_state.specs.declared.log.LogEntry.TheVariants.{Delivered, Replied}
 use Rattle.seq_state.specs.declared.log.Reply.TheVariants.{Done, Messages, Pools}
 use Rattle.seq_state.specs.State.{State, Client, start}
-use Rattle.seq_state.specs.Own.{Own, kept, new_client, new_pool, new_port}
+use Rattle.cell_pools.specs.Pools.{empty_pool}
+use Rattle.seq_state.specs.Own.{Own, kept, new_client, new_port}
 use Rattle.seq_state.specs.Table.{command_row, connected}
 use Rattle.seq_state.specs.Step.{sent, send_copies, port_addr, step, log_from, with_own}
 use Rattle.seq_state.specs.Heard.{port_of, port_bytes}
@@ -27,7 +28,7 @@ abbrev b0 : Client
 b0 = new_client (codes "b") 1 8
 
 abbrev o2 : Own
-o2 = record (kept (Some b0)) { pool = λ p. Some (new_pool 1) }
+o2 = record (kept (Some b0)) { pool = λ p. Some (empty_pool 1) }
 
 abbrev s3 : State
 s3 = with_own s2 129 None o2
@@ -72,7 +73,7 @@ abbrev v5 : State
 v5 = moved s5 128 None o5
 
 abbrev s6 : State
-s6 = record v5 { pools = FinMap.insert s5.pools 129 (record (new_pool 1) { waiting = waits 1 0 (note 0x3C) ∷ []; lost = 0 }) }
+s6 = record v5 { pools = FinMap.insert s5.pools 129 (record (empty_pool 1) { waiting = waits 1 0 (note 0x3C) ∷ []; lost = 0 }) }
 
 sends5 : sent v5 (send_copies s5 1 128 o5.sends) ≡ settled_to s6 (came 1 129 0 (note 0x3C) ∷ [])
 unfolding ways begins kind_of_status
@@ -92,7 +93,7 @@ abbrev v6 : State
 v6 = moved s6 128 None o6
 
 abbrev s7 : State
-s7 = record v6 { pools = FinMap.insert s6.pools 129 (record (new_pool 1) { waiting = waits 1 0 (note 0x3C) ∷ []; lost = 1 }) }
+s7 = record v6 { pools = FinMap.insert s6.pools 129 (record (empty_pool 1) { waiting = waits 1 0 (note 0x3C) ∷ []; lost = 1 }) }
 
 sends6 : sent v6 (send_copies s6 2 128 o6.sends) ≡ settled_to s7 []
 unfolding ways begins kind_of_status
@@ -129,7 +130,7 @@ abbrev b2 : Client
 b2 = new_client (codes "b") 1 8
 
 abbrev o9 : Own
-o9 = record (kept (Some b2)) { pool = λ p. Some (new_pool 1) }
+o9 = record (kept (Some b2)) { pool = λ p. Some (empty_pool 1) }
 
 abbrev s10 : State
 s10 = with_own s9 129 None o9

@@ -12,7 +12,8 @@ use Rattle.seq_state.specs.declared.log.LogEntry.{LogEntry}
 use Rattle.seq_state.specs.declared.log.LogEntry.TheVariants.{Delivered, Replied}
 use Rattle.seq_state.specs.declared.log.Reply.TheVariants.{Done, Messages, Pools}
 use Rattle.seq_state.specs.State.{State, Client, start}
-use Rattle.seq_state.specs.Own.{Own, kept, new_client, new_pool, new_port}
+use Rattle.cell_pools.specs.Pools.{empty_pool}
+use Rattle.seq_state.specs.Own.{Own, kept, new_client, new_port}
 use Rattle.seq_state.specs.Table.{command_row, connected}
 use Rattle.seq_state.specs.Step.{sent, send_copies, port_addr, step, log_from, with_own, plain}
 use Rattle.seq_state.specs.Heard.{port_of, port_bytes}
@@ -28,7 +29,7 @@ abbrev b0 : Client
 b0 = new_client (codes "b") 8 8
 
 abbrev o2 : Own
-o2 = record (kept (Some b0)) { pool = λ p. Some (new_pool 8) }
+o2 = record (kept (Some b0)) { pool = λ p. Some (empty_pool 8) }
 
 abbrev s3 : State
 s3 = with_own s2 129 None o2
@@ -92,7 +93,7 @@ abbrev v6 : State
 v6 = moved v5 128 None o6
 
 abbrev s7 : State
-s7 = record v6 { pools = FinMap.insert v5.pools 129 (record (new_pool 8) { waiting = waits 5 0 (0xB0 ∷ 0x07 ∷ 0x7F ∷ []) ∷ []; lost = 0 }) }
+s7 = record v6 { pools = FinMap.insert v5.pools 129 (record (empty_pool 8) { waiting = waits 5 0 (0xB0 ∷ 0x07 ∷ 0x7F ∷ []) ∷ []; lost = 0 }) }
 
 sends6 : sent v6 (send_copies v5 5 128 o6.sends) ≡ settled_to s7 (came 5 129 0 (0xB0 ∷ 0x07 ∷ 0x7F ∷ []) ∷ [])
 unfolding ways begins kind_of_status
@@ -115,7 +116,7 @@ abbrev v7 : State
 v7 = moved s7 128 None o7
 
 abbrev s8 : State
-s8 = record v7 { pools = FinMap.insert s7.pools 129 (record (new_pool 8) { waiting = waits 5 0 (0xB0 ∷ 0x07 ∷ 0x7F ∷ []) ∷ waits 5 0 (note 0x3C) ∷ []; lost = 0 }) }
+s8 = record v7 { pools = FinMap.insert s7.pools 129 (record (empty_pool 8) { waiting = waits 5 0 (0xB0 ∷ 0x07 ∷ 0x7F ∷ []) ∷ waits 5 0 (note 0x3C) ∷ []; lost = 0 }) }
 
 sends7 : sent v7 (send_copies s7 5 128 o7.sends) ≡ settled_to s8 (came 5 129 0 (note 0x3C) ∷ [])
 unfolding ways begins kind_of_status

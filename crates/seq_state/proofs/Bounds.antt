@@ -24,9 +24,11 @@ use Rattle.seq_state.specs.declared.refusal.Refusal.{Refusal}
 use Rattle.seq_state.specs.declared.refusal.Refusal.TheVariants as refusal
 use Rattle.seq_state.specs.Files.{File}
 use Rattle.seq_state.specs.State.{PortInfo, FilterInfo, Queue, Client, Pool, Playback, Pending, State, start, put}
-use Rattle.seq_state.specs.Own.{Own, changed, out_size, put_port, put_filter, put_queue, port_fed, port_of, filter_ruled, filter_of, queue_of, queue_map, clocked, public, new_port, new_filter, new_pool, held_queue, one_tempo, file_queue, file_at, without_oldest}
+use Rattle.cell_pools.specs.Pools.{empty_pool}
+use Rattle.seq_state.specs.Own.{Own, changed, out_size, put_port, put_filter, put_queue, port_fed, port_of, filter_ruled, filter_of, queue_of, queue_map, clocked, public, new_port, new_filter, held_queue, one_tempo, file_queue, file_at, without_oldest}
 use Rattle.seq_state.specs.Table.{Asked, Condition, first_refusal, command_row, queue_named, connected, already_open, bad_name, bad_sizes, not_open, no_port, not_shared, none_named, bad_time, no_file, division_differs, no_sender, no_dest, not_permitted, already_connected}
-use Rattle.seq_state.specs.Step.{most_lost, offer, offered, playback_after, is_left, due, event_copies, settle, without_due, Stepped, used, loses, drops, pending_of, with_own, send_copies, unless, asked, row_of, refusal_of, effect_of, command_step}
+use Rattle.cell_pools.specs.Pools.{most_lost}
+use Rattle.seq_state.specs.Step.{offer, offered, playback_after, is_left, due, event_copies, settle, without_due, Stepped, used, loses, drops, pending_of, with_own, send_copies, unless, asked, row_of, refusal_of, effect_of, command_step}
 use Rattle.seq_state.specs.Laws.{pool_size, in_size, Bounded, BoundsLaw}
 use Rattle.seq_state.proofs.Lists.{filter-append, filter-map, filter-filter, filter-apart}
 use Rattle.seq_state.proofs.Effects.{get-put, none-lost}
@@ -190,7 +192,7 @@ fits-same n client own f out inn c a p = record {
 
 fits : (a : Asked) (command : Command) → first_refusal (command_row a command).conditions ≡ None → Fits a.used a.client (command_row a command).own
 unfolding command_row
-fits a (Open name in_size size) r = record { room = inl (go a.client r); pool = λ o h. fits-some (new_pool in_size) (omega arith); size = λ o h. refl }
+fits a (Open name in_size size) r = record { room = inl (go a.client r); pool = λ o h. fits-some (empty_pool in_size) (omega arith); size = λ o h. refl }
   where
     go : (c : Option Client) → first_refusal (already_open (record a { client = c }) ∷ bad_name name ∷ bad_sizes in_size size ∷ []) ≡ None → a.used ≤ out_size c → zero + a.used ≤ size
     go None e h = omega arith

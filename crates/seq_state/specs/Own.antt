@@ -7,6 +7,7 @@ use Rattle.tempo_clock.specs.Ticks.{Tempos, is_smpte, tick_at}
 use Rattle.tempo_clock.specs.declared.due.Due.{Due}
 use Rattle.tempo_clock.specs.declared.due.Due.TheVariants.{Tick, Nanos}
 use Rattle.route_filter.specs.declared.rule_args.RuleArgs.{RuleArgs}
+use Rattle.cell_pools.specs.Pools.{taken, after_take}
 use Rattle.node_table.specs.declared.caps.Caps.{Caps}
 use Rattle.node_table.specs.declared.number.Node.{Node}
 use Rattle.node_table.specs.declared.number.Node.TheVariants.{Port, Filter}
@@ -135,25 +136,14 @@ new_client name in_size out_size =
 
 -- ---- the input pool
 
--- how many messages a pool has room for at most, and how many are taken at once
-abbrev pub most_waiting : ℕ
-most_waiting = 2000
-
--- the size of a pool
-abbrev pub is_size : ℕ → Bool
-is_size n = nat_le 1 n && nat_le n most_waiting
-
-abbrev pub new_pool : ℕ → Pool
-new_pool size = record { size = size; waiting = []; lost = 0 }
-
 -- the oldest that wait, and the pool without them
 abbrev pub oldest : ℕ → Option Pool → List Arrival
 oldest max None = []
-oldest max (Some p) = take max p.waiting
+oldest max (Some p) = taken max p
 
 abbrev pub without_oldest : ℕ → Option Pool → Option Pool
 without_oldest max None = None
-without_oldest max (Some p) = Some (record p { waiting = drop max p.waiting })
+without_oldest max (Some p) = Some (after_take max p)
 
 abbrev pub pool_status : ℕ → Option Pool → Reply
 pool_status used None = replies.Pools 0 0 used

@@ -12,6 +12,7 @@ use Rattle.route_filter.specs.declared.rule_args.RuleArgs.{RuleArgs}
 use Rattle.node_table.specs.Codes.{coded_queue_addr}
 use Rattle.node_table.specs.declared.caps.Caps.{Caps}
 use Rattle.node_table.specs.declared.number.QueueAddr.{QueueAddr}
+use Rattle.cell_pools.specs.Pools as pools
 use Rattle.patch_graph.specs.Codes.{coded_edge}
 use Rattle.patch_graph.specs.declared.edge.Edge.{Edge}
 use Rattle.seq_state.specs.declared.log.Arrival.{Arrival}
@@ -40,11 +41,9 @@ pub record Client : Type 0 where
   pub filters : FinMap nat_cmp FilterInfo
   pub queues : FinMap nat_cmp Queue
 
--- A client's input pool: what waits, the oldest first, and how many messages found no room.
-pub record Pool : Type 0 where
-  pub size : ℕ
-  pub waiting : List Arrival
-  pub lost : ℕ
+-- a client's input pool: what waits, the oldest first, and how many messages found no room
+abbrev pub Pool : Type 0
+Pool = pools.Pool Arrival
 
 -- A message that waits for its due time.
 pub record Event : Type 0 where
@@ -114,9 +113,6 @@ coded_client =
 abbrev pub coded_arrival : Coded Arrival
 coded_arrival = code_by (ℕ × (ℕ × List ℕ)) (coded× coded_ℕ (coded× coded_ℕ (coded_list coded_ℕ))) (λ a. (a.moment, (a.port, a.message))) (λ p. record { moment = p.0; port = p.1.0; message = p.1.1 }) (λ _. refl)
 
-abbrev pub coded_pool : Coded Pool
-coded_pool = code_by (ℕ × (List Arrival × ℕ)) (coded× coded_ℕ (coded× (coded_list coded_arrival) coded_ℕ)) (λ p. (p.size, (p.waiting, p.lost))) (λ c. record { size = c.0; waiting = c.1.0; lost = c.1.1 }) (λ _. refl)
-
 abbrev pub coded_event : Coded Event
 coded_event = code_by (Due × List ℕ) (coded× coded_due (coded_list coded_ℕ)) (λ e. (e.due, e.message)) (λ p. record { due = p.0; message = p.1 }) (λ _. refl)
 
@@ -132,5 +128,5 @@ coded_pending =
 abbrev pub coded_state : Coded State
 coded_state =
     code_by (FinMap nat_cmp Client × (FinMap nat_cmp Pool × (List Edge × List Pending)))
-    (coded× (FinMap.code coded_ℕ coded_client) (coded× (FinMap.code coded_ℕ coded_pool) (coded× (coded_list coded_edge) (coded_list coded_pending)))) (λ s. (s.clients, (s.pools, (s.edges, s.pending))))
+    (coded× (FinMap.code coded_ℕ coded_client) (coded× (FinMap.code coded_ℕ (pools.coded_pool coded_arrival)) (coded× (coded_list coded_edge) (coded_list coded_pending)))) (λ s. (s.clients, (s.pools, (s.edges, s.pending))))
     (λ p. record { clients = p.0; pools = p.1.0; edges = p.1.1.0; pending = p.1.1.1 }) (λ _. refl)

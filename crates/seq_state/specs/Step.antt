@@ -14,6 +14,8 @@ use Rattle.node_table.specs.declared.number.QueueAddr.{QueueAddr}
 use Rattle.patch_graph.specs.declared.edge.Edge.{Edge}
 use Rattle.seq_state.specs.declared.input.Command.{Command}
 use Rattle.seq_state.specs.declared.input.Input.{Input}
+use Rattle.cell_pools.specs.Pools as pools
+use Rattle.seq_state.specs.declared.log.Arrival.{Arrival}
 use Rattle.seq_state.specs.declared.log.Delivery.{Delivery}
 use Rattle.seq_state.specs.declared.log.LogEntry.{LogEntry}
 use Rattle.seq_state.specs.declared.log.LogEntry.TheVariants.{Delivered, Replied}
@@ -29,21 +31,19 @@ use Rattle.seq_state.specs.Table.{Asked, Row, first_refusal, queue_named, visibl
 
 -- ---- delivering
 
--- at which the count of lost messages stays
-abbrev pub most_lost : ℕ
-most_lost = 2 ^ 64 - 1
-
+-- there is a pool, with room
 abbrev pub has_room : Option Pool → Bool
 has_room None = false
-has_room (Some p) = nat_lt (length p.waiting) p.size
+has_room (Some p) = pools.has_room p
 
--- a client's input pool after a copy was offered to it: it waits where there is room, and else it is lost
+-- a delivery as it waits
+abbrev pub arrival : Delivery → Arrival
+arrival d = record { moment = d.moment; port = d.target.port; message = d.message }
+
+-- a client's input pool after a copy was offered to it
 abbrev pub offer : Option Pool → Delivery → Option Pool
 offer None d = None
-offer (Some p) d =
-    Some (if nat_lt (length p.waiting) p.size
-    then record p { waiting = p.waiting ++ record { moment = d.moment; port = d.target.port; message = d.message } ∷ [] }
-    else record p { lost = min (p.lost + 1) most_lost })
+offer (Some p) d = Some (pools.after_offer p (arrival d))
 
 -- the pools after these copies were offered, in order
 abbrev pub offered : FinMap nat_cmp Pool → List Delivery → FinMap nat_cmp Pool

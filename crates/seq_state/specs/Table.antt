@@ -5,6 +5,7 @@ use Rattle.tempo_clock.specs.Clocks.{started, stopped, resumed, with_tempo}
 use Rattle.tempo_clock.specs.Entries.{is_ppq, is_tempo}
 use Rattle.route_filter.specs.Rules.{is_rule}
 use Rattle.route_filter.specs.declared.rule_args.RuleArgs.{RuleArgs}
+use Rattle.cell_pools.specs.Pools.{is_size, empty_pool}
 use Rattle.node_table.specs.Addresses.{same_node}
 use Rattle.node_table.specs.Capabilities.{permits}
 use Rattle.node_table.specs.Names.{is_name}
@@ -23,7 +24,7 @@ use Rattle.seq_state.specs.declared.refusal.Refusal.{Refusal}
 use Rattle.seq_state.specs.declared.refusal.Refusal.TheVariants as refusal
 use Rattle.seq_state.specs.Files.{File}
 use Rattle.seq_state.specs.State.{Queue, Client}
-use Rattle.seq_state.specs.Own.{Own, kept, changed, out_size, port_of, filter_of, queue_of, has_port, has_filter, has_queue, put_port, put_filter, new_port, new_filter, fed_of, port_fed, filter_ruled, new_client, is_size, new_pool, oldest, without_oldest, pool_status, queue_is, put_queue, queue_changed, clocked, public, runs, held_queue, one_tempo, file_queue, queue_status, counts_frames, passes_end, scheduled, file_at, file_events, has_division, playback}
+use Rattle.seq_state.specs.Own.{Own, kept, changed, out_size, port_of, filter_of, queue_of, has_port, has_filter, has_queue, put_port, put_filter, new_port, new_filter, fed_of, port_fed, filter_ruled, new_client, oldest, without_oldest, pool_status, queue_is, put_queue, queue_changed, clocked, public, runs, held_queue, one_tempo, file_queue, queue_status, counts_frames, passes_end, scheduled, file_at, file_events, has_division, playback}
 
 -- What a row of the table looks at: the files of the run, the moment, who says the command and what
 -- it has of its own, if it is open; the queue that the command names, where the actor may use it; the
@@ -204,7 +205,7 @@ completed a port bytes = reading (fed_of (port_of a.client port) ++ bytes)
 unfoldable pub command_row : Asked → Command → Row
 command_row a (Open name in_size out_size) =
     row (already_open a ∷ bad_name name ∷ bad_sizes in_size out_size ∷ [])
-    (record (kept (Some (new_client name in_size out_size))) { pool = λ p. Some (new_pool in_size) })
+    (record (kept (Some (new_client name in_size out_size))) { pool = λ p. Some (empty_pool in_size) })
 command_row a Close =
     row (not_open a ∷ [])
     (record (kept None) { pool = λ p. None; gone = λ n. true; dropped = λ p. true; queue_gone = λ n. true })
