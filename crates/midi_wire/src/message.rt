@@ -54,8 +54,9 @@ impl Message {
         }
     }
 
+    /// A message of two bytes. The caller has tested that they are one; `from_bytes` tests any bytes.
     #[inline]
-    pub(crate) fn with_one(status: u8, first: u8) -> Message
+    pub fn with_one(status: u8, first: u8) -> Message
         requires { IsTrue (is_message (status ∷ first ∷ [])) }
         ensures { result ≡ status ∷ first ∷ [] }
     {
@@ -64,8 +65,9 @@ impl Message {
         }
     }
 
+    /// A message of three bytes, under the same condition.
     #[inline]
-    pub(crate) fn with_two(status: u8, first: u8, second: u8) -> Message
+    pub fn with_two(status: u8, first: u8, second: u8) -> Message
         requires { IsTrue (is_message (status ∷ first ∷ second ∷ [])) }
         ensures { result ≡ status ∷ first ∷ second ∷ [] }
     {
@@ -78,7 +80,8 @@ impl Message {
         }
     }
 
-    pub(crate) fn exclusive(alloc: Global, payload: &[u8]) -> Result<Message, OutOfMemory>
+    /// An exclusive message of this data, without F0 and F7, under the same condition.
+    pub fn exclusive(alloc: Global, payload: &[u8]) -> Result<Message, OutOfMemory>
         requires { IsTrue (is_message (240 ∷ payload.now ++ 247 ∷ [])) }
         ensures { IfOk result (λ m. m ≡ 240 ∷ payload.now ++ 247 ∷ []) }
     {

@@ -2,6 +2,7 @@
 
 ghost use Rattle.std.specs.Prelude.{◌≡◌};
 
+use smf_files::SmfFault;
 use std::alloc::{AllocError, AllocFailed, Global};
 use thiserror::Error;
 
@@ -17,6 +18,9 @@ pub(crate) enum Fault {
     CannotWrite(String),
     #[error("out of memory")]
     OutOfMemory,
+    /// What is wrong with a Standard MIDI File: its number, its name, and the place or the track.
+    #[error("{0}")]
+    Smf(SmfFault),
 }
 
 impl Fault {
@@ -28,7 +32,7 @@ impl Fault {
     {
         match self {
             Fault::NotUtf8 | Fault::NoSubcommand => 2,
-            Fault::CannotRead(_) | Fault::CannotWrite(_) | Fault::OutOfMemory => 1,
+            Fault::CannotRead(_) | Fault::CannotWrite(_) | Fault::OutOfMemory | Fault::Smf(_) => 1,
         }
     }
 

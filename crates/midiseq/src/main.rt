@@ -1,9 +1,11 @@
 //! `midiseq`: a MIDI sequencer and patchbay on the command line.
 #![tactic(auto)]
 
+mod dump;
 mod fault;
 mod words;
 
+use crate::dump::dump;
 use byte_io::{StdSink, StdSource};
 use clap::error::ErrorKind;
 use fault::Fault;
@@ -47,6 +49,7 @@ fn program(
         Ok(matches) => match matches.subcommand() {
             Some(("thru", found)) => thru(rt, found.get_str("FILE").unwrap_or(STANDARD)),
             Some(("wire", found)) => wire(rt, found.get_str("FILE").unwrap_or(STANDARD)),
+            Some(("dump", found)) => dump(rt, found.get_str("FILE").unwrap_or(STANDARD)),
             _ => Err(Fault::NoSubcommand),
         },
         Err(error) => {
@@ -94,5 +97,6 @@ fn ended(alloc: Global, path: &str, done: Result<(), ToolFault>) -> Result<ExitC
         Err(ToolFault::OutOfMemory) => Err(Fault::OutOfMemory),
         Err(ToolFault::Read) => Err(Fault::cannot_read(alloc, path)),
         Err(ToolFault::Write) => Err(Fault::cannot_write(alloc, STANDARD)),
+        Err(ToolFault::Smf(fault)) => Err(Fault::Smf(fault)),
     }
 }

@@ -11,6 +11,8 @@ Examples:
       the same for each message of the bytes in the file keys.raw
   midiseq wire keys.raw
       reads the stream in keys.raw, prints its messages, and then the stream written anew
+  midiseq dump song.mid
+      reads the Standard MIDI File song.mid, and prints its tempos and its events
 Without words midiseq does `thru -`.";
 
 const THRU_HELP: &str = "\
@@ -33,6 +35,20 @@ Example:
   printf '\\x90\\x3C\\x40\\xF8\\x3E\\xF8\\x40' | midiseq wire -
       prints `90 3C 40`, `F8`, `F8`, `90 3E 40` and `written 90 3C 40 F8 F8 3E 40`, each on a line";
 
+const DUMP_HELP: &str = "\
+The file is a Standard MIDI File of format 0 or 1. The first line is `format F tracks N division D`, with the division
+word as a number: ticks per quarter note, or, from 32768 on, a division by frames. Then comes a line `tempo TICK TEMPO`
+for each tempo entry, in microseconds per quarter note (none where the division counts frames), and a line `TICK HEX` for
+each message of a channel and each system exclusive message, in order of tick, at one tick by track, and within a track
+in its order. The last line is `skipped N`: how many events no message and no tempo could be made of.
+A file that is damaged, too large (more than 16,777,216 bytes) or of format 2 prints nothing; its fault is a line of a
+number, a name and the byte or the track where it stands, as in `midiseq: 12 NoStatus 30`.
+
+Example:
+  midiseq dump song.mid
+      prints `format 0 tracks 1 division 480`, `tempo 0 500000`, `0 90 3C 40`, `480 90 3C 00` and `skipped 0`, each on
+      a line, for one note that sounds for a quarter note";
+
 /// The program's subcommands with their words.
 pub(crate) fn command<'a>(alloc: Global) -> Result<Command<'a>, AllocError> {
     Command::new(alloc, "midiseq")
@@ -42,7 +58,8 @@ pub(crate) fn command<'a>(alloc: Global) -> Result<Command<'a>, AllocError> {
         .after_help(EXAMPLES)
         .subcommand_required(true)
         .subcommand(thru(alloc)?)?
-        .subcommand(wire(alloc)?)
+        .subcommand(wire(alloc)?)?
+        .subcommand(dump(alloc)?)
 }
 
 fn thru<'a>(alloc: Global) -> Result<Command<'a>, AllocError> {
@@ -64,5 +81,15 @@ fn wire<'a>(alloc: Global) -> Result<Command<'a>, AllocError> {
     Command::new(alloc, "wire")
         .about("Reads a MIDI stream, prints each message, and writes the stream anew")
         .after_help(WIRE_HELP)
+        .arg(file)
+}
+
+fn dump<'a>(alloc: Global) -> Result<Command<'a>, AllocError> {
+    let file = Arg::new(alloc, "FILE")
+        .required(true)
+        .help("the Standard MIDI File, or - for standard input");
+    Command::new(alloc, "dump")
+        .about("Reads a Standard MIDI File, and prints its tempos and its events")
+        .after_help(DUMP_HELP)
         .arg(file)
 }

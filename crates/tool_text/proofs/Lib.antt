@@ -2,3 +2,5 @@ pub mod Joined
 pub mod Fed
 pub mod Passed
 pub mod Copied
+pub mod Dumped
+pub mod Accepted

@@ -1,3 +1,5 @@
 pub mod Hex
 pub mod Thru
 pub mod Wire
+pub mod Dump
+pub mod Faults

@@ -3,6 +3,7 @@
 use memory::OutOfMemory;
 use midi_wire::WireFault;
 use seq_engine::EngineFault;
+use smf_files::SmfFault;
 use std::alloc::AllocError;
 use thiserror::Error;
 
@@ -17,6 +18,9 @@ pub enum ToolFault {
     /// A write failed, or took no byte.
     #[error("a write failed")]
     Write,
+    /// The bytes are no Standard MIDI File that can be read. It never holds want of memory.
+    #[error("{0}")]
+    Smf(SmfFault),
 }
 
 impl From<OutOfMemory> for ToolFault {
@@ -62,5 +66,20 @@ impl From<WireFault> for ToolFault {
 
     fn from(_error: WireFault) -> ToolFault {
         ToolFault::OutOfMemory
+    }
+}
+
+/// Want of memory is that of the tool.
+impl From<SmfFault> for ToolFault {
+    ghost use Rattle.std.specs.Prelude.{◌≡◌};
+    ghost use Rattle.tool_text.specs.Faults.{tool_fault};
+
+    ghost from_gives = { λ x e. e ≡ tool_fault x };
+
+    fn from(fault: SmfFault) -> ToolFault {
+        match fault {
+            SmfFault::OutOfMemory => ToolFault::OutOfMemory,
+            other => ToolFault::Smf(other),
+        }
     }
 }

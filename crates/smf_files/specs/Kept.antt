@@ -1,0 +1,33 @@
+-- What a file keeps of the bytes that it was read from.
+use Rattle.std.specs.Prelude.{◌≡◌, ◌<◌, ◌^◌, ℕ, Bool, List, [], length, map, Ok, Err, is_ok, nat_le, ◌&&◌, IsTrue}
+use Rattle.std.specs.List.{list_all}
+use Rattle.tempo_clock.specs.declared.entry.TempoEntry.{TempoEntry}
+use Rattle.smf_grammar.specs.Pairs.{Pair}
+use Rattle.smf_grammar.specs.Files.{MidiFile}
+use Rattle.smf_grammar.specs.Contents.{entries_of, skipped_of}
+use Rattle.smf_grammar.specs.Reading.{Pairs, pairs_of}
+
+abbrev pub pairs_or_none : Pairs → List Pair
+pairs_or_none (Ok pairs) = pairs
+pairs_or_none (Err stop) = []
+
+-- the pairs of the content of a track
+abbrev pub pairs_seen : List ℕ → List Pair
+pairs_seen content = pairs_or_none (pairs_of content)
+
+-- the file with these contents of its tracks
+abbrev pub file_seen : ℕ → ℕ → List (List ℕ) → MidiFile
+file_seen format division contents =
+    record { format = format; division = division; tracks = map pairs_seen contents }
+
+-- a content is a track, of no more bytes than a file
+abbrev pub is_track : List ℕ → Bool
+is_track content = is_ok (pairs_of content) && nat_le (length content) 16777216
+
+-- what is kept beside the contents is what the file says
+pub record IsKept (f : MidiFile) (contents : List (List ℕ)) (entries : List TempoEntry)
+    (skipped : ℕ) : Type 0 where
+  pub tracks : IsTrue (list_all is_track contents)
+  pub few : length contents < 2 ^ 16
+  pub entries_are : entries ≡ entries_of f
+  pub skipped_are : skipped ≡ skipped_of f

@@ -1,0 +1,4 @@
+pub mod Taken
+pub mod Kept
+pub mod Playing
+pub mod Refusals

@@ -1,0 +1,29 @@
+-- Which events are refused as a file of format 0.
+use Rattle.std.specs.Prelude.{ℕ, List, length, not, nat_le, Option, Some, None, if◌then◌else◌}
+use Rattle.tempo_clock.specs.Entries.{is_ppq, is_tempo}
+use Rattle.smf_grammar.specs.declared.event.Event.{Event}
+use Rattle.smf_grammar.specs.Chunks.{most_bytes}
+use Rattle.smf_grammar.specs.Texts.{file_text, bad_event}
+use Rattle.smf_files.specs.declared.fault.WriteFault.{WriteFault}
+use Rattle.smf_files.specs.declared.fault.WriteFault.TheVariants.{BadPpq, BadTempo, BadEvent, TooLarge, OutOfMemory}
+
+-- the first event that can't be written, or a text that is too large
+abbrev pub refusal_by : Option ℕ → ℕ → Option WriteFault
+refusal_by (Some index) size = Some (BadEvent index)
+refusal_by None size = if nat_le size most_bytes then None else Some TooLarge
+
+-- why a file with these ticks per quarter note, this tempo and these events is refused, by the
+-- first test that fails
+abbrev pub refusal_of : ℕ → ℕ → List Event → Option WriteFault
+refusal_of ppq tempo events =
+    if not (is_ppq ppq) then Some BadPpq else
+    (if not (is_tempo tempo) then Some BadTempo else
+    refusal_by (bad_event 0 events) (length (file_text ppq tempo events)))
+
+-- what a fault says of the events: want of memory says nothing
+abbrev pub refusal_in : WriteFault → Option WriteFault
+refusal_in BadPpq = Some BadPpq
+refusal_in BadTempo = Some BadTempo
+refusal_in (BadEvent index) = Some (BadEvent index)
+refusal_in TooLarge = Some TooLarge
+refusal_in OutOfMemory = None

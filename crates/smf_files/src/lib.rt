@@ -1,0 +1,21 @@
+//! Standard MIDI Files 1.0 (RP-001), read from lent bytes, and written as format 0.
+#![tactic(auto)]
+
+mod cursor;
+mod entries;
+mod fault;
+mod file;
+mod heads;
+mod place;
+#[cfg(test)]
+mod tests;
+mod track;
+mod write;
+
+pub use cursor::Cursor;
+pub use fault::WriteFault;
+pub use file::SmfFile;
+pub use memory::OutOfMemory;
+pub use smf_grammar::{Event, QuantityFault, SmfFault, quantity};
+pub use tempo_clock::TempoEntry;
+pub use write::write_format0;

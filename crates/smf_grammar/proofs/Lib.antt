@@ -1,0 +1,10 @@
+pub mod Binds
+pub mod Shorter
+pub mod Whole
+pub mod Order
+pub mod Septets
+pub mod Statuses
+pub mod Sound
+pub mod Spelled
+pub mod TextFile
+pub mod Never

@@ -1,0 +1,14 @@
+pub mod Outcomes
+pub mod Quantities
+pub mod Pairs
+pub mod Chunks
+pub mod Faults
+pub mod Files
+pub mod Contents
+pub mod Played
+pub mod Texts
+pub mod Septets
+pub mod Reading
+pub mod Seen
+pub mod Laws
+pub mod Rows

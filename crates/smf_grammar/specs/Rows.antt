@@ -1,0 +1,144 @@
+-- What the definitions say of a few files.
+use Rattle.std.specs.Prelude.{◌≡◌, ℕ, List, [], ◌∷◌, ◌++◌, length, take, Result, Ok, Err, slice_set}
+use Rattle.tempo_clock.specs.declared.entry.TempoEntry.{TempoEntry}
+use Rattle.smf_grammar.specs.Quantities.{quantity}
+use Rattle.smf_grammar.specs.declared.event.Event.{Event}
+use Rattle.smf_grammar.specs.declared.fault.QuantityFault.TheVariants.{Short, Long}
+use Rattle.smf_grammar.specs.declared.fault.SmfFault.{SmfFault}
+use Rattle.smf_grammar.specs.declared.fault.SmfFault.TheVariants.{NotMidi, ShortHeader, Format2, TrackMissing, Truncated, NoStatus, NoEndOfTrack, ZeroDivision, DropFrame, SmpteDivision}
+use Rattle.smf_grammar.specs.Files.{MidiFile}
+use Rattle.smf_grammar.specs.Contents.{events_of, entries_of, skipped_of}
+use Rattle.smf_grammar.specs.Texts.{file_text}
+use Rattle.smf_grammar.specs.Reading.{reading}
+
+-- ---- quantities
+
+pub record Quantities : Type 0 where
+  pub two : quantity (129 ∷ 0 ∷ []) ≡ Ok (128, 2)
+  pub greatest : quantity (255 ∷ 255 ∷ 255 ∷ 127 ∷ []) ≡ Ok (268435455, 4)
+  pub padded : quantity (128 ∷ 0 ∷ []) ≡ Ok (0, 2)
+  pub long : quantity (128 ∷ 128 ∷ 128 ∷ 128 ∷ 0 ∷ []) ≡ Err Long
+  pub cut : quantity (129 ∷ []) ≡ Err Short
+  pub empty : quantity [] ≡ Err Short
+
+-- ---- files
+
+-- format 0, one track, this division
+abbrev pub header : ℕ → ℕ → List ℕ
+header high low = 77 ∷ 84 ∷ 104 ∷ 100 ∷ 0 ∷ 0 ∷ 0 ∷ 6 ∷ 0 ∷ 0 ∷ 0 ∷ 1 ∷ high ∷ low ∷ []
+
+abbrev pub track_of_length : ℕ → List ℕ → List ℕ
+track_of_length size content = 77 ∷ 84 ∷ 114 ∷ 107 ∷ 0 ∷ 0 ∷ 0 ∷ size ∷ content
+
+abbrev pub alien : List ℕ
+alien = 88 ∷ 89 ∷ 90 ∷ 49 ∷ 0 ∷ 0 ∷ 0 ∷ 2 ∷ 170 ∷ 187 ∷ []
+
+-- a tempo, a note that sounds for 480 ticks, and the end
+abbrev pub note : List ℕ
+note =
+    0 ∷ 255 ∷ 81 ∷ 3 ∷ 7 ∷ 161 ∷ 32 ∷ 0 ∷ 144 ∷ 60 ∷ 64 ∷ 131 ∷ 96 ∷ 60 ∷ 0 ∷ 0 ∷ 255 ∷ 47 ∷ 0 ∷ []
+
+abbrev pub small : List ℕ
+small = header 1 224 ++ alien ++ track_of_length 19 note
+
+-- a file that says this
+pub record IsSaid (f : MidiFile) (format tracks division : ℕ) (entries : List TempoEntry)
+    (events : List Event) (skipped : ℕ) : Type 0 where
+  pub format_is : f.format ≡ format
+  pub tracks_are : length f.tracks ≡ tracks
+  pub division_is : f.division ≡ division
+  pub entries_are : entries_of f ≡ entries
+  pub events_are : events_of f ≡ events
+  pub skipped_are : skipped_of f ≡ skipped
+
+abbrev pub IsSaidBy : Result MidiFile SmfFault → ℕ → ℕ → ℕ → List TempoEntry → List Event → ℕ
+    → Type 0
+IsSaidBy (Ok f) format tracks division entries events skipped =
+    IsSaid f format tracks division entries events skipped
+IsSaidBy (Err x) format tracks division entries events skipped = ⊥
+
+-- the bytes are a file that says this
+abbrev pub Says : List ℕ → ℕ → ℕ → ℕ → List TempoEntry → List Event → ℕ → Type 0
+Says bytes format tracks division entries events skipped =
+    IsSaidBy (reading bytes) format tracks division entries events skipped
+
+abbrev pub at : ℕ → List ℕ → Event
+at tick message = record { tick = tick; message = message }
+
+abbrev pub entry : ℕ → ℕ → TempoEntry
+entry tick tempo = record { tick = tick; tempo = tempo }
+
+abbrev pub Refuses : List ℕ → SmfFault → Type 0
+Refuses bytes x = reading bytes ≡ Err x
+
+pub record SmallFile : Type 0 where
+  pub whole : Says small 0 1 480 (entry 0 500000 ∷ []) (at 0 (144 ∷ 60 ∷ 64 ∷ [])
+      ∷ at 480 (144 ∷ 60 ∷ 0 ∷ []) ∷ []) 0
+  pub cut : Refuses (take 47 small) (Truncated 24)
+  pub no_end : Refuses (slice_set (take 47 small) 31 15) (NoEndOfTrack 0)
+  pub patterns : Refuses (slice_set small 9 2) Format2
+
+-- two tracks, of the same division
+abbrev pub two_tracks : ℕ → List ℕ
+two_tracks count = 77 ∷ 84 ∷ 104 ∷ 100 ∷ 0 ∷ 0 ∷ 0 ∷ 6 ∷ 0 ∷ 1 ∷ 0 ∷ count ∷ 0 ∷ 96 ∷
+    track_of_length 15 (0 ∷ 255 ∷ 81 ∷ 3 ∷ 3 ∷ 208 ∷ 144 ∷ 96 ∷ 144 ∷ 1 ∷ 64 ∷ 0 ∷ 255 ∷ 47 ∷ 0
+    ∷ [])
+    ++ track_of_length 19 (96 ∷ 144 ∷ 2 ∷ 64 ∷ 0 ∷ 255 ∷ 81 ∷ 3 ∷ 7 ∷ 161 ∷ 32 ∷ 0 ∷ 144 ∷ 3 ∷ 64
+    ∷ 0 ∷ 255 ∷ 47 ∷ 0 ∷ [])
+
+pub record TwoTracks : Type 0 where
+  pub whole : Says (two_tracks 2) 1 2 96 (entry 0 250000 ∷ entry 96 500000
+      ∷ []) (at 96 (144 ∷ 1 ∷ 64 ∷ []) ∷ at 96 (144 ∷ 2 ∷ 64 ∷ []) ∷ at 96 (144 ∷ 3 ∷ 64 ∷ [])
+      ∷ []) 0
+  pub three : Refuses (two_tracks 3) TrackMissing
+  pub one : Says (two_tracks 1) 1 1 96 (entry 0 250000 ∷ []) (at 96 (144 ∷ 1 ∷ 64 ∷ []) ∷ []) 0
+
+-- the first bytes of the small file
+pub record CutFiles : Type 0 where
+  pub none : Refuses [] NotMidi
+  pub three : Refuses (take 3 small) NotMidi
+  pub four : Refuses (take 4 small) ShortHeader
+  pub thirteen : Refuses (take 13 small) ShortHeader
+  pub fourteen : Refuses (take 14 small) TrackMissing
+  pub twenty_one : Refuses (take 21 small) TrackMissing
+  pub twenty_two : Refuses (take 22 small) (Truncated 14)
+  pub twenty_three : Refuses (take 23 small) (Truncated 14)
+  pub twenty_four : Refuses (take 24 small) TrackMissing
+  pub thirty_one : Refuses (take 31 small) TrackMissing
+  pub thirty_two : Refuses (take 32 small) (Truncated 24)
+  pub fifty : Refuses (take 50 small) (Truncated 24)
+
+-- 25 frames per second, 40 ticks in each
+abbrev pub framed : ℕ → ℕ → List ℕ
+framed high low = header high low ++ alien ++ track_of_length 19 note
+
+pub record FramedFile : Type 0 where
+  pub whole : Says (framed 231 40) 0 1 59176 [] (at 0 (144 ∷ 60 ∷ 64 ∷ [])
+      ∷ at 480 (144 ∷ 60 ∷ 0 ∷ []) ∷ []) 0
+  pub no_ticks : Refuses (framed 231 0) ZeroDivision
+  pub dropped : Refuses (framed 227 40) DropFrame
+  pub other : Refuses (framed 224 40) SmpteDivision
+
+-- exclusive data: a whole message, one with a status inside, and an escape
+abbrev pub exclusives : List ℕ
+exclusives =
+    header 1 224 ++ track_of_length 19 (0 ∷ 240 ∷ 3 ∷ 125 ∷ 1 ∷ 247 ∷ 0 ∷ 240 ∷ 2 ∷ 125 ∷ 1 ∷ 0
+    ∷ 247 ∷ 1 ∷ 248 ∷ 0 ∷ 255 ∷ 47 ∷ 0 ∷ [])
+
+-- an exclusive event ends the running status
+abbrev pub status_gone : List ℕ
+status_gone =
+    header 1 224 ++ track_of_length 15 (0 ∷ 144 ∷ 60 ∷ 64 ∷ 0 ∷ 240 ∷ 1 ∷ 247 ∷ 0 ∷ 60 ∷ 64 ∷ 0
+    ∷ 255 ∷ 47 ∷ 0 ∷ [])
+
+pub record ExclusiveFiles : Type 0 where
+  pub whole : Says exclusives 0 1 480 (entry 0 500000 ∷ []) (at 0 (240 ∷ 125 ∷ 1 ∷ 247 ∷ []) ∷ []) 2
+  pub gone : Refuses status_gone (NoStatus 30)
+
+-- one note on, as it is written
+pub record WrittenFile : Type 0 where
+  pub text : file_text 480 500000 (at 0 (144 ∷ 60 ∷ 64 ∷ []) ∷ []) ≡ header 1 224
+      ++ track_of_length 15 (0 ∷ 255 ∷ 81 ∷ 3 ∷ 7 ∷ 161 ∷ 32 ∷ 0 ∷ 144 ∷ 60 ∷ 64 ∷ 0 ∷ 255 ∷ 47 ∷ 0
+      ∷ [])
+  pub back : Says (file_text 480 500000 (at 0 (144 ∷ 60 ∷ 64 ∷ []) ∷ [])) 0 1 480 (entry 0 500000
+      ∷ []) (at 0 (144 ∷ 60 ∷ 64 ∷ []) ∷ []) 0

@@ -1,0 +1,23 @@
+use Rattle.std.proofs.Common.{◌∙◌, inr}
+use Rattle.smf_grammar.proofs.Whole.{not-both}
+use Rattle.tool_text.proofs.Dumped.{on-ok, on-err, always-ok}
+use Rattle.tool_text.proofs.Accepted.{accepted, fault-of-all, told, refused}
+use Rattle.tool_text.proofs.dump.dump_text.Goals as goal
+
+pub returns-in-Err-read-clause-told : goal.returns-in-Err-read-clause-told
+returns-in-Err-read-clause-told g c = λ t. told _ c.in-Err-read.fault _ c.from.ensures (λ some. fault-of-all _ _ _ (c.as_slice.ensures.value ∙ c.in-Ok.ensures.bytes t) (c.in-Err-read.ensures.fault some))
+
+pub returns-in-Err-read-clause-refused : goal.returns-in-Err-read-clause-refused
+returns-in-Err-read-clause-refused g c = λ t x h. refused _ c.in-Err-read.fault x _ c.from.ensures (λ some. fault-of-all _ _ _ (c.as_slice.ensures.value ∙ c.in-Ok.ensures.bytes t) (c.in-Err-read.ensures.fault some)) h
+
+pub returns-clause-text : goal.returns-clause-text
+returns-clause-text g c = λ t u. on-ok c.print_file.result (λ k. record { f = c.in-Ok-read.file; file = (accepted _ _ _ (c.as_slice.ensures.value ∙ c.in-Ok.ensures.bytes t) c.in-Ok-read.ensures.file).0; taken = k }) (c.print_file.ensures.text u)
+
+pub returns-clause-all : goal.returns-clause-all
+returns-clause-all g c = λ t. always-ok c.print_file.result (c.in-Ok.ensures.rest t ∙ (accepted _ _ _ (c.as_slice.ensures.value ∙ c.in-Ok.ensures.bytes t) c.in-Ok-read.ensures.file).1)
+
+pub returns-clause-short : goal.returns-clause-short
+returns-clause-short g c = λ t u. on-err c.print_file.result (λ k. inr (c.in-Ok-read.file, (accepted _ _ _ (c.as_slice.ensures.value ∙ c.in-Ok.ensures.bytes t) c.in-Ok-read.ensures.file).0, k)) (c.print_file.ensures.short u)
+
+pub returns-clause-refused : goal.returns-clause-refused
+returns-clause-refused g c = λ t x h. absurd (not-both _ c.in-Ok-read.file x (accepted _ _ _ (c.as_slice.ensures.value ∙ c.in-Ok.ensures.bytes t) c.in-Ok-read.ensures.file).0 h)

@@ -1,0 +1,240 @@
+//! What a Standard MIDI File says.
+
+ghost use Rattle.std.specs.Prelude.{◌≡◌, ◌≢◌, ◌++◌, ◌⊎◌, [], true, false, Err, IfErr, OnOk, OnErr, IsErrOf};
+ghost use Rattle.std.specs.List.{flat_map};
+ghost use Rattle.smf_grammar.specs.declared.fault.SmfFault.{SmfFault};
+ghost use Rattle.smf_grammar.specs.declared.fault.SmfFault.TheVariants as smf;
+ghost use Rattle.smf_grammar.specs.Files.{Fault};
+ghost use Rattle.tool_text.specs.Dump.{head_line, tempo_line, event_line, skipped_line, dump_of, IsDumped, StopsWithin, TellsFault, IsRefusedBy, IsOutput, Goes, Stops};
+
+#[cfg(test)]
+mod tests;
+
+use crate::decimal::push_decimal;
+use crate::fault::ToolFault;
+use crate::hex::push_spaced;
+use crate::limits::MOST;
+use byte_io::{Sink, Source, read_to, write_all};
+use memory::OutOfMemory;
+use smf_files::{Cursor, Event, SmfFile, TempoEntry};
+use std::alloc::Global;
+
+/// How much text is gathered before it is written.
+const PIECE: usize = 65_536;
+
+/// Prints what the Standard MIDI File that `input` gives says: a line on its header, one for each tempo entry, one for each
+/// event by tick, track and place, and how many events are skipped.
+///
+/// Nothing is written before the whole file was read and accepted; at a later fault the sink has taken a front of the text.
+/// A file of more than 16,777,216 bytes is not read to its end.
+pub fn dump_text<R: Source, W: Sink>(
+    alloc: Global,
+    input: &mut R,
+    out: &mut W,
+) -> Result<(), ToolFault>
+    requires input_sound { R.failed input.old ≡ false }
+    requires out_sound { W.failed out.old ≡ false }
+
+    ensures text { R.tells input.old ≡ true → W.tells out.old ≡ true
+        → OnOk result (IsDumped (R.left input.old) (W.taken out.old) (W.taken out.new)) }
+    ensures all { R.tells input.old ≡ true → OnOk result (R.left input.new ≡ []) }
+    ensures short { R.tells input.old ≡ true → W.tells out.old ≡ true
+        → OnErr result (StopsWithin (R.left input.old) (W.taken out.old) (W.taken out.new)) }
+
+    // `Smf` tells the fault of the bytes, and is the answer wherever they have one, unless a read
+    // failed or a growth was refused.
+    ensures told { R.tells input.old ≡ true → IfErr result (TellsFault (R.left input.old)) }
+    ensures refused { R.tells input.old ≡ true → (x : SmfFault) → Fault (R.left input.old) x
+        → IsRefusedBy result x }
+    ensures memory { result ≢ Err (ToolFault.Smf smf.OutOfMemory) }
+    ensures read { IsErrOf result ToolFault.Read → R.failed input.new ≡ true }
+    ensures write { IsErrOf result ToolFault.Write
+        → (W.failed out.new ≡ true) ⊎ (W.takes_some out.old ≡ false) }
+{
+    let bytes = match read_to(alloc, input, MOST + 1) {
+        Ok(bytes) => bytes,
+        Err(_) => {
+            if input.has_failed() {
+                return Err(ToolFault::Read);
+            }
+            return Err(ToolFault::OutOfMemory);
+        }
+    };
+    let file = match SmfFile::read(alloc, bytes.as_slice()) {
+        Ok(file) => file,
+        Err(fault) => return Err(ToolFault::from(fault)),
+    };
+    print_file(alloc, &file, out)
+}
+
+/// Prints a file.
+fn print_file<W: Sink>(alloc: Global, file: &SmfFile<'_>, out: &mut W) -> Result<(), ToolFault>
+    requires { W.failed out.old ≡ false }
+    ensures text { W.tells out.old ≡ true
+        → OnOk result (W.taken out.new ≡ W.taken out.old ++ dump_of file.now) }
+    ensures short { W.tells out.old ≡ true
+        → OnErr result (Stops (W.taken out.old) (W.taken out.new)
+        (W.taken out.old ++ dump_of file.now)) }
+    ensures write { IsErrOf result ToolFault.Write
+        → (W.failed out.new ≡ true) ⊎ (W.takes_some out.old ≡ false) }
+    ensures only { IfErr result IsOutput }
+{
+    let mut cursor = file.cursor()?;
+    let mut text = Vec::new(alloc);
+    push_head(file, &mut text)?;
+    print_tempos(file.tempo_entries(), &mut text, out)?;
+    print_events(alloc, &mut cursor, &mut text, out)?;
+    push_skipped(file.skipped(), &mut text)?;
+    flush(&mut text, out)
+}
+
+/// Adds the line on a file's header.
+fn push_head(file: &SmfFile<'_>, text: &mut Vec<u8>) -> Result<(), OutOfMemory>
+    ensures { OnOk result (text.new.items ≡ text.old.items ++ head_line file.now) }
+{
+    text.extend_from_slice(b"format ")?;
+    push_decimal(text, file.format() as u64)?;
+    text.extend_from_slice(b" tracks ")?;
+    push_decimal(text, file.tracks() as u64)?;
+    text.extend_from_slice(b" division ")?;
+    push_decimal(text, file.division() as u64)?;
+    text.push(b'\n')?;
+    Ok(())
+}
+
+/// Adds the line of a tempo entry.
+fn push_tempo(entry: &TempoEntry, text: &mut Vec<u8>) -> Result<(), OutOfMemory>
+    ensures { OnOk result (text.new.items ≡ text.old.items ++ tempo_line entry.now) }
+{
+    text.extend_from_slice(b"tempo ")?;
+    push_decimal(text, entry.tick)?;
+    text.push(b' ')?;
+    push_decimal(text, entry.tempo as u64)?;
+    text.push(b'\n')?;
+    Ok(())
+}
+
+/// Adds the line of an event. What was in `bytes` is lost.
+#[inline(always)]
+fn push_event(event: &Event, bytes: &mut Vec<u8>, text: &mut Vec<u8>) -> Result<(), OutOfMemory>
+    ensures { OnOk result (text.new.items ≡ text.old.items ++ event_line event.now) }
+{
+    push_decimal(text, event.tick)?;
+    bytes.clear();
+    event.message.append_to(bytes)?;
+    push_spaced(text, bytes.as_slice())?;
+    text.push(b'\n')?;
+    Ok(())
+}
+
+/// Adds the last line.
+fn push_skipped(skipped: u64, text: &mut Vec<u8>) -> Result<(), OutOfMemory>
+    ensures { OnOk result (text.new.items ≡ text.old.items ++ skipped_line skipped) }
+{
+    text.extend_from_slice(b"skipped ")?;
+    push_decimal(text, skipped)?;
+    text.push(b'\n')?;
+    Ok(())
+}
+
+/// Prints tempo entries after a text that was gathered.
+fn print_tempos<W: Sink>(
+    entries: &[TempoEntry],
+    text: &mut Vec<u8>,
+    out: &mut W,
+) -> Result<(), ToolFault>
+    requires { W.failed out.old ≡ false }
+    ensures sent { W.tells out.old ≡ true
+        → OnOk result (Goes (W.taken out.old) (W.taken out.new) text.new.items []
+        (W.taken out.old ++ text.old.items ++ flat_map tempo_line entries.now)) }
+    ensures short { W.tells out.old ≡ true
+        → OnErr result (Stops (W.taken out.old) (W.taken out.new)
+        (W.taken out.old ++ text.old.items ++ flat_map tempo_line entries.now)) }
+    ensures telling { W.tells out.new ≡ W.tells out.old }
+    ensures unmarked { OnOk result (W.failed out.new ≡ false) }
+    ensures eager { W.takes_some out.new ≡ W.takes_some out.old }
+    ensures write { IsErrOf result ToolFault.Write
+        → (W.failed out.new ≡ true) ⊎ (W.takes_some out.old ≡ false) }
+    ensures only { IfErr result IsOutput }
+{
+    for entry in entries {
+        push_tempo(entry, text)?;
+        spill(text, out)?;
+    }
+    Ok(())
+}
+
+/// Prints the events that are still to come after a text that was gathered.
+fn print_events<W: Sink>(
+    alloc: Global,
+    cursor: &mut Cursor<'_>,
+    text: &mut Vec<u8>,
+    out: &mut W,
+) -> Result<(), ToolFault>
+    requires { W.failed out.old ≡ false }
+    ensures sent { W.tells out.old ≡ true
+        → OnOk result (Goes (W.taken out.old) (W.taken out.new) text.new.items []
+        (W.taken out.old ++ text.old.items ++ flat_map event_line cursor.old)) }
+    ensures short { W.tells out.old ≡ true
+        → OnErr result (Stops (W.taken out.old) (W.taken out.new)
+        (W.taken out.old ++ text.old.items ++ flat_map event_line cursor.old)) }
+    ensures telling { W.tells out.new ≡ W.tells out.old }
+    ensures unmarked { OnOk result (W.failed out.new ≡ false) }
+    ensures eager { W.takes_some out.new ≡ W.takes_some out.old }
+    ensures write { IsErrOf result ToolFault.Write
+        → (W.failed out.new ≡ true) ⊎ (W.takes_some out.old ≡ false) }
+    ensures only { IfErr result IsOutput }
+{
+    let mut bytes = Vec::new(alloc);
+    'events: while let Some(event) = cursor.next()? {
+        push_event(&event, &mut bytes, text)?;
+        spill(text, out)?;
+    }
+    Ok(())
+}
+
+/// Writes the text that was gathered once it is long enough.
+#[inline(always)]
+fn spill<W: Sink>(text: &mut Vec<u8>, out: &mut W) -> Result<(), ToolFault>
+    requires { W.failed out.old ≡ false }
+    ensures sent { W.tells out.old ≡ true
+        → OnOk result (Goes (W.taken out.old) (W.taken out.new) text.new.items []
+        (W.taken out.old ++ text.old.items)) }
+    ensures short { W.tells out.old ≡ true
+        → OnErr result (Stops (W.taken out.old) (W.taken out.new)
+        (W.taken out.old ++ text.old.items)) }
+    ensures telling { W.tells out.new ≡ W.tells out.old }
+    ensures unmarked { OnOk result (W.failed out.new ≡ false) }
+    ensures eager { W.takes_some out.new ≡ W.takes_some out.old }
+    ensures write { IsErrOf result ToolFault.Write
+        → (W.failed out.new ≡ true) ⊎ (W.takes_some out.old ≡ false) }
+    ensures only { IfErr result IsOutput }
+{
+    if text.len() < PIECE {
+        return Ok(());
+    }
+    flush(text, out)
+}
+
+/// Writes the text that was gathered.
+fn flush<W: Sink>(text: &mut Vec<u8>, out: &mut W) -> Result<(), ToolFault>
+    requires { W.failed out.old ≡ false }
+    ensures sent { W.tells out.old ≡ true
+        → OnOk result (W.taken out.new ≡ W.taken out.old ++ text.old.items) }
+    ensures empty { OnOk result (text.new.items ≡ []) }
+    ensures short { W.tells out.old ≡ true
+        → OnErr result (Stops (W.taken out.old) (W.taken out.new)
+        (W.taken out.old ++ text.old.items)) }
+    ensures telling { W.tells out.new ≡ W.tells out.old }
+    ensures unmarked { OnOk result (W.failed out.new ≡ false) }
+    ensures eager { W.takes_some out.new ≡ W.takes_some out.old }
+    ensures write { IsErrOf result ToolFault.Write
+        → (W.failed out.new ≡ true) ⊎ (W.takes_some out.old ≡ false) }
+    ensures only { IfErr result IsOutput }
+{
+    if write_all(out, text.as_slice()).is_err() {
+        return Err(ToolFault::Write);
+    }
+    text.clear();
+    Ok(())
+}
