@@ -6,8 +6,9 @@
 //! mark, after which each read or write answers `Err`.
 //!
 //! The devices over memory say exactly what each call does, and can be told to fail at one call.
-//! The devices over a reader or a writer of the standard library tell no bytes, since no contract
-//! can say what a file or a terminal gives or takes.
+//! The devices over a reader or a writer of the standard library keep the one that they were given,
+//! and move what it gives or takes, where its own contract says that. They tell no bytes, since no
+//! contract can say what a file or a terminal gives or takes.
 #![tactic(auto)]
 
 mod fault;

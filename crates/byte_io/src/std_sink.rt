@@ -1,14 +1,17 @@
 //! A sink over a writer of the standard library.
 
-ghost use Rattle.std.specs.Prelude.{◌≡◌, true, false, [], IfErr, IsErr, is_err};
+ghost use Rattle.std.specs.Prelude.{◌≡◌, ◌≤◌, true, false, [], length, IfOk, IfErr, IsErr, is_err};
+ghost use Rattle.byte_io.specs.Std.{KeepsBytes, WritesThrough};
 
 use crate::fault::DeviceFault;
 use crate::sink::Sink;
 use std::io::Write;
 use std::marker::Model;
 
-/// A sink over a writer of the standard library. It tells no bytes, and any error of the writer
-/// marks it, that of an interrupted call too. In contracts it is its mark.
+/// A sink over a writer of the standard library. Any error of the writer marks it, that of an
+/// interrupted call too, and a marked sink leaves the writer alone.
+///
+/// As a `Sink` it tells no bytes. What it moves is what its writer takes, where that is known.
 ///
 /// Over a `BufWriter` a write only fills the buffer, so a caller ends with `flush`.
 #[derive(Drop)]
@@ -18,17 +21,17 @@ pub struct StdSink<W: Write + Drop> {
 }
 
 impl<W: Write + Drop> Model for StdSink<W> {
-    ghost use Rattle.std.specs.Prelude.{Bool};
+    ghost use Rattle.byte_io.specs.Std.{StdOutput};
 
-    ghost Value = { Bool };
+    ghost Value = { StdOutput W };
 
-    ghost view = { λ s. s.broken };
+    ghost view = { λ s. record { writer = s.writer; broken = s.broken } };
 }
 
 impl<W: Write + Drop> StdSink<W> {
     /// A sink that has not failed.
     pub fn new(writer: W) -> Self
-        ensures { result ≡ false }
+        ensures { result ≡ record { writer = writer; broken = false } }
     {
         StdSink {
             writer,
@@ -39,20 +42,17 @@ impl<W: Write + Drop> StdSink<W> {
     /// Passes on what the writer still buffers. An error marks the sink, and a marked sink answers
     /// `Err`.
     pub fn flush(&mut self) -> Result<(), DeviceFault>
+        ensures bytes { self.old.broken ≡ false → KeepsBytes W.contents self.old self.new }
         ensures fault { IfErr result (λ e. e ≡ DeviceFault.Broken) }
-        ensures mark { self.new ≡ is_err result }
-        ensures stuck { self.old ≡ true → IsErr result }
+        ensures mark { self.new.broken ≡ is_err result }
+        ensures stuck { self.old.broken ≡ true → IsErr result }
+        ensures still { self.old.broken ≡ true → self.new ≡ self.old }
     {
-        if self.broken {
-            return Err(DeviceFault::Broken);
+        if !self.broken && self.writer.flush().is_ok() {
+            return Ok(());
         }
-        match self.writer.flush() {
-            Ok(()) => Ok(()),
-            Err(_) => {
-                self.broken = true;
-                Err(DeviceFault::Broken)
-            }
-        }
+        self.broken = true;
+        Err(DeviceFault::Broken)
     }
 }
 
@@ -63,9 +63,16 @@ impl<W: Write + Drop> Sink for StdSink<W> {
 
     ghost taken = { λ _. [] };
 
-    ghost failed = { λ s. s };
+    ghost failed = { λ s. s.broken };
 
-    fn write(&mut self, bytes: &[u8]) -> Result<usize, DeviceFault> {
+    fn write(&mut self, bytes: &[u8]) -> Result<usize, DeviceFault>
+        ensures within { IfOk result (λ n. n ≤ length bytes.now) }
+        ensures bytes { WritesThrough W.contents self.old self.new result bytes.now }
+        ensures fault { IfErr result (λ e. e ≡ DeviceFault.Broken) }
+        ensures mark { self.new.broken ≡ is_err result }
+        ensures stuck { self.old.broken ≡ true → IsErr result }
+        ensures still { self.old.broken ≡ true → self.new ≡ self.old }
+    {
         if self.broken {
             return Err(DeviceFault::Broken);
         }

@@ -1,14 +1,17 @@
 //! A source over a reader of the standard library.
 
-ghost use Rattle.std.specs.Prelude.{◌≡◌, [], false};
+ghost use Rattle.std.specs.Prelude.{◌≡◌, ◌≤◌, [], length, true, false, is_err, IfOk, IfErr, IsErr};
+ghost use Rattle.byte_io.specs.Std.{ReadsThrough};
 
 use crate::fault::DeviceFault;
 use crate::source::Source;
 use std::io::Read;
 use std::marker::Model;
 
-/// A source over a reader of the standard library. It tells no bytes, and any error of the reader
-/// marks it, that of an interrupted call too. In contracts it is its mark.
+/// A source over a reader of the standard library. Any error of the reader marks it, that of an
+/// interrupted call too, and a marked source leaves the reader alone.
+///
+/// As a `Source` it tells no bytes. What it moves is what its reader gives, where that is known.
 #[derive(Drop)]
 pub struct StdSource<R: Read + Drop> {
     reader: R,
@@ -16,17 +19,17 @@ pub struct StdSource<R: Read + Drop> {
 }
 
 impl<R: Read + Drop> Model for StdSource<R> {
-    ghost use Rattle.std.specs.Prelude.{Bool};
+    ghost use Rattle.byte_io.specs.Std.{StdInput};
 
-    ghost Value = { Bool };
+    ghost Value = { StdInput R };
 
-    ghost view = { λ s. s.broken };
+    ghost view = { λ s. record { reader = s.reader; broken = s.broken } };
 }
 
 impl<R: Read + Drop> StdSource<R> {
     /// A source that has not failed.
     pub fn new(reader: R) -> Self
-        ensures { result ≡ false }
+        ensures { result ≡ record { reader = reader; broken = false } }
     {
         StdSource {
             reader,
@@ -40,9 +43,16 @@ impl<R: Read + Drop> Source for StdSource<R> {
 
     ghost left = { λ _. [] };
 
-    ghost failed = { λ s. s };
+    ghost failed = { λ s. s.broken };
 
-    fn read(&mut self, buffer: &mut [u8]) -> Result<usize, DeviceFault> {
+    fn read(&mut self, buffer: &mut [u8]) -> Result<usize, DeviceFault>
+        ensures within { IfOk result (λ n. n ≤ length buffer.old) }
+        ensures bytes { ReadsThrough R.remaining self.old self.new result buffer.new }
+        ensures fault { IfErr result (λ e. e ≡ DeviceFault.Broken) }
+        ensures mark { self.new.broken ≡ is_err result }
+        ensures stuck { self.old.broken ≡ true → IsErr result }
+        ensures still { self.old.broken ≡ true → (self.new ≡ self.old) × (buffer.new ≡ buffer.old) }
+    {
         if self.broken {
             return Err(DeviceFault::Broken);
         }

@@ -1,6 +1,6 @@
 //! Moving many bytes from a source or to a sink.
 
-ghost use Rattle.std.specs.Prelude.{◌≡◌, ◌≤◌, ◌++◌, length, take, drop, true, false, IfOk, IfErr, OnOk, OnErr, IsErrOf};
+ghost use Rattle.std.specs.Prelude.{◌≡◌, ◌≤◌, ◌++◌, [], length, take, drop, true, false, IfOk, IfErr, OnOk, OnErr, IsOk, IsErrOf};
 ghost use Rattle.byte_io.specs.Moved.{GivesBytes, GainsBytes, marks};
 
 use crate::fault::{DeviceFault, WriteFault};
@@ -49,6 +49,7 @@ pub fn write_all<W: Sink>(out: &mut W, bytes: &[u8]) -> Result<(), WriteFault>
     ensures eager { W.takes_some out.new ≡ W.takes_some out.old }
     ensures fault { IfErr result (λ e. W.failed out.new ≡ marks e) }
     ensures took_nothing { IsErrOf result WriteFault.TookNothing → W.takes_some out.old ≡ false }
+    ensures nothing { bytes.now ≡ [] → IsOk result × (out.new ≡ out.old) }
 {
     let mut at = 0;
     while at < bytes.len() {

@@ -36,13 +36,13 @@ module _ {V X : Type 0} (names : List (Option V)) (keys : List (Option ℕ)) (sl
       }
 
   -- a node at the place went
-  pub cleared-some : (place : ℕ) (names' : List (Option V)) (keys' : List (Option ℕ)) (slots' slots'' : List (Option X)) (key : ℕ) → IsCleared place names' keys' slots' → first ≤ place → place < 2048 → get_or keys' place None ≡ Some key → ((k : ℕ) → k ≢ key → get_or slots'' k None ≡ get_or slots' k None) →
+  pub cleared-some : (place : ℕ) (names' : List (Option V)) (keys' : List (Option ℕ)) (slots' slots'' : List (Option X)) (key : ℕ) → IsCleared place names' keys' slots' → first ≤ place → place < 2048 → get_or keys' place None ≡ Some key → get_or slots'' key None ≡ None → ((k : ℕ) → k ≢ key → get_or slots'' k None ≡ get_or slots' k None) →
       IsCleared (place + 1) names' (set keys' place None) slots''
-  cleared-some place names' keys' slots' slots'' key h after below was others =
+  cleared-some place names' keys' slots' slots'' key h after below was gone others =
       let inside : place < length keys' = omega (arith, h.kept.places) in
       record {
         same = h.same;
-        kept = drop-kept names' keys' slots' slots'' h.kept place key inside was others;
+        kept = drop-kept names' keys' slots' slots'' h.kept place key inside was others gone;
         low = λ i l. drop-elsewhere names' keys' slots' slots'' h.kept place key inside was others i (omega arith) ∙ h.low i l;
         high = λ i l. drop-elsewhere names' keys' slots' slots'' h.kept place key inside was others i (omega arith) ∙ h.high i (omega arith);
         gone = λ i l b. elim (cases_eq i place) [

@@ -21,6 +21,9 @@ module _ {X : Type 0} where
   pub no_some : (x : X) → ◌≢◌ {A = Option X} (Some x) None
   no_some x e = cc
 
+  pub some_same : (x y : X) → ◌≡◌ {A = Option X} (Some x) (Some y) → x ≡ y
+  some_same x y e = cc
+
 module _ {V X : Type 0} (names : List (Option V)) (keys : List (Option ℕ)) (slots slots' : List (Option X)) (kept : IsKept names keys slots) where
   -- what the keys of a list find stays, where each of these keys finds what it found
   pub at_place-same : (keys' : List (Option ℕ)) (i : ℕ) → get_or keys' i None ≡ get_or keys i None → ((k : ℕ) → get_or keys i None ≡ Some k → get_or slots' k None ≡ get_or slots k None) → at_place keys' slots' i ≡ at_place keys slots i
@@ -48,14 +51,19 @@ module _ {V X : Type 0} (names : List (Option V)) (keys : List (Option ℕ)) (sl
       | inr ne ↦ inr (ne, sym (get_or-set_other keys place i (Some key) None ne) ∙ e)
     ]
 
-    pub put-kept : (row p : ℕ) → place ≡ row * 32 + p → p < 32 → get_or names row None ≢ None → IsKept names (set keys place (Some key)) slots'
-    put-kept row p is l opens =
+    pub put-kept : (row p : ℕ) → place ≡ row * 32 + p → p < 32 → get_or names row None ≢ None → get_or keys place None ≡ None → IsKept names (set keys place (Some key)) slots'
+    put-kept row p is l opens free =
         record {
           rows = kept.rows;
           places = length-set keys place (Some key) ∙ kept.places;
           full = λ i k e. elim (put-cases i k e) [
             | inl h ↦ some_is _ x (ap (λ q. get_or slots' q None) h.1 ∙ changed)
             | inr h ↦ subst IsSome (sym (others k (other_key i k h.1))) (kept.full i k h.1)
+          ];
+          no_leak = λ k s. elim (cases_eq k key) [
+            | inl same ↦ (place, get_or-set_same keys place (Some key) None in_range ∙ ap Some (sym same))
+            | inr ne ↦ let at = kept.no_leak k (subst IsSome (others k ne) s) in
+                (at.0, get_or-set_other keys place at.0 (Some key) None (λ here. no_some k (sym at.1 ∙ ap (λ i. get_or keys i None) here ∙ free)) ∙ at.1)
           ];
           apart = λ i j k e f. elim (put-cases i k e) [
             | inl h ↦ elim (put-cases j k f) [
@@ -86,13 +94,16 @@ module _ {V X : Type 0} (names : List (Option V)) (keys : List (Option ℕ)) (sl
       | inr ne ↦ (ne, sym (get_or-set_other keys place i None None ne) ∙ e)
     ]
 
-    pub drop-kept : IsKept names (set keys place None) slots'
-    drop-kept =
+    pub drop-kept : get_or slots' key None ≡ None → IsKept names (set keys place None) slots'
+    drop-kept gone =
         record {
           rows = kept.rows;
           places = length-set keys place None ∙ kept.places;
           full = λ i k e. let h : (i ≢ place) × (get_or keys i None ≡ Some k) = drop-was i k e in
               subst IsSome (sym (others k (λ same. h.0 (kept.apart i place k h.1 (was ∙ ap Some (sym same)))))) (kept.full i k h.1);
+          no_leak = λ k s. let differs : k ≢ key = λ same. not_both _ s (ap (λ q. get_or slots' q None) same ∙ gone) in
+              let at = kept.no_leak k (subst IsSome (others k differs) s) in
+              (at.0, get_or-set_other keys place at.0 None None (λ here. differs (some_same k key (sym at.1 ∙ ap (λ i. get_or keys i None) here ∙ was))) ∙ at.1);
           apart = λ i j k e f. kept.apart i j k (drop-was i k e).1 (drop-was j k f).1;
           closed = λ r q s e. elim (cases_eq (r * 32 + q) place) [
             | inl same ↦ ap (λ j. get_or (set keys place None) j None) same ∙ get_or-set_same keys place None None in_range
@@ -116,6 +127,10 @@ module _ {V X : Type 0} (names : List (Option V)) (keys : List (Option ℕ)) (sl
             | inl same ↦ some_is _ x (ap (λ q. get_or slots' q None) same ∙ changed)
             | inr ne ↦ subst IsSome (sym (others k ne)) (kept.full i k e)
           ];
+          no_leak = λ k s. elim (cases_eq k key) [
+            | inl same ↦ (place, was ∙ ap Some (sym same))
+            | inr ne ↦ kept.no_leak k (subst IsSome (others k ne) s)
+          ];
           apart = kept.apart;
           closed = kept.closed;
         }
@@ -128,6 +143,7 @@ module _ {V X : Type 0} (names : List (Option V)) (keys : List (Option ℕ)) (sl
         rows = length-set names row (Some v) ∙ kept.rows;
         places = kept.places;
         full = kept.full;
+        no_leak = kept.no_leak;
         apart = kept.apart;
         closed = λ r p s e. elim (cases_eq r row) [
           | inl same ↦ let at : get_or (set names row (Some v)) r None ≡ Some v = ap (λ j. get_or (set names row (Some v)) j None) same ∙ get_or-set_same names row (Some v) None l in
@@ -142,6 +158,7 @@ module _ {V X : Type 0} (names : List (Option V)) (keys : List (Option ℕ)) (sl
         rows = length-set names row None ∙ kept.rows;
         places = kept.places;
         full = kept.full;
+        no_leak = kept.no_leak;
         apart = kept.apart;
         closed = λ r p s e. elim (cases_eq r row) [
           | inl same ↦ ap (λ j. get_or keys (j * 32 + p) None) same ∙ none p s

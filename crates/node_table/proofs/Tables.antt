@@ -15,7 +15,8 @@ use Rattle.node_table.proofs.Numbered.{get-above, numbered_none}
 use Rattle.node_table.specs.Nodes.{NodeSeen, ClientNodes, ports_in, filters_in, opened, name_of, is_open, node_in, node_at, put_node, drop_node, put_client, with_node, without_node, with_body, with_its_body, put_seen}
 use Rattle.node_table.specs.Kept.{under, at_place, place_in, IsPlace, IsKept, client_kept, clients_kept}
 use Rattle.node_table.proofs.Clients.{get-clients, is_some-client, name_of-client, found, small_place, put_kept, drop_kept, without_none, open_kept, close_kept}
-use Rattle.node_table.proofs.Places.{get_within, some_is, no_some, put-here, put-elsewhere, put-kept, drop-here, drop-elsewhere, write-here, write-elsewhere}
+use Rattle.node_table.proofs.Places.{get_within, some_is, no_some, not_both, put-here, put-elsewhere, put-kept, drop-here, drop-elsewhere, write-here, write-elsewhere}
+use Rattle.node_table.proofs.Clearing.{none_if_not}
 
 pub is_some-map : {A B : Type 0} (f : A → B) (o : Option A) → is_some (option_map f o) ≡ is_some o
 is_some-map f None = refl
@@ -97,13 +98,17 @@ module _ {V P : Type 0} (items : V → List ℕ) (names : List (Option V)) (keys
         let inside : place < length keys = place_in_range addr row place at in
         put_is x _ slots' open_now (put-here names keys slots slots' kept place key x inside vacant changed others) (put-elsewhere names keys slots slots' kept place key x inside vacant changed others)
 
-    pub created-kept : (key : ℕ) (x : NodeSeen P) (slots' : List (Option (NodeSeen P))) → get_or names row None ≢ None → get_or slots key None ≡ None → get_or slots' key None ≡ Some x → ((k : ℕ) → k ≢ key → get_or slots' k None ≡ get_or slots k None) → IsKept names (set keys place (Some key)) slots'
-    created-kept key x slots' open_now vacant changed others =
-        put-kept names keys slots slots' kept place key x (place_in_range addr row place at) vacant changed others row (place_in addr.node) at.is (small_place addr.node at.small) open_now
+    pub created-kept : (key : ℕ) (x : NodeSeen P) (slots' : List (Option (NodeSeen P))) → get_or names row None ≢ None → get_or keys place None ≡ None → get_or slots key None ≡ None → get_or slots' key None ≡ Some x → ((k : ℕ) → k ≢ key → get_or slots' k None ≡ get_or slots k None) → IsKept names (set keys place (Some key)) slots'
+    created-kept key x slots' open_now free vacant changed others =
+        put-kept names keys slots slots' kept place key x (place_in_range addr row place at) vacant changed others row (place_in addr.node) at.is (small_place addr.node at.small) open_now free
 
     -- a node that is there
     pub there : (key : ℕ) → get_or keys place None ≡ Some key → node_at m addr ≡ get_or slots key None
     there key e = node_is addr row place at ∙ ap (under slots) e
+
+    -- where there is no node there is no key
+    pub no_key : node_at m addr ≡ None → get_or keys place None ≡ None
+    no_key none = none_if_not _ (λ k e. not_both _ (kept.full place k e) (sym (there k e) ∙ none))
 
     -- a node with another body
     pub written : (key : ℕ) (x : NodeSeen P) (w : P) (slots' : List (Option (NodeSeen P))) → get_or keys place None ≡ Some key → get_or slots key None ≡ Some x → get_or slots' key None ≡ Some (with_its_body w x) → ((k : ℕ) → k ≢ key → get_or slots' k None ≡ get_or slots k None) → shown items names keys slots' ≡ with_body m addr w
@@ -209,12 +214,13 @@ module _ {V P : Type 0} (items : V → List ℕ) (names : List (Option V)) (keys
 
 -- a table in which nothing is yet
 module _ {V P : Type 0} (items : V → List ℕ) (names : List (Option V)) (keys : List (Option ℕ)) (slots : List (Option (NodeSeen P))) (no_names : (i : ℕ) → get_or names i None ≡ None) (no_keys : (i : ℕ) → get_or keys i None ≡ None) where
-  pub new-kept : length names ≡ 64 → length keys ≡ 2048 → IsKept names keys slots
-  new-kept l s =
+  pub new-kept : length names ≡ 64 → length keys ≡ 2048 → ((k : ℕ) → get_or slots k None ≡ None) → IsKept names keys slots
+  new-kept l s vacant =
       record {
         rows = l;
         places = s;
         full = λ i k e. absurd (no_some k (sym e ∙ no_keys i));
+        no_leak = λ k s. absurd (not_both _ s (vacant k));
         apart = λ i j k e f. absurd (no_some k (sym e ∙ no_keys i));
         closed = λ row p h e. no_keys (row * 32 + p);
       }

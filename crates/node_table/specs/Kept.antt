@@ -52,10 +52,16 @@ module _ {P : Type 0} where
   abbrev pub clients_kept : (ℕ → Option (List ℕ)) → (ℕ → Option (NodeSeen P)) → FinMap nat_cmp (ClientNodes P)
   clients_kept name node = numbered 128 64 (λ row. option_map (client_kept node row) (name row))
 
--- No key stands at two places, something stands under each, and who is not open has none.
+-- some place has the key
+abbrev pub IsSomewhere : List (Option ℕ) → ℕ → Type 0
+IsSomewhere keys key = (i : ℕ) × (slice_index_or keys i None ≡ Some key)
+
+-- No key stands at two places, and who is not open has none. Something stands under each key that
+-- stands at a place, and nothing under any other.
 pub record IsKept {V X : Type 0} (names : List (Option V)) (keys : List (Option ℕ)) (slots : List (Option X)) : Type 0 where
   pub rows : length names ≡ 64
   pub places : length keys ≡ 2048
   pub full : (i key : ℕ) → slice_index_or keys i None ≡ Some key → IsSome (slice_index_or slots key None)
+  pub no_leak : (key : ℕ) → IsSome (slice_index_or slots key None) → IsSomewhere keys key
   pub apart : (i j key : ℕ) → slice_index_or keys i None ≡ Some key → slice_index_or keys j None ≡ Some key → i ≡ j
   pub closed : (row p : ℕ) → p < 32 → slice_index_or names row None ≡ None → slice_index_or keys (row * 32 + p) None ≡ None

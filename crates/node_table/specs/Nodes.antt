@@ -17,6 +17,10 @@ pub record NodeSeen (P : Type 0) : Type 0 where
   pub caps : Caps
   pub body : P
 
+-- a node of these parts
+abbrev pub node_seen : {P : Type 0} → List ℕ → Caps → P → NodeSeen P
+node_seen name caps body = record { name = name; caps = caps; body = body }
+
 -- a client's name, and its nodes by their numbers
 pub record ClientNodes (P : Type 0) : Type 0 where
   pub name : List ℕ

@@ -1,6 +1,6 @@
 //! What a table answers in place of a client or a node.
 
-use std::alloc::AllocError;
+use memory::OutOfMemory;
 use thiserror::Error;
 
 /// Why a client was not opened, in the order in which it is tested.
@@ -14,13 +14,13 @@ pub enum OpenFault {
     OutOfMemory,
 }
 
-impl From<AllocError> for OpenFault {
+impl From<OutOfMemory> for OpenFault {
     ghost use Rattle.std.specs.Prelude.{◌≡◌};
     ghost use Rattle.node_table.specs.declared.fault.OpenFault.TheVariants.{OutOfMemory};
 
     ghost from_gives = { λ _ e. e ≡ OutOfMemory };
 
-    fn from(_error: AllocError) -> OpenFault {
+    fn from(_error: OutOfMemory) -> OpenFault {
         OpenFault::OutOfMemory
     }
 }

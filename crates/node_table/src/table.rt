@@ -6,7 +6,7 @@ ghost use Rattle.std.specs.Borrow.{sem};
 ghost use Rattle.std.specs.FinMap as map;
 ghost use Rattle.node_table.specs.Names.{is_name};
 ghost use Rattle.node_table.specs.Capabilities.{permits};
-ghost use Rattle.node_table.specs.Nodes.{opened, name_of, is_name_for, is_open, ports_in, filters_in, node_at, with_node, without_node, bits_of};
+ghost use Rattle.node_table.specs.Nodes.{opened, name_of, node_seen, is_name_for, is_open, ports_in, filters_in, node_at, with_node, without_node, bits_of};
 ghost use Rattle.node_table.specs.Listing.{IsNext, NoneFrom};
 ghost use Rattle.node_table.specs.Faults.{body_of};
 
@@ -16,14 +16,16 @@ use crate::info::NodeInfo;
 use crate::name::is_name;
 use crate::number::{Addr, ClientId, FilterNo, Node, PortNo};
 use crate::place::{place_of, row_of};
+use memory::OutOfMemory;
 use slab::Slab;
-use std::alloc::Global;
+use std::alloc::{AllocFailed, Global};
 use std::array;
 use std::marker::Model;
 
 /// The clients that are open, each with its name and its nodes.
 ///
-/// What is at an address is found in constant time. Only `open_client` and `create` take memory.
+/// What is at an address is found in constant time. Only the calls that open a client or make a node take memory, and
+/// that of a node that went is given back or serves a later one.
 #[derive(Drop)]
 pub struct NodeTable<P> {
     alloc: Global,
@@ -96,6 +98,18 @@ impl<P> NodeTable<P> {
         if !is_name(name) {
             return Err(OpenFault::BadName);
         }
+        self.add_client(client, name)?;
+        Ok(())
+    }
+
+    /// Opens a client with no nodes, as `open_client` does, for a caller that has made its tests. `Err` leaves all as it
+    /// was.
+    pub fn add_client(&mut self, client: ClientId, name: &[u8]) -> Result<(), OutOfMemory>
+        requires fresh { is_open self.old client ≡ false }
+        requires named { is_name name.now ≡ true }
+        ensures ok { OnOk result (self.new ≡ map.insert self.old client (opened name.now)) }
+        ensures err { OnErr result (self.new ≡ self.old) }
+    {
         let name = Vec::from_slice(self.alloc, name)?;
         self.names[row_of(client)] = Some(name);
         Ok(())
@@ -147,7 +161,7 @@ impl<P> NodeTable<P> {
         caps: Caps,
         body: P,
     ) -> Result<(), CreateFault<P>>
-        ensures ok { OnOk result (self.new ≡ with_node self.old addr (record { name = name.now; caps = caps; body = body })) }
+        ensures ok { OnOk result (self.new ≡ with_node self.old addr (node_seen name.now caps body)) }
         ensures err { OnErr result (self.new ≡ self.old) }
         ensures body_back { IfErr result (λ e. body_of e ≡ body) }
         ensures not_open { IsErrOf result (CreateFault.NotOpen body) ↔ (is_open self.old addr.client ≡ false) }
@@ -163,15 +177,39 @@ impl<P> NodeTable<P> {
         if self.find(&addr).is_some() {
             return Err(CreateFault::Exists(body));
         }
+        match self.add_node(addr, name, caps, body) {
+            Ok(()) => Ok(()),
+            Err(failed) => Err(CreateFault::OutOfMemory(failed.value)),
+        }
+    }
+
+    /// Makes a node, as `create` does, for a caller that has made its tests. `Err` leaves all as it was and gives the body
+    /// back.
+    pub fn add_node(
+        &mut self,
+        addr: Addr,
+        name: &[u8],
+        caps: Caps,
+        body: P,
+    ) -> Result<(), AllocFailed<P>>
+        requires open { is_open self.old addr.client ≡ true }
+        requires named { is_name_for addr.node name.now ≡ true }
+        requires fresh { node_at self.old addr ≡ None }
+        ensures ok { OnOk result (self.new ≡ with_node self.old addr (node_seen name.now caps body)) }
+        ensures err { OnErr result (self.new ≡ self.old) }
+        ensures body_back { IfErr result (λ failed. failed.value ≡ body) }
+    {
         let Ok(name) = Vec::from_slice(self.alloc, name) else {
-            return Err(CreateFault::OutOfMemory(body));
+            return Err(AllocFailed { value: body });
         };
         match self.nodes.insert(NodeInfo::new(name, caps, body)) {
             Ok(key) => {
                 self.keys[place_of(&addr)] = Some(key);
                 Ok(())
             }
-            Err(failed) => Err(CreateFault::OutOfMemory(failed.value.into_body())),
+            Err(failed) => Err(AllocFailed {
+                value: failed.value.into_body(),
+            }),
         }
     }
 

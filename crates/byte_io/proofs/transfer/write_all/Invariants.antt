@@ -8,6 +8,7 @@ invariant-loop-at g l = record {
   sound : g.W.Sink.failed l.out ≡ false;
   telling : g.W.Sink.tells l.out ≡ g.W.Sink.tells l.fn.out;
   eager : g.W.Sink.takes_some l.out ≡ g.W.Sink.takes_some l.fn.out;
+  idle : length l.bytes ≡ 0 → l.out ≡ l.fn.out;
   written : g.W.Sink.tells l.fn.out ≡ true → g.W.Sink.taken l.out ≡ g.W.Sink.taken l.fn.out ++ take l.at l.bytes;
 }
 

@@ -17,7 +17,7 @@ remove-requires g c = c.loop-place.invariant.kept.full _ _ c.in-Some.is
 
 pub loop-place-preserved : goal.loop-place-preserved
 loop-place-preserved g c = elim c.match-self-place.branch [
-  | in-Some w ↦ rw w.self-inside-is (cleared-some _ _ _ _ _ _ _ _ _ _ c.loop-place.invariant c.loop-place.auto.place (omega (arith, c.row_of-row.ensures.small, c.loop-place-test.true)) w.in-Some.is w.remove.ensures.updates.others)
+  | in-Some w ↦ rw w.self-inside-is (cleared-some _ _ _ _ _ _ _ _ _ _ c.loop-place.invariant c.loop-place.auto.place (omega (arith, c.row_of-row.ensures.small, c.loop-place-test.true)) w.in-Some.is w.remove.ensures.updates.changed w.remove.ensures.updates.others)
   | in_default w ↦ rw w.self-inside-is (cleared-none _ _ _ _ _ _ _ _ c.loop-place.invariant (none_if_not _ w.in_default.not-Some))
 ]
 

@@ -1,17 +1,18 @@
-use Rattle.std.proofs.Common.{◌∙◌, ℕ, List, ap, sym}
+use Rattle.std.proofs.Common.{◌∙◌, ℕ, List, ap}
 use Rattle.node_table.specs.Nodes.{with_node}
-use Rattle.node_table.proofs.Tables.{open_row, created, created-kept}
-use Rattle.node_table.proofs.table.NodeTable.create.Goals as goal
+use Rattle.node_table.proofs.Tables.{open_row, no_key, created, created-kept}
+use Rattle.node_table.proofs.table.NodeTable.add_node.Goals as goal
 
 pub invariant_of-self : goal.invariant_of-self
 invariant_of-self g c =
     let at = c.place_of.ensures.place.1 in
-    created-kept _ _ _ _ _ c.self.invariant c.self.view_is _ _ _ at _ _ _ (open_row _ _ _ _ _ c.self.invariant c.self.view_is _ _ at.client at.below (sym c.is_open.ensures ∙ c.if-not-is_open.false))
+    created-kept _ _ _ _ _ c.self.invariant c.self.view_is _ _ _ at _ _ _ (open_row _ _ _ _ _ c.self.invariant c.self.view_is _ _ at.client at.below c.requires.open)
+    (no_key _ _ _ _ _ c.self.invariant c.self.view_is _ _ _ at c.requires.fresh)
     c.in-Ok-insert.ensures.was_vacant c.in-Ok-insert.ensures.updates.changed c.in-Ok-insert.ensures.updates.others
 
 pub returns-in-Ok-insert-clause-ok : goal.returns-in-Ok-insert-clause-ok
 returns-in-Ok-insert-clause-ok g c =
     let at = c.place_of.ensures.place.1 in
-    created _ _ _ _ _ c.self.invariant c.self.view_is _ _ _ at _ _ _ (open_row _ _ _ _ _ c.self.invariant c.self.view_is _ _ at.client at.below (sym c.is_open.ensures ∙ c.if-not-is_open.false))
+    created _ _ _ _ _ c.self.invariant c.self.view_is _ _ _ at _ _ _ (open_row _ _ _ _ _ c.self.invariant c.self.view_is _ _ at.client at.below c.requires.open)
     c.in-Ok-insert.ensures.was_vacant c.in-Ok-insert.ensures.updates.changed c.in-Ok-insert.ensures.updates.others
     ∙ ap (with_node c.args.self.now c.args.addr) (c.new.ensures ∙ ap (λ (n : List ℕ). record { name = n; caps = c.args.caps; body = c.args.body }) c.in-Ok.ensures.items)
