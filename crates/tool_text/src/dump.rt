@@ -48,6 +48,7 @@ pub fn dump_text<R: Source, W: Sink>(
         → IsRefusedBy result x }
     ensures memory { result ≢ Err (ToolFault.Smf smf.OutOfMemory) }
     ensures read { IsErrOf result ToolFault.Read → R.failed input.new ≡ true }
+    ensures unread { IsErrOf result ToolFault.OutOfMemory → R.failed input.new ≡ false }
     ensures write { IsErrOf result ToolFault.Write
         → (W.failed out.new ≡ true) ⊎ (W.takes_some out.old ≡ false) }
 {
