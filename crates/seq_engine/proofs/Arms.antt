@@ -28,7 +28,7 @@ use Rattle.seq_state.specs.declared.log.Delivery.{Delivery}
 use Rattle.seq_ports.specs.declared.log.Reply.TheVariants.{Done, Messages, Refused}
 use Rattle.seq_ports.specs.State.{Client, State}
 use Rattle.seq_ports.specs.Own.{Own, Row, own_command, first_refusal, opened, changed, put_port, drop_port, feed_port, fed_of, has_port, port_of, no_port}
-use Rattle.seq_ports.specs.Step.{port_addr, copies, sent, Stepped, unless, loses, put, with_own, after_own, after_row, refusal_of, command_step, IsRefusal}
+use Rattle.seq_ports.specs.Step.{port_addr, copies, send_copies, Stepped, unless, loses, put, with_own, after_own, after_row, refusal_of, command_step, IsRefusal}
 use Rattle.seq_ports.proofs.Kin.{get-put}
 
 -- ---- where nothing goes
@@ -74,7 +74,7 @@ port_lost actor port e =
     (number_turned actor e.source.client) (number_turned actor e.target.client)
 
 -- the answer of a row that is not refused
-own_answer : (s t : State) (moment actor : ℕ) (row : Row) (out : StepOut) → row.refusal ≡ None → t ≡ with_own s actor row.own → out.reply ≡ row.own.reply → out.delivered ≡ sent s.edges moment actor row.own.sends → IsAnswer out t (after_row s moment actor row)
+own_answer : (s t : State) (moment actor : ℕ) (row : Row) (out : StepOut) → row.refusal ≡ None → t ≡ with_own s actor row.own → out.reply ≡ row.own.reply → out.delivered ≡ send_copies s.edges moment actor row.own.sends → IsAnswer out t (after_row s moment actor row)
 own_answer s t moment actor row out n e r d =
     let taken : after_own s moment actor row.own ≡ after_row s moment actor row = ap (λ o. unless o s (after_own s moment actor row.own)) (sym n) in
     (e ∙ ap (λ x. x.state) taken, r ∙ ap (λ x. x.reply) taken, d ∙ ap (λ x. x.delivered) taken)
@@ -114,13 +114,13 @@ module _ (s : State) (moment actor : ℕ) (out : StepOut) where
   pub feeding : (clients : FinMap nat_cmp Client) (port : ℕ) (bytes : List ℕ) (messages : List (List ℕ)) (count : ℕ) → refusal_of s actor (Bytes port bytes) ≡ None →
       clients ≡ put s.clients actor (changed (FinMap.get s.clients actor) (feed_port bytes (port_of (FinMap.get s.clients actor) port) port)) →
       messages ≡ reading (fed_of (port_of (FinMap.get s.clients actor) port) ++ bytes) → count ≡ length (reading (fed_of (port_of (FinMap.get s.clients actor) port) ++ bytes)) →
-      out.reply ≡ Messages count → out.delivered ≡ sent s.edges moment actor (map (λ m. (port, m)) messages) →
+      out.reply ≡ Messages count → out.delivered ≡ send_copies s.edges moment actor (map (λ m. (port, m)) messages) →
       IsAnswer out (record { clients = clients; edges = s.edges }) (command_step s moment actor (Bytes port bytes))
   unfolding own_command
   feeding clients port bytes messages count n e m l r d =
       own_answer s (record { clients = clients; edges = s.edges }) moment actor (own_command (FinMap.get s.clients actor) (Bytes port bytes)) out n
       (with_kept s clients actor (own_command (FinMap.get s.clients actor) (Bytes port bytes)).own refl e) (r ∙ ap Messages l)
-      (d ∙ ap (λ (ms : List (List ℕ)). sent s.edges moment actor (map (λ m. (port, m)) ms)) m)
+      (d ∙ ap (λ (ms : List (List ℕ)). send_copies s.edges moment actor (map (λ m. (port, m)) ms)) m)
 
   pub sending : (port : ℕ) (message : List ℕ) → refusal_of s actor (Send port message) ≡ None → out.reply ≡ Done → out.delivered ≡ copies s.edges moment (port_addr actor port) message →
       IsAnswer out s (command_step s moment actor (Send port message))

@@ -3,7 +3,7 @@
 ghost use Rattle.std.specs.Prelude.{◌≡◌, [], ◌++◌, map, None, true, IsOk, OnOk, IfOk, option_to_list};
 ghost use Rattle.seq_engine.specs.Listing.{listing};
 ghost use Rattle.seq_ports.specs.State.{start};
-ghost use Rattle.seq_ports.specs.Step.{port_addr, delivery, copies, sent, refusal_of, command_step};
+ghost use Rattle.seq_ports.specs.Step.{port_addr, delivery, copies, send_copies, refusal_of, command_step};
 
 use crate::clients::{Clients, port_addr};
 use crate::listing::{list_clients, list_edges};
@@ -194,7 +194,7 @@ impl Patchbay {
         port: PortNo,
         messages: &[Message],
     ) -> Result<Items<Delivery>, OutOfMemory>
-        ensures { IfOk result (λ ds. ds ≡ sent self.now.edges turn.moment turn.actor (map (λ m. (port, m)) messages.now)) }
+        ensures { IfOk result (λ ds. ds ≡ send_copies self.now.edges turn.moment turn.actor (map (λ m. (port, m)) messages.now)) }
     {
         let mut delivered = Vec::new(self.alloc);
         let source = port_addr(turn.actor, port);

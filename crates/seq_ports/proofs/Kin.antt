@@ -24,7 +24,7 @@ use Rattle.seq_ports.specs.declared.log.LogEntry.TheVariants.{Delivered, Replied
 use Rattle.seq_ports.specs.declared.log.Reply.{Reply}
 use Rattle.seq_ports.specs.State.{Client, State, start}
 use Rattle.seq_ports.specs.Own.{Own, Row, first_refusal, own_command}
-use Rattle.seq_ports.specs.Step.{port_addr, delivery, copies, sent, Stepped, unless, loses, put, after_own, after_row, caps_at, node_caps, permitted, patch_refusal, connect_refusal, disconnect_refusal, connected, disconnected, after_patch, command_step, step, log_from, IsRefusal}
+use Rattle.seq_ports.specs.Step.{port_addr, delivery, copies, send_copies, Stepped, unless, loses, put, after_own, after_row, caps_at, node_caps, permitted, patch_refusal, connect_refusal, disconnect_refusal, connected, disconnected, after_patch, command_step, step, log_from, IsRefusal}
 use Rattle.seq_ports.specs.Circle.{only, is_inner, inner_node, aims_outside, IsClosedAt, IsClosedFrom, Sight, Came, Told, Outside, sight, sight_of_reply, is_to, view, IsolationLaw}
 use Rattle.seq_state.proofs.Lists.{both_left, both_right, filter-filter, filter-wider, list_any-wider, filter-under, filter-never, list_all-one, not_by, filter-outside, refuted, list_all-filter, list_all-append, filter-append, filter-filter_map, filter-flat_map, flat_map-agree, flat_map-none, flat_map-append, slice_get-drop, drop-next}
 
@@ -155,7 +155,7 @@ module _ (owner : ℕ) (member : ℕ → Bool) where
       stranger_apart e a b c = let here : actor ≡ e.source.client = same_client (port_addr actor port) e.source a in false≢true (sym c ∙ ap member here ∙ b)
 
   -- what the owner hears of all that a command sends
-  pub heard_sent : member owner ≡ true → (s t : State) (moment actor : ℕ) (sends : List (ℕ × List ℕ)) → Kin s t → heard (sent s.edges moment actor sends) ≡ heard (sent t.edges moment actor sends)
+  pub heard_sent : member owner ≡ true → (s t : State) (moment actor : ℕ) (sends : List (ℕ × List ℕ)) → Kin s t → heard (send_copies s.edges moment actor sends) ≡ heard (send_copies t.edges moment actor sends)
   unfolding heard
   heard_sent o s t moment actor sends k =
       let f : List Edge → ℕ × List ℕ → List Delivery = λ es m. copies es moment (port_addr actor m.0) m.1 in
@@ -166,7 +166,7 @@ module _ (owner : ℕ) (member : ℕ → Bool) where
       ∙ sym (heard_copies o t.edges moment (port_addr actor m.0) m.1)) sends
       ∙ sym (filter-flat_map (is_to owner) (f t.edges) sends)
 
-  pub heard_none : member owner ≡ true → (s : State) (moment actor : ℕ) (sends : List (ℕ × List ℕ)) → member actor ≡ false → Within s → heard (sent s.edges moment actor sends) ≡ []
+  pub heard_none : member owner ≡ true → (s : State) (moment actor : ℕ) (sends : List (ℕ × List ℕ)) → member actor ≡ false → Within s → heard (send_copies s.edges moment actor sends) ≡ []
   unfolding heard
   heard_none o s moment actor sends m w =
       filter-flat_map (is_to owner) (λ n. copies s.edges moment (port_addr actor n.0) n.1) sends

@@ -39,8 +39,8 @@ copies edges moment source message =
     filter_map (λ e. delivery moment message e.target.client e.target.node) (filter (λ e. same source e.source) edges)
 
 -- all that a command sends
-abbrev pub sent : List Edge → ℕ → ℕ → List (ℕ × List ℕ) → List Delivery
-sent edges moment actor sends = flat_map (λ m. copies edges moment (port_addr actor m.0) m.1) sends
+abbrev pub send_copies : List Edge → ℕ → ℕ → List (ℕ × List ℕ) → List Delivery
+send_copies edges moment actor sends = flat_map (λ m. copies edges moment (port_addr actor m.0) m.1) sends
 
 -- ---- settling
 
@@ -81,7 +81,7 @@ with_own s actor own =
 
 abbrev pub after_own : State → ℕ → ℕ → Own → Stepped
 after_own s moment actor own =
-    record { state = with_own s actor own; delivered = sent s.edges moment actor own.sends; reply = own.reply }
+    record { state = with_own s actor own; delivered = send_copies s.edges moment actor own.sends; reply = own.reply }
 
 abbrev pub after_row : State → ℕ → ℕ → Row → Stepped
 after_row s moment actor row = unless row.refusal s (after_own s moment actor row.own)

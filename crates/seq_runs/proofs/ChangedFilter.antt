@@ -1,7 +1,6 @@
--- The run `changed_filter`, input by input.
-use Rattle.std.proofs.Common.{◌≡◌, pos, negsuc, List, [], ◌∷◌, drop, Some, None, refl}
+-- The run `changed_filter`, step by step.
+use Rattle.std.proofs.Common.{pos, negsuc, false, List, [], ◌∷◌, ◌++◌, Some, None, refl}
 use Rattle.std.specs.Prelude.{codes}
-use Rattle.std.specs.FinMap
 use Rattle.midi_wire.specs.Kinds.{kind_of_status}
 use Rattle.midi_wire.specs.Messages.{begins}
 use Rattle.midi_wire.specs.Readings.{reading, rest}
@@ -9,210 +8,97 @@ use Rattle.route_filter.specs.Worked.{moved_by}
 use Rattle.node_table.specs.Addresses.{same_node}
 use Rattle.node_table.specs.declared.number.Node.TheVariants.{Filter}
 use Rattle.patch_graph.specs.Edges.{most_sources}
-use Rattle.seq_state.specs.declared.input.Command.TheVariants.{Open, CreatePort, CreateFilter, SetFilter, DeleteFilter, Connect, Bytes}
-use Rattle.seq_state.specs.declared.input.Input.{Input}
-use Rattle.seq_state.specs.declared.log.LogEntry.{LogEntry}
-use Rattle.seq_state.specs.declared.log.LogEntry.TheVariants.{Delivered, Replied}
-use Rattle.seq_state.specs.declared.log.Reply.TheVariants.{Done, Messages}
-use Rattle.seq_state.specs.State.{State, Client, start}
-use Rattle.seq_state.specs.Own.{Own, kept, new_client}
-use Rattle.seq_state.specs.Table.{command_row, connected}
-use Rattle.seq_state.specs.Step.{sent, send_copies, port_addr, step, log_from, with_own}
-use Rattle.seq_runs.specs.Rows.{at, caps, filter_addr, note, came, waits}
-use Rattle.seq_state.proofs.Effects.{step-connects}
-use Rattle.seq_runs.proofs.Beginnings.{i0, s1, step0, i1, a1, s2, step1}
-use Rattle.seq_runs.proofs.Worked.{to, settled_to, moved, with_own-moved, own-step, patch-step, log-step, log-end, settle-still, ways, paths-ways, finds}
+use Rattle.seq_state.specs.declared.input.Command.TheVariants.{CreatePort, CreateFilter, SetFilter, DeleteFilter}
+use Rattle.seq_state.specs.declared.log.Reply.TheVariants.{Messages}
+use Rattle.seq_state.specs.State.{Client, State, start}
+use Rattle.seq_state.specs.Own.{new_filter, put_filter}
+use Rattle.seq_state.specs.Table.{command_row}
+use Rattle.seq_state.specs.Step.{Stepped, port_addr}
+use Rattle.seq_runs.specs.Rows.{caps, filter_addr, note, came, waits, changed_filter, ChangedFilter}
+use Rattle.seq_runs.proofs.Traces.{Trace, ends, thus, quiet, trace-log}
+use Rattle.seq_runs.proofs.CommandSteps.{without, holding, pooled, filled, joined, still, opens, changes, gives-up, connects, feeds}
+use Rattle.seq_runs.proofs.Beginnings.{nothing-pending, sender, ready, sender_steps, becomes-sender, with_fed, listener, arrived, settled_in}
+use Rattle.seq_runs.proofs.Worked.{to, moved, ways, paths-ways, finds}
 
-abbrev i2 : Input
-i2 = at 0 128 (CreateFilter 0 (caps 99) (moved_by (pos 0)))
+abbrev s2 : State
+s2 = ready start 128 (codes "a") 8
 
+-- the owner of the filter, as it feeds its port and changes the filter
 abbrev a2 : Client
-a2 = record a1 { filters = FinMap.insert a1.filters 0 (record { caps = caps 99; rule = moved_by (pos 0) }) }
-
-abbrev o2 : Own
-o2 = kept (Some a2)
-
-abbrev s3 : State
-s3 = moved s2 128 None o2
-
-step2 : step [] s2 i2 ≡ to s3 [] Done
-unfolding command_row
-step2 = own-step [] s2 s2 i2 [] (settle-still s2 0 refl) o2 s3 s3 [] (simp finds) (with_own-moved s2 128 None o2 (λ p. refl)) refl
-
-abbrev i3 : Input
-i3 = at 0 128 (Connect (port_addr 128 0) (filter_addr 128 0))
-
-abbrev s4 : State
-s4 = record s3 { edges = connected (port_addr 128 0) (filter_addr 128 0) s3.edges }
-
-step3 : step [] s3 i3 ≡ to s4 [] Done
-unfolding most_sources command_row
-step3 = patch-step [] s3 s3 i3 [] (settle-still s3 0 refl) (connected (port_addr 128 0) (filter_addr 128 0)) (step-connects [] s3 i3.moment 128 (port_addr 128 0) (filter_addr 128 0)) (simp finds)
-
-abbrev i4 : Input
-i4 = at 0 129 (Open (codes "b") 8 8)
-
-abbrev b0 : Client
-b0 = new_client (codes "b") 8 8
-
-abbrev o4 : Own
-o4 = record (kept (Some b0)) { pool = λ p. Some (record { size = 8; waiting = []; lost = 0 }) }
-
-abbrev s5 : State
-s5 = with_own s4 129 None o4
-
-step4 : step [] s4 i4 ≡ to s5 [] Done
-unfolding command_row
-step4 = own-step [] s4 s4 i4 [] (settle-still s4 0 refl) o4 s5 s5 [] (simp finds) refl refl
-
-abbrev i5 : Input
-i5 = at 0 129 (CreatePort 0 (codes "in") (caps 66))
-
-abbrev b1 : Client
-b1 = record b0 { ports = FinMap.insert b0.ports 0 (record { name = codes "in"; caps = caps 66; fed = [] }) }
-
-abbrev o5 : Own
-o5 = kept (Some b1)
-
-abbrev s6 : State
-s6 = moved s5 129 None o5
-
-step5 : step [] s5 i5 ≡ to s6 [] Done
-unfolding command_row
-step5 = own-step [] s5 s5 i5 [] (settle-still s5 0 refl) o5 s6 s6 [] (simp finds) (with_own-moved s5 129 None o5 (λ p. refl)) refl
-
-abbrev i6 : Input
-i6 = at 1 129 (Connect (filter_addr 128 0) (port_addr 129 0))
-
-abbrev s7 : State
-s7 = record s6 { edges = connected (filter_addr 128 0) (port_addr 129 0) s6.edges }
-
-step6 : step [] s6 i6 ≡ to s7 [] Done
-unfolding most_sources command_row
-step6 = patch-step [] s6 s6 i6 [] (settle-still s6 1 refl) (connected (filter_addr 128 0) (port_addr 129 0)) (step-connects [] s6 i6.moment 129 (filter_addr 128 0) (port_addr 129 0)) (simp finds)
-
-abbrev i7 : Input
-i7 = at 4 128 (Bytes 0 (0x90 ∷ 0x3C ∷ 0x40 ∷ []))
+a2 = put_filter 0 (Some (new_filter (caps 99) (moved_by (pos 0)))) (sender (codes "a") 8)
 
 abbrev a3 : Client
-a3 = record a2 { ports = FinMap.insert a2.ports 0 (record { name = codes "out"; caps = caps 33; fed = 0x90 ∷ [] }) }
-
-abbrev o7 : Own
-o7 = record (kept (Some a3)) { reply = λ p. Messages 1; sends = (0, note 0x3C) ∷ [] }
-
-abbrev v7 : State
-v7 = moved s7 128 None o7
-
-abbrev s8 : State
-s8 = record v7 { pools = FinMap.insert s7.pools 129 (record { size = 8; waiting = waits 4 0 (note 0x3C) ∷ []; lost = 0 }) }
-
-sends7 : sent v7 (send_copies s7 4 128 o7.sends) ≡ settled_to s8 (came 4 129 0 (note 0x3C) ∷ [])
-unfolding ways begins kind_of_status
-sends7 = simp (finds, paths-ways)
-
-step7 : step [] s7 i7 ≡ to s8 (came 4 129 0 (note 0x3C) ∷ []) (Messages 1)
-unfolding command_row reading rest begins
-step7 = own-step [] s7 s7 i7 [] (settle-still s7 4 refl) o7 v7 s8 (came 4 129 0 (note 0x3C) ∷ []) (simp finds) (with_own-moved s7 128 None o7 (λ p. refl)) sends7
-
-abbrev i8 : Input
-i8 = at 5 128 (SetFilter 0 (moved_by (negsuc 60)))
+a3 = with_fed a2 (0x90 ∷ [])
 
 abbrev a4 : Client
-a4 = record a3 { filters = FinMap.insert a3.filters 0 (record { caps = caps 99; rule = moved_by (negsuc 60) }) }
-
-abbrev o8 : Own
-o8 = kept (Some a4)
-
-abbrev s9 : State
-s9 = moved s8 128 None o8
-
-step8 : step [] s8 i8 ≡ to s9 [] Done
-unfolding command_row
-step8 = own-step [] s8 s8 i8 [] (settle-still s8 5 refl) o8 s9 s9 [] (simp finds) (with_own-moved s8 128 None o8 (λ p. refl)) refl
-
-abbrev i9 : Input
-i9 = at 5 128 (Bytes 0 (0x90 ∷ 0x3C ∷ 0x40 ∷ 0x3D ∷ 0x40 ∷ []))
+a4 = put_filter 0 (Some (new_filter (caps 99) (moved_by (negsuc 60)))) a3
 
 abbrev a5 : Client
-a5 = record a4 { ports = FinMap.insert a4.ports 0 (record { name = codes "out"; caps = caps 33; fed = 0x90 ∷ [] }) }
-
-abbrev o9 : Own
-o9 = record (kept (Some a5)) { reply = λ p. Messages 2; sends = (0, note 0x3C) ∷ (0, note 0x3D) ∷ [] }
-
-abbrev v9 : State
-v9 = moved s9 128 None o9
-
-abbrev s10 : State
-s10 = record v9 { pools = FinMap.insert s9.pools 129 (record { size = 8; waiting = waits 4 0 (note 0x3C) ∷ waits 5 0 (note 0x00) ∷ []; lost = 0 }) }
-
-sends9 : sent v9 (send_copies s9 5 128 o9.sends) ≡ settled_to s10 (came 5 129 0 (note 0x00) ∷ [])
-unfolding ways begins kind_of_status
-sends9 = simp (finds, paths-ways)
-
-step9 : step [] s9 i9 ≡ to s10 (came 5 129 0 (note 0x00) ∷ []) (Messages 2)
-unfolding command_row reading rest begins
-step9 = own-step [] s9 s9 i9 [] (settle-still s9 5 refl) o9 v9 s10 (came 5 129 0 (note 0x00) ∷ []) (simp finds) (with_own-moved s9 128 None o9 (λ p. refl)) sends9
-
-abbrev i10 : Input
-i10 = at 6 128 (DeleteFilter 0)
+a5 = with_fed a4 (0x90 ∷ [])
 
 abbrev a6 : Client
-a6 = record a5 { filters = FinMap.remove a5.filters 0 }
+a6 = put_filter 0 None a5
 
-abbrev o10 : Own
-o10 = record (kept (Some a6)) { gone = same_node (Filter 0) }
+abbrev s3 : State
+s3 = holding s2 128 a2
+
+abbrev s4 : State
+s4 = joined s3 (port_addr 128 0) (filter_addr 128 0)
+
+abbrev s5 : State
+s5 = arrived s4 8
+
+abbrev s6 : State
+s6 = settled_in s4 8 66
+
+abbrev s7 : State
+s7 = joined s6 (filter_addr 128 0) (port_addr 129 0)
+
+abbrev s8 : State
+s8 = pooled (holding s7 128 a3) 129 (filled 8 (waits 4 0 (note 0x3C) ∷ []) 0)
+
+abbrev s9 : State
+s9 = holding s8 128 a4
+
+abbrev s10 : State
+s10 =
+    pooled (holding s9 128 a5) 129 (filled 8 (waits 4 0 (note 0x3C) ∷ waits 5 0 (note 0x00) ∷ []) 0)
 
 abbrev s11 : State
-s11 = moved s10 128 None o10
-
-step10 : step [] s10 i10 ≡ to s11 [] Done
-unfolding command_row
-step10 = own-step [] s10 s10 i10 [] (settle-still s10 6 refl) o10 s11 s11 [] (simp finds) (with_own-moved s10 128 None o10 (λ p. refl)) refl
-
-abbrev i11 : Input
-i11 = at 6 128 (Bytes 0 (0x3D ∷ 0x40 ∷ []))
-
-abbrev a7 : Client
-a7 = record a6 { ports = FinMap.insert a6.ports 0 (record { name = codes "out"; caps = caps 33; fed = 0x90 ∷ [] }) }
-
-abbrev o11 : Own
-o11 = record (kept (Some a7)) { reply = λ p. Messages 1; sends = (0, note 0x3D) ∷ [] }
-
-abbrev v11 : State
-v11 = moved s11 128 None o11
+s11 = moved s10 128 None (without a6 (same_node (Filter 0)) (λ p. false) (λ n. false))
 
 abbrev s12 : State
-s12 = v11
+s12 = holding s11 128 (with_fed a6 (0x90 ∷ []))
 
-sends11 : sent v11 (send_copies s11 6 128 o11.sends) ≡ settled_to s12 []
-unfolding ways begins kind_of_status
-sends11 = simp paths-ways
+abbrev after : List Stepped
+after =
+    sender_steps start 128 (codes "a") 8 ++ quiet (s3 ∷ s4 ∷ s5 ∷ s6 ∷ s7 ∷ [])
+    ++ to s8 (came 4 129 0 (note 0x3C) ∷ []) (Messages 1)
+    ∷ quiet (s9 ∷ []) ++ to s10 (came 5 129 0 (note 0x00) ∷ []) (Messages 2) ∷ quiet (s11 ∷ [])
+    ++ to s12 [] (Messages 1) ∷ []
 
-step11 : step [] s11 i11 ≡ to s12 [] (Messages 1)
-unfolding command_row reading rest begins
-step11 = own-step [] s11 s11 i11 [] (settle-still s11 6 refl) o11 v11 s12 [] (simp finds) (with_own-moved s11 128 None o11 (λ p. refl)) sends11
+trace : Trace [] start changed_filter after
+unfolding command_row most_sources ways begins kind_of_status reading rest
+trace =
+    becomes-sender [] start 128 0 (codes "a") 8 (nothing-pending start 0 0 refl) refl (simp finds)
+    refl refl
+    (thus (changes [] (still s2 0 refl) 128 (CreateFilter 0 (caps 99) (moved_by (pos 0))) a2
+    (simp finds))
+    (thus (connects [] (still s3 0 refl) 128 (port_addr 128 0) (filter_addr 128 0) (simp finds))
+    (thus (opens [] (still s4 0 refl) 129 (codes "b") 8 8 (simp finds) refl refl)
+    (thus (changes [] (still s5 0 refl) 129 (CreatePort 0 (codes "in") (caps 66)) (listener 8 66)
+    (simp finds))
+    (thus (connects [] (still s6 1 refl) 129 (filter_addr 128 0) (port_addr 129 0) (simp finds))
+    (thus (feeds [] (still s7 4 refl) 128 0 (0x90 ∷ 0x3C ∷ 0x40 ∷ []) a3 (note 0x3C ∷ []) s8
+    (came 4 129 0 (note 0x3C) ∷ []) (simp finds) (simp (finds, paths-ways)))
+    (thus (changes [] (still s8 5 refl) 128 (SetFilter 0 (moved_by (negsuc 60))) a4 (simp finds))
+    (thus (feeds [] (still s9 5 refl) 128 0 (0x90 ∷ 0x3C ∷ 0x40 ∷ 0x3D ∷ 0x40 ∷ []) a5
+    (note 0x3C ∷ note 0x3D ∷ []) s10 (came 5 129 0 (note 0x00) ∷ []) (simp finds)
+    (simp (finds, paths-ways)))
+    (thus (gives-up [] (still s10 6 refl) 128 (DeleteFilter 0) a6 (same_node (Filter 0))
+    (λ p. false) (λ n. false) (simp finds))
+    (thus (feeds [] (still s11 6 refl) 128 0 (0x3D ∷ 0x40 ∷ []) (with_fed a6 (0x90 ∷ []))
+    (note 0x3D ∷ []) s12 [] (simp finds) (simp paths-ways)) ends))))))))))
 
-abbrev inputs : List Input
-inputs = i0 ∷ i1 ∷ i2 ∷ i3 ∷ i4 ∷ i5 ∷ i6 ∷ i7 ∷ i8 ∷ i9 ∷ i10 ∷ i11 ∷ []
-
-abbrev log : List LogEntry
-log =
-    Replied 0 0 128 Done ∷ Replied 1 0 128 Done ∷ Replied 2 0 128 Done ∷ Replied 3 0 128 Done ∷ Replied 4 0 129 Done ∷ Replied 5 0 129 Done
-    ∷ Replied 6 1 129 Done ∷ Delivered (came 4 129 0 (note 0x3C)) ∷ Replied 7 4 128 (Messages 1) ∷ Replied 8 5 128 Done
-    ∷ Delivered (came 5 129 0 (note 0x00)) ∷ Replied 9 5 128 (Messages 2) ∷ Replied 10 6 128 Done ∷ Replied 11 6 128 (Messages 1) ∷ []
-
-pub run : log_from [] start 0 inputs 10 ≡ log
-run =
-    log-step [] start s1 i0 (drop 1 inputs) 0 10 [] Done (drop 1 log) (step0 [])
-    (log-step [] s1 s2 i1 (drop 2 inputs) 1 10 [] Done (drop 2 log) (step1 [])
-    (log-step [] s2 s3 i2 (drop 3 inputs) 2 10 [] Done (drop 3 log) step2
-    (log-step [] s3 s4 i3 (drop 4 inputs) 3 10 [] Done (drop 4 log) step3
-    (log-step [] s4 s5 i4 (drop 5 inputs) 4 10 [] Done (drop 5 log) step4
-    (log-step [] s5 s6 i5 (drop 6 inputs) 5 10 [] Done (drop 6 log) step5
-    (log-step [] s6 s7 i6 (drop 7 inputs) 6 10 [] Done (drop 7 log) step6
-    (log-step [] s7 s8 i7 (drop 8 inputs) 7 10 (came 4 129 0 (note 0x3C) ∷ []) (Messages 1) (drop 9 log) step7
-    (log-step [] s8 s9 i8 (drop 9 inputs) 8 10 [] Done (drop 10 log) step8
-    (log-step [] s9 s10 i9 (drop 10 inputs) 9 10 (came 5 129 0 (note 0x00) ∷ []) (Messages 2) (drop 12 log) step9
-    (log-step [] s10 s11 i10 (drop 11 inputs) 10 10 [] Done (drop 13 log) step10
-    (log-step [] s11 s12 i11 (drop 12 inputs) 11 10 [] (Messages 1) (drop 14 log) step11
-    (log-end [] s12 s12 12 10 [] (settle-still s12 10 refl)))))))))))))
+pub run : ChangedFilter
+run = trace-log trace (still s12 10 refl)

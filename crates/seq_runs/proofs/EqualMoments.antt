@@ -1,208 +1,75 @@
--- The run `equal_moments`, input by input.
-use Rattle.std.proofs.Common.{◌≡◌, false, List, [], ◌∷◌, drop, Some, None, refl, ◌∙◌, arith}
+-- The run `equal_moments`, step by step.
+use Rattle.std.proofs.Common.{List, [], ◌∷◌, ◌++◌, Some, refl, arith}
 use Rattle.std.specs.Prelude.{codes}
-use Rattle.std.specs.FinMap
-use Rattle.tempo_clock.specs.Clocks.{moment_of}
 use Rattle.tempo_clock.specs.Worked.{two_a_second}
 use Rattle.tempo_clock.specs.declared.due.Due.TheVariants.{Nanos}
 use Rattle.patch_graph.specs.Edges.{most_sources}
-use Rattle.seq_state.specs.declared.input.Command.TheVariants.{Open, CreatePort, Connect, CreateQueue, Start, Schedule}
 use Rattle.seq_state.specs.declared.input.DueAt.TheVariants as due_at
-use Rattle.seq_state.specs.declared.input.Input.{Input}
-use Rattle.seq_state.specs.declared.log.LogEntry.{LogEntry}
-use Rattle.seq_state.specs.declared.log.LogEntry.TheVariants.{Delivered, Replied}
-use Rattle.seq_state.specs.declared.log.Reply.TheVariants.{Done}
-use Rattle.seq_state.specs.State.{State, Client, start}
-use Rattle.seq_state.specs.Own.{Own, kept, new_client, held_queue, one_tempo}
-use Rattle.seq_state.specs.Table.{command_row, connected}
-use Rattle.seq_state.specs.Step.{settle, port_addr, step, log_from, with_own}
-use Rattle.seq_runs.specs.Rows.{at, caps, queue_at, note, came, waits}
-use Rattle.seq_state.proofs.Effects.{step-connects}
-use Rattle.seq_runs.proofs.Beginnings.{i0, s1, step0, i1, s2, step1, i2, s3, step2, i3, a3, s4, step3}
-use Rattle.seq_runs.proofs.Worked.{to, settled_to, moved, with_own-moved, own-step, patch-step, log-step, log-end, settle-sorted, settle-still, clock-moment, ways, paths-ways, finds}
+use Rattle.seq_state.specs.State.{State, start}
+use Rattle.seq_state.specs.Table.{command_row}
+use Rattle.seq_state.specs.Step.{Stepped, port_addr}
+use Rattle.seq_runs.specs.Rows.{queue_at, note, came, waits, equal_moments, EqualMoments}
+use Rattle.seq_runs.proofs.Traces.{Settles, Trace, ends, thus, quiet, trace-log}
+use Rattle.seq_runs.proofs.CommandSteps.{pooled, filled, joined, single, playing, still, sorts, connects, schedules}
+use Rattle.seq_runs.proofs.Beginnings.{nothing-pending, performing, player_steps, becomes-sender, starts-queue, listening, listener_steps, listens}
+use Rattle.seq_runs.proofs.Worked.{clock-moment, IsDue, ways, paths-ways, finds}
 
-abbrev i4 : Input
-i4 = at 0 129 (Open (codes "b") 8 8)
-
-abbrev b0 : Client
-b0 = new_client (codes "b") 8 8
-
-abbrev o4 : Own
-o4 = record (kept (Some b0)) { pool = λ p. Some (record { size = 8; waiting = []; lost = 0 }) }
-
-abbrev s5 : State
-s5 = with_own s4 129 None o4
-
-step4 : step [] s4 i4 ≡ to s5 [] Done
-unfolding command_row
-step4 = own-step [] s4 s4 i4 [] (settle-still s4 0 refl) o4 s5 s5 [] (simp finds) refl refl
-
-abbrev i5 : Input
-i5 = at 0 129 (CreatePort 0 (codes "in") (caps 66))
-
-abbrev b1 : Client
-b1 = record b0 { ports = FinMap.insert b0.ports 0 (record { name = codes "in"; caps = caps 66; fed = [] }) }
-
-abbrev o5 : Own
-o5 = kept (Some b1)
-
-abbrev s6 : State
-s6 = moved s5 129 None o5
-
-step5 : step [] s5 i5 ≡ to s6 [] Done
-unfolding command_row
-step5 = own-step [] s5 s5 i5 [] (settle-still s5 0 refl) o5 s6 s6 [] (simp finds) (with_own-moved s5 129 None o5 (λ p. refl)) refl
-
-abbrev i6 : Input
-i6 = at 0 129 (Connect (port_addr 128 0) (port_addr 129 0))
+abbrev s4 : State
+s4 = performing start 128 (codes "a") 8
 
 abbrev s7 : State
-s7 = record s6 { edges = connected (port_addr 128 0) (port_addr 129 0) s6.edges }
-
-step6 : step [] s6 i6 ≡ to s7 [] Done
-unfolding most_sources command_row
-step6 = patch-step [] s6 s6 i6 [] (settle-still s6 0 refl) (connected (port_addr 128 0) (port_addr 129 0)) (step-connects [] s6 i6.moment 129 (port_addr 128 0) (port_addr 129 0)) (simp finds)
-
-abbrev i7 : Input
-i7 = at 0 130 (Open (codes "c") 8 8)
-
-abbrev c0 : Client
-c0 = new_client (codes "c") 8 8
-
-abbrev o7 : Own
-o7 = record (kept (Some c0)) { pool = λ p. Some (record { size = 8; waiting = []; lost = 0 }) }
-
-abbrev s8 : State
-s8 = with_own s7 130 None o7
-
-step7 : step [] s7 i7 ≡ to s8 [] Done
-unfolding command_row
-step7 = own-step [] s7 s7 i7 [] (settle-still s7 0 refl) o7 s8 s8 [] (simp finds) refl refl
-
-abbrev i8 : Input
-i8 = at 0 130 (CreatePort 0 (codes "out") (caps 33))
-
-abbrev c1 : Client
-c1 = record c0 { ports = FinMap.insert c0.ports 0 (record { name = codes "out"; caps = caps 33; fed = [] }) }
-
-abbrev o8 : Own
-o8 = kept (Some c1)
-
-abbrev s9 : State
-s9 = moved s8 130 None o8
-
-step8 : step [] s8 i8 ≡ to s9 [] Done
-unfolding command_row
-step8 = own-step [] s8 s8 i8 [] (settle-still s8 0 refl) o8 s9 s9 [] (simp finds) (with_own-moved s8 130 None o8 (λ p. refl)) refl
-
-abbrev i9 : Input
-i9 = at 0 130 (CreateQueue 0 480 500000)
-
-abbrev c2 : Client
-c2 = record c1 { queues = FinMap.insert c1.queues 0 (held_queue (one_tempo 480 500000)) }
-
-abbrev o9 : Own
-o9 = kept (Some c2)
-
-abbrev s10 : State
-s10 = moved s9 130 None o9
-
-step9 : step [] s9 i9 ≡ to s10 [] Done
-unfolding command_row
-step9 = own-step [] s9 s9 i9 [] (settle-still s9 0 refl) o9 s10 s10 [] (simp finds) (with_own-moved s9 130 None o9 (λ p. refl)) refl
-
-abbrev i10 : Input
-i10 = at 0 130 (Start (queue_at 130 0))
-
-abbrev c3 : Client
-c3 = record c2 { queues = FinMap.insert c2.queues 0 (record { clock = record { map = two_a_second; time = 0; since = Some 0 }; shared = false }) }
-
-abbrev o10 : Own
-o10 = kept (Some c3)
+s7 = listening s4 8 66
 
 abbrev s11 : State
-s11 = moved s10 130 (Some (queue_at 130 0)) o10
-
-step10 : step [] s10 i10 ≡ to s11 [] Done
-unfolding command_row
-step10 = own-step [] s10 s10 i10 [] (settle-still s10 0 refl) o10 s11 s11 [] (simp finds) (with_own-moved s10 130 (Some (queue_at 130 0)) o10 (λ p. refl)) refl
-
-abbrev i11 : Input
-i11 = at 1 129 (Connect (port_addr 130 0) (port_addr 129 0))
+s11 = performing s7 130 (codes "c") 8
 
 abbrev s12 : State
-s12 = record s11 { edges = connected (port_addr 130 0) (port_addr 129 0) s11.edges }
-
-step11 : step [] s11 i11 ≡ to s12 [] Done
-unfolding most_sources command_row
-step11 = patch-step [] s11 s11 i11 [] (settle-still s11 1 refl) (connected (port_addr 130 0) (port_addr 129 0)) (step-connects [] s11 i11.moment 129 (port_addr 130 0) (port_addr 129 0)) (simp finds)
-
-abbrev i12 : Input
-i12 = at 1 130 (Schedule (queue_at 130 0) 0 (due_at.Nanos 100) (note 0x02))
-
-abbrev o12 : Own
-o12 = record (kept (Some c3)) { added = record { port = 0; accepted = 1; events = record { due = Nanos 100; message = note 0x02 } ∷ [] } ∷ [] }
+s12 = joined s11 (port_addr 130 0) (port_addr 129 0)
 
 abbrev s13 : State
-s13 = moved s12 130 (Some (queue_at 130 0)) o12
-
-step12 : step [] s12 i12 ≡ to s13 [] Done
-unfolding command_row
-step12 = own-step [] s12 s12 i12 [] (settle-still s12 1 refl) o12 s13 s13 [] (simp finds) (with_own-moved s12 130 (Some (queue_at 130 0)) o12 (λ p. refl)) refl
-
-abbrev i13 : Input
-i13 = at 2 128 (Schedule (queue_at 128 0) 0 (due_at.Nanos 100) (note 0x01))
-
-moment0 : moment_of (record { map = two_a_second; time = 0; since = Some 0 }) 1 (Nanos 100) ≡ Some 100
-moment0 = clock-moment two_a_second 0 0 1 100 (Nanos 100) refl (omega arith)
-
-settle13 : settle s13 2 ≡ settled_to s13 []
-unfolding ways
-settle13 = settle-sorted s13 2 ∙ simp (finds, moment0)
-
-abbrev o13 : Own
-o13 = record (kept (Some a3)) { added = record { port = 0; accepted = 2; events = record { due = Nanos 100; message = note 0x01 } ∷ [] } ∷ [] }
+s13 = playing s12 130 (queue_at 130 0) (single 0 1 (Nanos 100) (note 0x02))
 
 abbrev s14 : State
-s14 = moved s13 128 (Some (queue_at 128 0)) o13
+s14 = playing s13 128 (queue_at 128 0) (single 0 2 (Nanos 100) (note 0x01))
 
-step13 : step [] s13 i13 ≡ to s14 [] Done
-unfolding command_row
-step13 = own-step [] s13 s13 i13 [] settle13 o13 s14 s14 [] (simp finds) (with_own-moved s13 128 (Some (queue_at 128 0)) o13 (λ p. refl)) refl
+abbrev after : List Stepped
+after =
+    player_steps start 128 (codes "a") 8 ++ listener_steps s4 8 66
+    ++ player_steps s7 130 (codes "c") 8
+    ++ quiet (s12 ∷ s13 ∷ s14 ∷ [])
 
-moment1 : moment_of (record { map = two_a_second; time = 0; since = Some 0 }) 2 (Nanos 100) ≡ Some 100
-moment1 = clock-moment two_a_second 0 0 2 100 (Nanos 100) refl (omega arith)
+first : IsDue two_a_second 0 0 1 (Nanos 100) (Some 100)
+first = clock-moment two_a_second 0 0 1 100 (Nanos 100) refl (omega arith)
 
-abbrev u_last : State
-u_last = record s14 { pending = []; pools = FinMap.insert (FinMap.insert s14.pools 129 (record { size = 8; waiting = waits 100 0 (note 0x02) ∷ []; lost = 0 })) 129 (record { size = 8; waiting = waits 100 0 (note 0x02) ∷ waits 100 0 (note 0x01) ∷ []; lost = 0 }) }
+second : IsDue two_a_second 0 0 2 (Nanos 100) (Some 100)
+second = clock-moment two_a_second 0 0 2 100 (Nanos 100) refl (omega arith)
 
-settle_last : settle s14 200 ≡ settled_to u_last (came 100 129 0 (note 0x02) ∷ came 100 129 0 (note 0x01) ∷ [])
+trace : Trace [] start equal_moments after
+unfolding command_row most_sources
+trace =
+    becomes-sender [] start 128 0 (codes "a") 8 (nothing-pending start 0 0 refl) refl (simp finds)
+    refl refl
+    (starts-queue [] start 128 0 (codes "a") 8 (nothing-pending start 0 0 refl) refl
+    (listens [] s4 8 66 (nothing-pending s4 0 128 refl) (simp finds) (simp finds) refl refl refl
+    (becomes-sender [] s7 130 0 (codes "c") 8 (nothing-pending s7 0 0 refl) refl (simp finds) refl
+    refl
+    (starts-queue [] s7 130 0 (codes "c") 8 (nothing-pending s7 0 0 refl) refl
+    (thus (connects [] (still s11 1 refl) 129 (port_addr 130 0) (port_addr 129 0) (simp finds))
+    (thus (schedules [] (still s12 1 refl) 130 (queue_at 130 0) 0 (due_at.Nanos 100) (note 0x02)
+    (Nanos 100) (simp finds))
+    (thus (schedules [] (sorts s13 2 s13 [] (simp (finds, first))) 128 (queue_at 128 0) 0
+    (due_at.Nanos 100) (note 0x01) (Nanos 100) (simp finds)) ends)))))))
+
+abbrev u : State
+u =
+    pooled (pooled (record s14 { pending = [] }) 129 (filled 8 (waits 100 0 (note 0x02) ∷ []) 0))
+    129 (filled 8 (waits 100 0 (note 0x02) ∷ waits 100 0 (note 0x01) ∷ []) 0)
+
+last : Settles s14 200 u (came 100 129 0 (note 0x02) ∷ came 100 129 0 (note 0x01) ∷ [])
 unfolding ways
-settle_last = settle-sorted s14 200 ∙ simp (finds, paths-ways, moment0, moment1)
+last =
+    sorts s14 200 u (came 100 129 0 (note 0x02) ∷ came 100 129 0 (note 0x01) ∷ [])
+    (simp (finds, paths-ways, first, second))
 
-abbrev inputs : List Input
-inputs = i0 ∷ i1 ∷ i2 ∷ i3 ∷ i4 ∷ i5 ∷ i6 ∷ i7 ∷ i8 ∷ i9 ∷ i10 ∷ i11 ∷ i12 ∷ i13 ∷ []
-
-abbrev log : List LogEntry
-log =
-    Replied 0 0 128 Done ∷ Replied 1 0 128 Done ∷ Replied 2 0 128 Done ∷ Replied 3 0 128 Done ∷ Replied 4 0 129 Done ∷ Replied 5 0 129 Done
-    ∷ Replied 6 0 129 Done ∷ Replied 7 0 130 Done ∷ Replied 8 0 130 Done ∷ Replied 9 0 130 Done ∷ Replied 10 0 130 Done ∷ Replied 11 1 129 Done
-    ∷ Replied 12 1 130 Done ∷ Replied 13 2 128 Done ∷ Delivered (came 100 129 0 (note 0x02)) ∷ Delivered (came 100 129 0 (note 0x01)) ∷ []
-
-pub run : log_from [] start 0 inputs 200 ≡ log
-run =
-    log-step [] start s1 i0 (drop 1 inputs) 0 200 [] Done (drop 1 log) (step0 [])
-    (log-step [] s1 s2 i1 (drop 2 inputs) 1 200 [] Done (drop 2 log) (step1 [])
-    (log-step [] s2 s3 i2 (drop 3 inputs) 2 200 [] Done (drop 3 log) (step2 [])
-    (log-step [] s3 s4 i3 (drop 4 inputs) 3 200 [] Done (drop 4 log) (step3 [])
-    (log-step [] s4 s5 i4 (drop 5 inputs) 4 200 [] Done (drop 5 log) step4
-    (log-step [] s5 s6 i5 (drop 6 inputs) 5 200 [] Done (drop 6 log) step5
-    (log-step [] s6 s7 i6 (drop 7 inputs) 6 200 [] Done (drop 7 log) step6
-    (log-step [] s7 s8 i7 (drop 8 inputs) 7 200 [] Done (drop 8 log) step7
-    (log-step [] s8 s9 i8 (drop 9 inputs) 8 200 [] Done (drop 9 log) step8
-    (log-step [] s9 s10 i9 (drop 10 inputs) 9 200 [] Done (drop 10 log) step9
-    (log-step [] s10 s11 i10 (drop 11 inputs) 10 200 [] Done (drop 11 log) step10
-    (log-step [] s11 s12 i11 (drop 12 inputs) 11 200 [] Done (drop 12 log) step11
-    (log-step [] s12 s13 i12 (drop 13 inputs) 12 200 [] Done (drop 13 log) step12
-    (log-step [] s13 s14 i13 (drop 14 inputs) 13 200 [] Done (drop 14 log) step13
-    (log-end [] s14 u_last 14 200 (came 100 129 0 (note 0x02) ∷ came 100 129 0 (note 0x01) ∷ []) settle_last))))))))))))))
+pub run : EqualMoments
+run = trace-log trace last

@@ -1,4 +1,6 @@
 pub mod Worked
+pub mod Traces
+pub mod CommandSteps
 pub mod Beginnings
 pub mod EqualMoments
 pub mod CopiesByEdgeAge

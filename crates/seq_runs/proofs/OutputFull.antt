@@ -1,220 +1,75 @@
--- The run `output_full`, input by input.
-use Rattle.std.proofs.Common.{◌≡◌, false, List, [], ◌∷◌, drop, Some, None, refl, ◌∙◌, arith}
+-- The run `output_full`, step by step.
+use Rattle.std.proofs.Common.{List, [], ◌∷◌, ◌++◌, Some, refl, arith}
 use Rattle.std.specs.Prelude.{codes}
-use Rattle.std.specs.FinMap
-use Rattle.tempo_clock.specs.Clocks.{moment_of}
 use Rattle.tempo_clock.specs.Worked.{two_a_second}
 use Rattle.tempo_clock.specs.declared.due.Due.TheVariants.{Nanos}
-use Rattle.patch_graph.specs.Edges.{most_sources}
-use Rattle.seq_state.specs.declared.input.Command.TheVariants.{Open, CreatePort, Connect, CreateQueue, Start, Schedule}
+use Rattle.seq_state.specs.declared.input.Command.TheVariants.{Schedule}
 use Rattle.seq_state.specs.declared.input.DueAt.TheVariants as due_at
-use Rattle.seq_state.specs.declared.input.Input.{Input}
-use Rattle.seq_state.specs.declared.log.LogEntry.{LogEntry}
-use Rattle.seq_state.specs.declared.log.LogEntry.TheVariants.{Delivered, Replied}
 use Rattle.seq_state.specs.declared.log.Reply.TheVariants.{Done, Refused}
-use Rattle.seq_state.specs.State.{State, Client, start}
-use Rattle.seq_state.specs.Own.{Own, kept, new_client, held_queue, one_tempo}
-use Rattle.seq_state.specs.Table.{command_row, connected}
 use Rattle.seq_state.specs.declared.refusal.Refusal.TheVariants as refusal
-use Rattle.seq_state.specs.Step.{settle, port_addr, step, log_from, with_own}
-use Rattle.seq_runs.specs.Rows.{at, caps, queue_at, note, came, waits}
-use Rattle.seq_state.proofs.Effects.{step-connects}
-use Rattle.seq_runs.proofs.Worked.{to, settled_to, moved, with_own-moved, own-step, refused-step, patch-step, log-step, log-end, settle-sorted, settle-still, clock-moment, ways, paths-ways, finds}
-
-abbrev i0 : Input
-i0 = at 0 128 (Open (codes "a") 8 1)
-
-abbrev a0 : Client
-a0 = new_client (codes "a") 8 1
-
-abbrev o0 : Own
-o0 = record (kept (Some a0)) { pool = λ p. Some (record { size = 8; waiting = []; lost = 0 }) }
-
-abbrev s1 : State
-s1 = with_own start 128 None o0
-
-step0 : step [] start i0 ≡ to s1 [] Done
-unfolding command_row
-step0 = own-step [] start start i0 [] (settle-still start 0 refl) o0 s1 s1 [] (simp finds) refl refl
-
-abbrev i1 : Input
-i1 = at 0 128 (CreatePort 0 (codes "out") (caps 33))
-
-abbrev a1 : Client
-a1 = record a0 { ports = FinMap.insert a0.ports 0 (record { name = codes "out"; caps = caps 33; fed = [] }) }
-
-abbrev o1 : Own
-o1 = kept (Some a1)
-
-abbrev s2 : State
-s2 = moved s1 128 None o1
-
-step1 : step [] s1 i1 ≡ to s2 [] Done
-unfolding command_row
-step1 = own-step [] s1 s1 i1 [] (settle-still s1 0 refl) o1 s2 s2 [] (simp finds) (with_own-moved s1 128 None o1 (λ p. refl)) refl
-
-abbrev i2 : Input
-i2 = at 0 128 (CreateQueue 0 480 500000)
-
-abbrev a2 : Client
-a2 = record a1 { queues = FinMap.insert a1.queues 0 (held_queue (one_tempo 480 500000)) }
-
-abbrev o2 : Own
-o2 = kept (Some a2)
-
-abbrev s3 : State
-s3 = moved s2 128 None o2
-
-step2 : step [] s2 i2 ≡ to s3 [] Done
-unfolding command_row
-step2 = own-step [] s2 s2 i2 [] (settle-still s2 0 refl) o2 s3 s3 [] (simp finds) (with_own-moved s2 128 None o2 (λ p. refl)) refl
-
-abbrev i3 : Input
-i3 = at 0 128 (Start (queue_at 128 0))
-
-abbrev a3 : Client
-a3 = record a2 { queues = FinMap.insert a2.queues 0 (record { clock = record { map = two_a_second; time = 0; since = Some 0 }; shared = false }) }
-
-abbrev o3 : Own
-o3 = kept (Some a3)
+use Rattle.seq_state.specs.State.{State, start}
+use Rattle.seq_state.specs.Table.{command_row}
+use Rattle.seq_state.specs.Step.{Stepped}
+use Rattle.seq_runs.specs.Rows.{queue_at, note, came, waits, output_full, OutputFull}
+use Rattle.seq_runs.proofs.Traces.{Settles, Trace, ends, thus, quiet, trace-log}
+use Rattle.seq_runs.proofs.CommandSteps.{pooled, filled, single, playing, still, sorts, refuses, schedules}
+use Rattle.seq_runs.proofs.Beginnings.{around, IsCalm, nothing-pending, performing, player_steps, becomes-sender, starts-queue, listening, listener_steps, listens}
+use Rattle.seq_runs.proofs.Worked.{to, clock-moment, IsDue, ways, paths-ways, finds}
 
 abbrev s4 : State
-s4 = moved s3 128 (Some (queue_at 128 0)) o3
-
-step3 : step [] s3 i3 ≡ to s4 [] Done
-unfolding command_row
-step3 = own-step [] s3 s3 i3 [] (settle-still s3 0 refl) o3 s4 s4 [] (simp finds) (with_own-moved s3 128 (Some (queue_at 128 0)) o3 (λ p. refl)) refl
-
-abbrev i4 : Input
-i4 = at 0 128 (Schedule (queue_at 128 0) 0 (due_at.Nanos 100) (note 0x01))
-
-abbrev o4 : Own
-o4 = record (kept (Some a3)) { added = record { port = 0; accepted = 0; events = record { due = Nanos 100; message = note 0x01 } ∷ [] } ∷ [] }
+s4 = performing start 128 (codes "a") 1
 
 abbrev s5 : State
-s5 = moved s4 128 (Some (queue_at 128 0)) o4
-
-step4 : step [] s4 i4 ≡ to s5 [] Done
-unfolding command_row
-step4 = own-step [] s4 s4 i4 [] (settle-still s4 0 refl) o4 s5 s5 [] (simp finds) (with_own-moved s4 128 (Some (queue_at 128 0)) o4 (λ p. refl)) refl
-
-abbrev i5 : Input
-i5 = at 0 128 (Schedule (queue_at 128 0) 0 (due_at.Nanos 100) (note 0x01))
-
-moment0 : moment_of (record { map = two_a_second; time = 0; since = Some 0 }) 0 (Nanos 100) ≡ Some 100
-moment0 = clock-moment two_a_second 0 0 0 100 (Nanos 100) refl (omega arith)
-
-settle5 : settle s5 0 ≡ settled_to s5 []
-unfolding ways
-settle5 = settle-sorted s5 0 ∙ simp (finds, moment0)
-
-step5 : step [] s5 i5 ≡ to s5 [] (Refused 24)
-unfolding command_row
-step5 = refused-step [] s5 s5 i5 [] settle5 refusal.OutFull (simp finds)
-
-abbrev i6 : Input
-i6 = at 0 129 (Open (codes "b") 8 8)
-
-settle6 : settle s5 0 ≡ settled_to s5 []
-unfolding ways
-settle6 = settle-sorted s5 0 ∙ simp (finds, moment0)
-
-abbrev b0 : Client
-b0 = new_client (codes "b") 8 8
-
-abbrev o6 : Own
-o6 = record (kept (Some b0)) { pool = λ p. Some (record { size = 8; waiting = []; lost = 0 }) }
-
-abbrev s7 : State
-s7 = with_own s5 129 None o6
-
-step6 : step [] s5 i6 ≡ to s7 [] Done
-unfolding command_row
-step6 = own-step [] s5 s5 i6 [] settle6 o6 s7 s7 [] (simp finds) refl refl
-
-abbrev i7 : Input
-i7 = at 0 129 (CreatePort 0 (codes "in") (caps 66))
-
-settle7 : settle s7 0 ≡ settled_to s7 []
-unfolding ways
-settle7 = settle-sorted s7 0 ∙ simp (finds, moment0)
-
-abbrev b1 : Client
-b1 = record b0 { ports = FinMap.insert b0.ports 0 (record { name = codes "in"; caps = caps 66; fed = [] }) }
-
-abbrev o7 : Own
-o7 = kept (Some b1)
+s5 = playing s4 128 (queue_at 128 0) (single 0 0 (Nanos 100) (note 0x01))
 
 abbrev s8 : State
-s8 = moved s7 129 None o7
-
-step7 : step [] s7 i7 ≡ to s8 [] Done
-unfolding command_row
-step7 = own-step [] s7 s7 i7 [] settle7 o7 s8 s8 [] (simp finds) (with_own-moved s7 129 None o7 (λ p. refl)) refl
-
-abbrev i8 : Input
-i8 = at 0 129 (Connect (port_addr 128 0) (port_addr 129 0))
-
-settle8 : settle s8 0 ≡ settled_to s8 []
-unfolding ways
-settle8 = settle-sorted s8 0 ∙ simp (finds, moment0)
-
-abbrev s9 : State
-s9 = record s8 { edges = connected (port_addr 128 0) (port_addr 129 0) s8.edges }
-
-step8 : step [] s8 i8 ≡ to s9 [] Done
-unfolding most_sources command_row
-step8 = patch-step [] s8 s8 i8 [] settle8 (connected (port_addr 128 0) (port_addr 129 0)) (step-connects [] s8 i8.moment 129 (port_addr 128 0) (port_addr 129 0)) (simp finds)
-
-abbrev i9 : Input
-i9 = at 100 128 (Schedule (queue_at 128 0) 0 (due_at.NanosAfter 50) (note 0x02))
+s8 = listening s5 8 66
 
 abbrev u9 : State
-u9 = record s9 { pending = []; pools = FinMap.insert s9.pools 129 (record { size = 8; waiting = waits 100 0 (note 0x01) ∷ []; lost = 0 }) }
+u9 = pooled (record s8 { pending = [] }) 129 (filled 8 (waits 100 0 (note 0x01) ∷ []) 0)
 
-settle9 : settle s9 100 ≡ settled_to u9 (came 100 129 0 (note 0x01) ∷ [])
+abbrev s9 : State
+s9 = playing u9 128 (queue_at 128 0) (single 0 100 (Nanos 150) (note 0x02))
+
+abbrev after : List Stepped
+after =
+    player_steps start 128 (codes "a") 1 ++ quiet (s5 ∷ []) ++ to s5 [] (Refused 24)
+    ∷ listener_steps s5 8 66
+    ++ to s9 (came 100 129 0 (note 0x01) ∷ []) Done ∷ []
+
+first : IsDue two_a_second 0 0 0 (Nanos 100) (Some 100)
+first = clock-moment two_a_second 0 0 0 100 (Nanos 100) refl (omega arith)
+
+second : IsDue two_a_second 0 0 100 (Nanos 150) (Some 150)
+second = clock-moment two_a_second 0 0 100 150 (Nanos 150) refl (omega arith)
+
+calm : IsCalm s5 0 128
+calm clients pools edges same =
+    let t : State = around s5 clients pools edges in sorts t 0 t [] (simp (finds, same, first))
+
+trace : Trace [] start output_full after
+unfolding command_row ways
+trace =
+    becomes-sender [] start 128 0 (codes "a") 1 (nothing-pending start 0 0 refl) refl (simp finds)
+    refl refl
+    (starts-queue [] start 128 0 (codes "a") 1 (nothing-pending start 0 0 refl) refl
+    (thus (schedules [] (still s4 0 refl) 128 (queue_at 128 0) 0 (due_at.Nanos 100) (note 0x01)
+    (Nanos 100) (simp finds))
+    (thus (refuses [] (calm s5.clients s5.pools s5.edges refl) 128
+    (Schedule (queue_at 128 0) 0 (due_at.Nanos 100) (note 0x01)) refusal.OutFull (simp finds))
+    (listens [] s5 8 66 calm (simp finds) (simp finds) refl refl refl
+    (thus (schedules [] (sorts s8 100 u9 (came 100 129 0 (note 0x01) ∷ [])
+    (simp (finds, paths-ways, first))) 128 (queue_at 128 0) 0 (due_at.NanosAfter 50) (note 0x02)
+    (Nanos 150) (simp finds)) ends)))))
+
+abbrev u : State
+u =
+    pooled (record s9 { pending = [] }) 129
+    (filled 8 (waits 100 0 (note 0x01) ∷ waits 150 0 (note 0x02) ∷ []) 0)
+
+last : Settles s9 200 u (came 150 129 0 (note 0x02) ∷ [])
 unfolding ways
-settle9 = settle-sorted s9 100 ∙ simp (finds, paths-ways, moment0)
+last = sorts s9 200 u (came 150 129 0 (note 0x02) ∷ []) (simp (finds, paths-ways, second))
 
-abbrev o9 : Own
-o9 = record (kept (Some a3)) { added = record { port = 0; accepted = 100; events = record { due = Nanos 150; message = note 0x02 } ∷ [] } ∷ [] }
-
-abbrev s10 : State
-s10 = moved u9 128 (Some (queue_at 128 0)) o9
-
-step9 : step [] s9 i9 ≡ to s10 (came 100 129 0 (note 0x01) ∷ []) Done
-unfolding command_row
-step9 = own-step [] s9 u9 i9 (came 100 129 0 (note 0x01) ∷ []) settle9 o9 s10 s10 [] (simp finds) (with_own-moved u9 128 (Some (queue_at 128 0)) o9 (λ p. refl)) refl
-
-moment1 : moment_of (record { map = two_a_second; time = 0; since = Some 0 }) 100 (Nanos 150) ≡ Some 150
-moment1 = clock-moment two_a_second 0 0 100 150 (Nanos 150) refl (omega arith)
-
-abbrev u_last : State
-u_last = record s10 { pending = []; pools = FinMap.insert s10.pools 129 (record { size = 8; waiting = waits 100 0 (note 0x01) ∷ waits 150 0 (note 0x02) ∷ []; lost = 0 }) }
-
-settle_last : settle s10 200 ≡ settled_to u_last (came 150 129 0 (note 0x02) ∷ [])
-unfolding ways
-settle_last = settle-sorted s10 200 ∙ simp (finds, paths-ways, moment1)
-
-abbrev inputs : List Input
-inputs = i0 ∷ i1 ∷ i2 ∷ i3 ∷ i4 ∷ i5 ∷ i6 ∷ i7 ∷ i8 ∷ i9 ∷ []
-
-abbrev log : List LogEntry
-log =
-    Replied 0 0 128 Done ∷ Replied 1 0 128 Done ∷ Replied 2 0 128 Done ∷ Replied 3 0 128 Done ∷ Replied 4 0 128 Done ∷ Replied 5 0 128 (Refused 24)
-    ∷ Replied 6 0 129 Done ∷ Replied 7 0 129 Done ∷ Replied 8 0 129 Done ∷ Delivered (came 100 129 0 (note 0x01)) ∷ Replied 9 100 128 Done
-    ∷ Delivered (came 150 129 0 (note 0x02)) ∷ []
-
-pub run : log_from [] start 0 inputs 200 ≡ log
-run =
-    log-step [] start s1 i0 (drop 1 inputs) 0 200 [] Done (drop 1 log) step0
-    (log-step [] s1 s2 i1 (drop 2 inputs) 1 200 [] Done (drop 2 log) step1
-    (log-step [] s2 s3 i2 (drop 3 inputs) 2 200 [] Done (drop 3 log) step2
-    (log-step [] s3 s4 i3 (drop 4 inputs) 3 200 [] Done (drop 4 log) step3
-    (log-step [] s4 s5 i4 (drop 5 inputs) 4 200 [] Done (drop 5 log) step4
-    (log-step [] s5 s5 i5 (drop 6 inputs) 5 200 [] (Refused 24) (drop 6 log) step5
-    (log-step [] s5 s7 i6 (drop 7 inputs) 6 200 [] Done (drop 7 log) step6
-    (log-step [] s7 s8 i7 (drop 8 inputs) 7 200 [] Done (drop 8 log) step7
-    (log-step [] s8 s9 i8 (drop 9 inputs) 8 200 [] Done (drop 9 log) step8
-    (log-step [] s9 s10 i9 (drop 10 inputs) 9 200 (came 100 129 0 (note 0x01) ∷ []) Done (drop 11 log) step9
-    (log-end [] s10 u_last 10 200 (came 150 129 0 (note 0x02) ∷ []) settle_last))))))))))
+pub run : OutputFull
+run = trace-log trace last

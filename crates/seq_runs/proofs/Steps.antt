@@ -22,15 +22,18 @@ use Rattle.seq_runs.proofs.Worked.{settled_to, command-step, refused-step, settl
 
 -- where nothing is due, and no refusal stands
 module _ (s : State) (i : Input) (first : settle s i.moment ≡ settled_to s []) where
-  pub taken : refusal_of files s i.moment i.actor i.command ≡ None → step files s i ≡ effect_of files s i.moment i.actor i.command
+  pub taken : refusal_of files s i.moment i.actor i.command ≡ None → step files s i ≡
+      effect_of files s i.moment i.actor i.command
   taken r =
       let effect : Stepped = effect_of files s i.moment i.actor i.command in
       command-step files s s i [] first effect (ap (λ o. unless o s effect) r)
 
-  pub replies : (reply : Reply) → refusal_of files s i.moment i.actor i.command ≡ None → (effect_of files s i.moment i.actor i.command).reply ≡ reply → (step files s i).reply ≡ reply
+  pub replies : (reply : Reply) → refusal_of files s i.moment i.actor i.command ≡ None →
+      (effect_of files s i.moment i.actor i.command).reply ≡ reply → (step files s i).reply ≡ reply
   replies reply r e = ap (λ a. a.reply) (taken r) ∙ e
 
-  pub refuses : (r : Refusal) → refusal_of files s i.moment i.actor i.command ≡ Some r → (step files s i).reply ≡ Refused (number_of r)
+  pub refuses : (r : Refusal) → refusal_of files s i.moment i.actor i.command ≡ Some r →
+      (step files s i).reply ≡ Refused (number_of r)
   refuses r e = ap (λ a. a.reply) (refused-step files s s i [] first r e)
 
 held : settle both_waiting 0 ≡ settled_to both_waiting []
@@ -42,35 +45,73 @@ still = settle-still hall 5 refl
 pub each_step : EachStep
 unfolding command_row ways begins kind_of_status
 each_step = record {
-  two_filters = let i : Input = at 5 128 (Send 0 (note 60)) in ap (λ a. a.delivered) (taken hall i still (simp finds)) ∙ simp (finds, paths-ways);
-  below_the_second = let i : Input = at 5 128 (Send 0 (note 59)) in ap (λ a. a.delivered) (taken hall i still (simp finds)) ∙ simp (finds, paths-ways);
-  port_one = let i : Input = at 5 130 (Send 0 (note 60)) in ap (λ a. a.delivered) (taken hall i still (simp finds)) ∙ simp (finds, paths-ways);
-  port_one_waits = let i : Input = at 5 130 (Send 0 (note 60)) in ap (λ a. FinMap.get a.state.pools 129) (taken hall i still (simp finds)) ∙ simp (finds, paths-ways);
+  two_filters =
+      let i : Input = at 5 128 (Send 0 (note 60)) in
+      ap (λ a. a.delivered) (taken hall i still (simp finds)) ∙ simp (finds, paths-ways);
+  below_the_second =
+      let i : Input = at 5 128 (Send 0 (note 59)) in
+      ap (λ a. a.delivered) (taken hall i still (simp finds)) ∙ simp (finds, paths-ways);
+  port_one =
+      let i : Input = at 5 130 (Send 0 (note 60)) in
+      ap (λ a. a.delivered) (taken hall i still (simp finds)) ∙ simp (finds, paths-ways);
+  port_one_waits =
+      let i : Input = at 5 130 (Send 0 (note 60)) in
+      ap (λ a. FinMap.get a.state.pools 129) (taken hall i still (simp finds))
+      ∙ simp (finds, paths-ways);
   play_on_shared = replies hall (at 5 130 (Play (queue_at 128 0) 0 0)) still Done (simp finds) refl;
-  schedule_on_shared = replies hall (at 5 130 (Schedule (queue_at 128 0) 0 (due_at.Nanos 9) (note 60))) still Done (simp finds) refl;
-  status_of_shared = replies hall (at 5 130 (QueueStatus (queue_at 128 0))) still (Queue false 0 0) (simp finds) (simp (finds, tick-at_first));
-  start_of_shared = refuses hall (at 5 130 (Start (queue_at 128 0))) still refusal.NotYours (simp finds);
-  stop_of_shared = refuses hall (at 5 130 (Stop (queue_at 128 0))) still refusal.NotYours (simp finds);
-  continue_of_shared = refuses hall (at 5 130 (Continue (queue_at 128 0))) still refusal.NotYours (simp finds);
-  tempo_of_shared = refuses hall (at 5 130 (Tempo (queue_at 128 0) 250000)) still refusal.NotYours (simp finds);
-  share_of_shared = refuses hall (at 5 130 (Share (queue_at 128 0))) still refusal.NotYours (simp finds);
-  delete_of_shared = refuses hall (at 5 130 (DeleteQueue (queue_at 128 0))) still refusal.NotYours (simp finds);
-  used_by_guest = replies both_waiting (at 0 130 PoolStatus) held (Pools 0 0 1) (simp finds) (simp finds);
-  used_by_host = replies both_waiting (at 0 128 PoolStatus) held (Pools 0 0 1) (simp finds) (simp finds);
-  used_by_listener = replies both_waiting (at 0 129 PoolStatus) held (Pools 1 5 0) (simp finds) (simp finds);
-  dropped_by_guest = let i : Input = at 0 130 DropOutput in ap (λ a. a.state.pending) (taken both_waiting i held (simp finds));
-  dropped_by_host = let i : Input = at 0 128 DropOutput in ap (λ a. a.state.pending) (taken both_waiting i held (simp finds));
+  schedule_on_shared =
+      replies hall (at 5 130 (Schedule (queue_at 128 0) 0 (due_at.Nanos 9) (note 60))) still Done
+      (simp finds) refl;
+  status_of_shared =
+      replies hall (at 5 130 (QueueStatus (queue_at 128 0))) still (Queue false 0 0) (simp finds)
+      (simp (finds, tick-at_first));
+  start_of_shared =
+      refuses hall (at 5 130 (Start (queue_at 128 0))) still refusal.NotYours (simp finds);
+  stop_of_shared =
+      refuses hall (at 5 130 (Stop (queue_at 128 0))) still refusal.NotYours (simp finds);
+  continue_of_shared =
+      refuses hall (at 5 130 (Continue (queue_at 128 0))) still refusal.NotYours (simp finds);
+  tempo_of_shared =
+      refuses hall (at 5 130 (Tempo (queue_at 128 0) 250000)) still refusal.NotYours (simp finds);
+  share_of_shared =
+      refuses hall (at 5 130 (Share (queue_at 128 0))) still refusal.NotYours (simp finds);
+  delete_of_shared =
+      refuses hall (at 5 130 (DeleteQueue (queue_at 128 0))) still refusal.NotYours (simp finds);
+  used_by_guest =
+      replies both_waiting (at 0 130 PoolStatus) held (Pools 0 0 1) (simp finds) (simp finds);
+  used_by_host =
+      replies both_waiting (at 0 128 PoolStatus) held (Pools 0 0 1) (simp finds) (simp finds);
+  used_by_listener =
+      replies both_waiting (at 0 129 PoolStatus) held (Pools 1 5 0) (simp finds) (simp finds);
+  dropped_by_guest =
+      let i : Input = at 0 130 DropOutput in
+      ap (λ a. a.state.pending) (taken both_waiting i held (simp finds));
+  dropped_by_host =
+      let i : Input = at 0 128 DropOutput in
+      ap (λ a. a.state.pending) (taken both_waiting i held (simp finds));
   shared_twice = replies hall (at 5 128 (Share (queue_at 128 0))) still Done (simp finds) refl;
   made_private = made;
   least_sizes = replies hall (at 5 131 (Open (codes "d") 1 1)) still Done (simp finds) refl;
-  greatest_sizes = replies hall (at 5 131 (Open (codes "d") 2000 2000)) still Done (simp finds) refl;
-  longest_name = replies hall (at 5 128 (CreatePort 1 (codes "abcdefghijklmnopqrstuvwxyz012345") (caps 0))) still Done (simp finds) refl;
+  greatest_sizes =
+      replies hall (at 5 131 (Open (codes "d") 2000 2000)) still Done (simp finds) refl;
+  longest_name =
+      replies hall (at 5 128 (CreatePort 1 (codes "abcdefghijklmnopqrstuvwxyz012345") (caps 0)))
+      still Done (simp finds) refl;
   least_queue = replies hall (at 5 128 (CreateQueue 3 1 1)) still Done (simp finds) refl;
-  greatest_queue = replies hall (at 5 128 (CreateQueue 3 32767 16777215)) still Done (simp finds) refl;
-  receive_one = replies hall (at 5 129 (Receive 1)) still (Received (waits 3 0 (note 1) ∷ [])) (simp finds) (simp finds);
-  receive_many = replies hall (at 5 129 (Receive 2000)) still (Received (waits 3 0 (note 1) ∷ [])) (simp finds) (simp finds);
-  greatest_time = replies hall (at 5 128 (Schedule (queue_at 128 0) 0 (due_at.NanosAfter (2 ^ 64 - 1)) (note 60))) still Done (simp finds) refl;
-  greatest_tick = replies hall (at 5 128 (Schedule (queue_at 128 0) 0 (due_at.TickAfter (2 ^ 64 - 1)) (note 60))) still Done (simp (finds, tick-at_first)) refl;
+  greatest_queue =
+      replies hall (at 5 128 (CreateQueue 3 32767 16777215)) still Done (simp finds) refl;
+  receive_one =
+      replies hall (at 5 129 (Receive 1)) still (Received (waits 3 0 (note 1) ∷ [])) (simp finds)
+      (simp finds);
+  receive_many =
+      replies hall (at 5 129 (Receive 2000)) still (Received (waits 3 0 (note 1) ∷ [])) (simp finds)
+      (simp finds);
+  greatest_time =
+      replies hall (at 5 128 (Schedule (queue_at 128 0) 0 (due_at.NanosAfter (2 ^ 64 - 1))
+      (note 60))) still Done (simp finds) refl;
+  greatest_tick =
+      replies hall (at 5 128 (Schedule (queue_at 128 0) 0 (due_at.TickAfter (2 ^ 64 - 1))
+      (note 60))) still Done (simp (finds, tick-at_first)) refl;
 }
   where
     i : Input

@@ -1,5 +1,5 @@
--- Steps of worked runs: each from what it finds in a state.
-use Rattle.std.proofs.Common.{◌≡◌, ℕ, zero, suc, ◌+◌, ◌-◌, ◌*◌, ◌^◌, ◌<◌, max, Bool, true, false, not, cond, eqb, List, [], ◌∷◌, ◌++◌, map, Option, Some, None, Ok, Err, refl, sym, ap, subst, ◌∙◌, arith}
+-- Steps, settling, moments and paths in worked runs: each from what it finds in a state.
+use Rattle.std.proofs.Common.{◌≡◌, ℕ, zero, suc, ◌+◌, ◌-◌, ◌*◌, ◌^◌, ◌<◌, max, Bool, true, false, not, cond, eqb, List, [], ◌∷◌, ◌++◌, map, Option, Some, None, Ok, Err, refl, sym, ap, ◌∙◌, arith}
 use Rattle.std.specs.List.{filter, flat_map}
 use Rattle.std.specs.Ordering.{nat_cmp}
 use Rattle.std.specs.FinMap
@@ -19,8 +19,6 @@ use Rattle.patch_graph.specs.declared.edge.Edge.{Edge}
 use Rattle.seq_state.specs.declared.input.Input.{Input}
 use Rattle.node_table.specs.declared.number.QueueAddr.{QueueAddr}
 use Rattle.seq_state.specs.declared.log.Delivery.{Delivery}
-use Rattle.seq_state.specs.declared.log.LogEntry.{LogEntry}
-use Rattle.seq_state.specs.declared.log.LogEntry.TheVariants.{Delivered, Replied}
 use Rattle.seq_state.specs.declared.log.Reply.{Reply}
 use Rattle.seq_state.specs.declared.log.Reply.TheVariants.{Done, Refused}
 use Rattle.seq_state.specs.Files.{File}
@@ -29,8 +27,7 @@ use Rattle.seq_state.specs.declared.refusal.Refusal.{Refusal}
 use Rattle.seq_state.specs.Refusals.{number_of}
 use Rattle.seq_state.specs.Own.{Own}
 use Rattle.seq_state.specs.Table.{Row, first_refusal, queue_named}
-use Rattle.seq_state.specs.Step.{settle, Settled, sent, without_due, event_copies, is_left, playback_after, Stepped, loses, drops, pending_of, with_own, send_copies, unless, after_own, row_of, refusal_of, effect_of, command_step, step, log_from}
-use Rattle.seq_state.specs.Circle.{IsClosedAt, NamesWithin, IsClosedFrom}
+use Rattle.seq_state.specs.Step.{settle, Settled, sent, without_due, event_copies, is_left, playback_after, Stepped, loses, drops, pending_of, with_own, send_copies, unless, after_own, row_of, refusal_of, effect_of, command_step, step}
 use Rattle.seq_state.specs.Laws.{all_timed, sorted}
 use Rattle.seq_state.proofs.Lists.{flat_map-agree}
 use Rattle.seq_state.proofs.Sorted.{by, sort_law}
@@ -52,16 +49,21 @@ moved s actor q own =
       clients = put s.clients actor own.client;
       pools = s.pools;
       edges = own.edges (filter (λ e. not (loses actor own.gone e)) s.edges);
-      pending = filter (λ p. not (drops actor own p)) s.pending ++ filter is_left (map (pending_of actor q) own.added);
+      pending =
+          filter (λ p. not (drops actor own p)) s.pending
+          ++ filter is_left (map (pending_of actor q) own.added);
     }
 
-pub with_own-moved : (s : State) (actor : ℕ) (q : Option QueueAddr) (own : Own) → ((p : Option Pool) → own.pool p ≡ p) → with_own s actor q own ≡ moved s actor q own
+pub with_own-moved : (s : State) (actor : ℕ) (q : Option QueueAddr) (own : Own) →
+    ((p : Option Pool) → own.pool p ≡ p) → with_own s actor q own ≡ moved s actor q own
 with_own-moved s actor q own h =
     ap (λ pools. record {
       clients = put s.clients actor own.client;
       pools = pools;
       edges = own.edges (filter (λ e. not (loses actor own.gone e)) s.edges);
-      pending = filter (λ p. not (drops actor own p)) s.pending ++ filter is_left (map (pending_of actor q) own.added);
+      pending =
+          filter (λ p. not (drops actor own p)) s.pending
+          ++ filter is_left (map (pending_of actor q) own.added);
     }) (ap (put s.pools actor) (h (FinMap.get s.pools actor)) ∙ put-same s.pools actor)
 
 -- ---- steps
@@ -70,10 +72,13 @@ with_own-moved s actor q own h =
 abbrev pub answer : Row → Option Refusal × Own
 answer r = (first_refusal r.conditions, r.own)
 
-module _ (files : List File) (s u : State) (i : Input) (ds : List Delivery) (first : settle s i.moment ≡ settled_to u ds) where
-  pub command-step : (d : Stepped) → command_step files u i.moment i.actor i.command ≡ d → step files s i ≡ to d.state (ds ++ d.delivered) d.reply
+module _ (files : List File) (s u : State) (i : Input) (ds : List Delivery)
+    (first : settle s i.moment ≡ settled_to u ds) where
+  pub command-step : (d : Stepped) → command_step files u i.moment i.actor i.command ≡ d →
+      step files s i ≡ to d.state (ds ++ d.delivered) d.reply
   command-step d e =
-      ap (λ (x : Settled). let done : Stepped = command_step files x.state i.moment i.actor i.command in to done.state (x.delivered ++ done.delivered) done.reply) first
+      ap (λ (x : Settled). let done : Stepped = command_step files x.state i.moment i.actor
+      i.command in to done.state (x.delivered ++ done.delivered) done.reply) first
       ∙ ap (λ (x : Stepped). to x.state (ds ++ x.delivered) x.reply) e
 
   -- a command that is not refused
@@ -87,65 +92,67 @@ module _ (files : List File) (s u : State) (i : Input) (ds : List Delivery) (fir
       let reply : Reply = own.reply (FinMap.get u.pools i.actor) in
       command-step (to t es reply)
       (ap (λ (x : Option Refusal × Own). unless x.0 u (after_own u i.moment i.actor q x.1)) r
-      ∙ ap (λ x. let a : Settled = sent x (send_copies u i.moment i.actor own.sends) in to a.state a.delivered reply) w
+      ∙ ap (λ x. let a : Settled = sent x (send_copies u i.moment i.actor own.sends) in
+      to a.state a.delivered reply) w
       ∙ ap (λ (a : Settled). to a.state a.delivered reply) e)
 
   -- a refused one
-  pub refused-step : (r : Refusal) → refusal_of files u i.moment i.actor i.command ≡ Some r → step files s i ≡ to u (ds ++ []) (Refused (number_of r))
-  refused-step r e = command-step (to u [] (Refused (number_of r))) (ap (λ x. unless x u (effect_of files u i.moment i.actor i.command)) e)
+  pub refused-step : (r : Refusal) → refusal_of files u i.moment i.actor i.command ≡ Some r →
+      step files s i ≡ to u (ds ++ []) (Refused (number_of r))
+  refused-step r e =
+      command-step (to u [] (Refused (number_of r)))
+      (ap (λ x. unless x u (effect_of files u i.moment i.actor i.command)) e)
 
   -- a change of the subscriptions that is not refused
-  pub patch-step : (f : List Edge → List Edge) → command_step files u i.moment i.actor i.command ≡ patch_step u (refusal_of files u i.moment i.actor i.command) f →
-      refusal_of files u i.moment i.actor i.command ≡ None → step files s i ≡ to (record u { edges = f u.edges }) (ds ++ []) Done
-  patch-step f c e = command-step (to (record u { edges = f u.edges }) [] Done) (c ∙ ap (λ x. patch_step u x f) e)
-
--- ---- logs
-
-pub log-step : (files : List File) (s t : State) (i : Input) (inputs : List Input) (place end : ℕ) (ds : List Delivery) (reply : Reply) (rest : List LogEntry) →
-    step files s i ≡ to t ds reply → log_from files t (place + 1) inputs end ≡ rest →
-    log_from files s place (i ∷ inputs) end ≡ map Delivered ds ++ Replied place i.moment i.actor reply ∷ rest
-log-step files s t i inputs place end ds reply rest e more =
-    ap (λ (a : Stepped). map Delivered a.delivered ++ Replied place i.moment i.actor a.reply ∷ log_from files a.state (place + 1) inputs end) e
-    ∙ ap (λ l. map Delivered ds ++ Replied place i.moment i.actor reply ∷ l) more
-
-pub log-end : (files : List File) (s t : State) (place end : ℕ) (ds : List Delivery) → settle s end ≡ settled_to t ds → log_from files s place [] end ≡ map Delivered ds
-log-end files s t place end ds e = ap (λ (a : Settled). map Delivered a.delivered) e
-
--- ---- closed circles
-
-module _ (files : List File) (owner : ℕ) (member : ℕ → Bool) (s t : State) (i : Input) (inputs : List Input) (ds : List Delivery) (reply : Reply) (e : step files s i ≡ to t ds reply) where
-  abbrev Closed : Stepped → Type 0
-  Closed a = IsClosedAt owner member i.actor i.command a.reply × NamesWithin member i.actor (queue_named i.command) × IsClosedFrom files owner member a.state inputs
-
-  pub closed-step : IsClosedAt owner member i.actor i.command reply → NamesWithin member i.actor (queue_named i.command) → IsClosedFrom files owner member t inputs → IsClosedFrom files owner member s (i ∷ inputs)
-  closed-step c n more = subst Closed (sym e) (c, n, more)
-
-  pub closed-here : IsClosedFrom files owner member s (i ∷ inputs) → IsClosedAt owner member i.actor i.command reply
-  closed-here h = (subst Closed e h).0
-
-  pub closed-names : IsClosedFrom files owner member s (i ∷ inputs) → NamesWithin member i.actor (queue_named i.command)
-  closed-names h = (subst Closed e h).1
-
-  pub closed-rest : IsClosedFrom files owner member s (i ∷ inputs) → IsClosedFrom files owner member t inputs
-  closed-rest h = (subst Closed e h).2
+  pub patch-step : (f : List Edge → List Edge) → command_step files u i.moment i.actor i.command ≡
+      patch_step u (refusal_of files u i.moment i.actor i.command) f →
+      refusal_of files u i.moment i.actor i.command ≡ None → step files s i ≡
+      to (record u { edges = f u.edges }) (ds ++ []) Done
+  patch-step f c e =
+      command-step (to (record u { edges = f u.edges }) [] Done) (c ∙ ap (λ x. patch_step u x f) e)
 
 -- ---- settling
 
-pub settle-sorted : (s : State) (m : ℕ) → settle s m ≡ sent (without_due s m) (flat_map (event_copies s) (filter (by m) (sorted (all_timed s.clients s.pending))))
+pub settle-sorted : (s : State) (m : ℕ) → settle s m ≡
+    sent (without_due s m) (flat_map (event_copies s)
+    (filter (by m) (sorted (all_timed s.clients s.pending))))
 settle-sorted s m = ap (λ ts. sent (without_due s m) (flat_map (event_copies s) ts)) (sort_law s m)
 
 pub settle-still : (s : State) (m : ℕ) → s.pending ≡ [] → settle s m ≡ settled_to s []
 settle-still s m e =
     settle-sorted s m
-    ∙ ap (λ ps. sent (record { clients = s.clients; pools = s.pools; edges = s.edges; pending = filter is_left (map (playback_after s.clients m) ps) }) (flat_map (event_copies s) (filter (by m) (sorted (all_timed s.clients ps))))) e
-    ∙ ap (λ ps. settled_to (record { clients = s.clients; pools = s.pools; edges = s.edges; pending = ps }) []) (sym e)
+    ∙ ap (λ ps. sent (record {
+      clients = s.clients;
+      pools = s.pools;
+      edges = s.edges;
+      pending = filter is_left (map (playback_after s.clients m) ps);
+    })
+    (flat_map (event_copies s) (filter (by m) (sorted (all_timed s.clients ps))))) e
+    ∙ ap (λ ps. settled_to (record {
+      clients = s.clients;
+      pools = s.pools;
+      edges = s.edges;
+      pending = ps;
+    }) []) (sym e)
+
+-- an event on a clock that runs since a moment, from a time on, and when it is sent
+abbrev pub IsDue : Tempos → ℕ → ℕ → ℕ → Due → Option ℕ → Type 0
+IsDue tempos time since accepted due moment =
+    moment_of (record { map = tempos; time = time; since = Some since }) accepted due ≡ moment
 
 -- the moment of an event on a clock that runs, where there is one
-pub clock-moment : (tempos : Tempos) (time since accepted d : ℕ) (due : Due) → d ≡ due_time tempos due → max (since + (d - time)) accepted < 2 ^ 64 → moment_of (record { map = tempos; time = time; since = Some since }) accepted due ≡ Some (max (since + (d - time)) accepted)
-clock-moment tempos time since accepted d due e h = sym (moment-running {E = ℕ} tempos time since accepted d due e (Ok (max (since + (d - time)) accepted)) (h, refl))
+pub clock-moment : (tempos : Tempos) (time since accepted d : ℕ) (due : Due) → d ≡
+    due_time tempos due → max (since + (d - time)) accepted < 2 ^ 64 →
+    IsDue tempos time since accepted due (Some (max (since + (d - time)) accepted))
+clock-moment tempos time since accepted d due e h =
+    sym (moment-running {E = ℕ} tempos time since accepted d due e
+    (Ok (max (since + (d - time)) accepted)) (h, refl))
 
-pub clock-never : (tempos : Tempos) (time since accepted d : ℕ) (due : Due) → d ≡ due_time tempos due → (max (since + (d - time)) accepted < 2 ^ 64 → ⊥) → moment_of (record { map = tempos; time = time; since = Some since }) accepted due ≡ None
-clock-never tempos time since accepted d due e h = sym (moment-running tempos time since accepted d due e (Err zero) h)
+pub clock-never : (tempos : Tempos) (time since accepted d : ℕ) (due : Due) → d ≡
+    due_time tempos due → (max (since + (d - time)) accepted < 2 ^ 64 → ⊥) →
+    IsDue tempos time since accepted due None
+clock-never tempos time since accepted d due e h =
+    sym (moment-running tempos time since accepted d due e (Err zero) h)
 
 -- at 0 no tick but the first has come
 pub tick-at_first : tick_at two_a_second 0 ≡ 0
@@ -159,12 +166,17 @@ tick-at_one = ticks_come_back_exactly two_a_second 1 (omega arith) (omega arith)
 -- tick 2 comes half a tick sooner where the tempo doubles at tick 1
 pub tick-at_second : tick_at (changed two_a_second 1 250000) 1562500 ≡ 2
 unfolding nanos_at numerator duration tempo_or resolution
-tick-at_second = ticks_come_back_exactly (changed two_a_second 1 250000) 2 (omega arith) (omega arith) (omega arith)
+tick-at_second =
+    ticks_come_back_exactly (changed two_a_second 1 250000) 2 (omega arith) (omega arith)
+    (omega arith)
 
 -- after 1,000 ns the next tick is the first
 pub first-tick : first_tick_from two_a_second 1000 ≡ Some 1
 unfolding first_tick_from numerator duration tempo_or resolution
-first-tick = least-is (λ tick. nat_le (1000 * resolution two_a_second) (numerator two_a_second tick)) (2 ^ 64 - 1) 1 (omega arith) refl (λ n h. let z : n ≡ 0 = omega arith in ap (λ k. nat_le (1000 * resolution two_a_second) (numerator two_a_second k)) z)
+first-tick =
+    least-is (λ tick. nat_le (1000 * resolution two_a_second) (numerator two_a_second tick))
+    (2 ^ 64 - 1) 1 (omega arith) refl (λ n h. let z : n ≡ 0 = omega arith in
+    ap (λ k. nat_le (1000 * resolution two_a_second) (numerator two_a_second k)) z)
 
 -- ---- paths, where only those that go on are followed
 
@@ -172,22 +184,27 @@ unfoldable pub ways : ℕ → List Edge → Addr → List (List Edge)
 ways zero edges a = []
 ways (suc n) edges a =
     flat_map (λ e. elim (same a e.source) as (λ _. List (List Edge)) [
-      | true ↦ elim (is_filter e.target) as (λ _. List (List Edge)) [ true ↦ map (λ es. e ∷ es) (ways n edges e.target) | false ↦ (e ∷ []) ∷ [] ]
+      | true ↦ elim (is_filter e.target) as (λ _. List (List Edge))
+          [ true ↦ map (λ es. e ∷ es) (ways n edges e.target) | false ↦ (e ∷ []) ∷ [] ]
       | false ↦ []
     ]) edges
 
 walk-ways : (n : ℕ) (edges : List Edge) (a : Addr) → walk n edges a ≡ ways n edges a
 unfolding walk ways
 walk-ways zero edges a = refl
-walk-ways (suc n) edges a = flat_map-agree (hop n edges a) (λ e. way e (same a e.source) (is_filter e.target)) (λ e. one e (same a e.source) (is_filter e.target) (walk-ways n edges e.target)) edges
+walk-ways (suc n) edges a =
+    flat_map-agree (hop n edges a) (λ e. way e (same a e.source) (is_filter e.target))
+    (λ e. one e (same a e.source) (is_filter e.target) (walk-ways n edges e.target)) edges
   where
     way : Edge → Bool → Bool → List (List Edge)
     way e b c = elim b as (λ _. List (List Edge)) [
-      | true ↦ elim c as (λ _. List (List Edge)) [ true ↦ map (λ es. e ∷ es) (ways n edges e.target) | false ↦ (e ∷ []) ∷ [] ]
+      | true ↦ elim c as (λ _. List (List Edge))
+          [ true ↦ map (λ es. e ∷ es) (ways n edges e.target) | false ↦ (e ∷ []) ∷ [] ]
       | false ↦ []
     ]
 
-    one : (e : Edge) (b c : Bool) → walk n edges e.target ≡ ways n edges e.target → cond b (cond c (map (λ es. e ∷ es) (walk n edges e.target)) ((e ∷ []) ∷ [])) [] ≡ way e b c
+    one : (e : Edge) (b c : Bool) → walk n edges e.target ≡ ways n edges e.target →
+        cond b (cond c (map (λ es. e ∷ es) (walk n edges e.target)) ((e ∷ []) ∷ [])) [] ≡ way e b c
     one e true true more = ap (map (λ es. e ∷ es)) more
     one e true false more = refl
     one e false c more = refl
@@ -198,10 +215,12 @@ paths-ways edges a = paths-walk edges a ∙ walk-ways 8 edges a
 
 -- ---- look-ups
 
-pub get-inserted : {X : Type 0} (m : FinMap nat_cmp X) (k : ℕ) (x : X) (q : ℕ) → FinMap.get (FinMap.insert m k x) q ≡ cond (eqb q k) (Some x) (FinMap.get m q)
+pub get-inserted : {X : Type 0} (m : FinMap nat_cmp X) (k : ℕ) (x : X) (q : ℕ) →
+    FinMap.get (FinMap.insert m k x) q ≡ cond (eqb q k) (Some x) (FinMap.get m q)
 get-inserted m k x q = get-put m k (Some x) q
 
-pub get-removed : {X : Type 0} (m : FinMap nat_cmp X) (k q : ℕ) → FinMap.get (FinMap.remove m k) q ≡ cond (eqb q k) None (FinMap.get m q)
+pub get-removed : {X : Type 0} (m : FinMap nat_cmp X) (k q : ℕ) → FinMap.get (FinMap.remove m k) q ≡
+    cond (eqb q k) None (FinMap.get m q)
 get-removed m k q = get-put m k None q
 
 pub get-none : {X : Type 0} (q : ℕ) → FinMap.get {X = X} (FinMap.empty {R = nat_cmp}) q ≡ None

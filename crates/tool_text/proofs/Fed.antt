@@ -14,7 +14,7 @@ use Rattle.seq_ports.specs.Rows.{at}
 use Rattle.seq_ports.specs.State.{Client, PortInfo, State}
 use Rattle.seq_ports.specs.Own.{Own, own_command, first_refusal, port_of, has_port, fed_of, changed, feed_port}
 use Rattle.patch_graph.specs.Edges.{edge}
-use Rattle.seq_ports.specs.Step.{port_addr, sent, unless, after_own, with_own, refusal_of, step}
+use Rattle.seq_ports.specs.Step.{port_addr, send_copies, unless, after_own, with_own, refusal_of, step}
 use Rattle.seq_ports.proofs.Kin.{get-put}
 use Rattle.seq_engine.proofs.Arms.{none_lost}
 use Rattle.tool_text.specs.Thru.{thru_line, thru_text, stream_of, IsJoined}
@@ -45,7 +45,7 @@ fed_client None bytes h = absurd (false≢true (sym (ap is_some (FinMap.get-empt
 fed_client (Some x) bytes h = fed_port x bytes (FinMap.get x.ports 0) h
 
 -- the copies along the one subscription
-one_each : (messages : List (List ℕ)) → sent (edge (port_addr 128 0) (port_addr 129 0) ∷ []) 0 128 (map (λ m. (0, m)) messages) ≡ map (λ m. record { moment = 0; target = record { client = 129; port = 0 }; message = m }) messages
+one_each : (messages : List (List ℕ)) → send_copies (edge (port_addr 128 0) (port_addr 129 0) ∷ []) 0 128 (map (λ m. (0, m)) messages) ≡ map (λ m. record { moment = 0; target = record { client = 129; port = 0 }; message = m }) messages
 one_each [] = refl
 one_each (m ∷ messages) = ap (λ ds. record { moment = 0; target = record { client = 129; port = 0 }; message = m } ∷ ds) (one_each messages)
 
@@ -62,7 +62,7 @@ module _ (s : State) (bytes : List ℕ) (j : IsJoined s) where
   fed_delivers =
       let messages : List (List ℕ) = reading (stream_of s ++ bytes) in
       ap (λ o. flat_map (λ d. thru_line d.message) (unless o s (after_own s 0 128 own)).delivered) (accepted s bytes j)
-      ∙ ap (λ (es : List Edge). flat_map (λ d. thru_line d.message) (sent es 0 128 (map (λ m. (0, m)) messages))) j.edges
+      ∙ ap (λ (es : List Edge). flat_map (λ d. thru_line d.message) (send_copies es 0 128 (map (λ m. (0, m)) messages))) j.edges
       ∙ ap (flat_map (λ d. thru_line d.message)) (one_each messages) ∙ lines messages
 
   fed_state : (step s (at 0 128 (Bytes 0 bytes))).state ≡ with_own s 128 own

@@ -9,7 +9,7 @@ use Rattle.std.proofs.Common.{true, List, ℕ, refl}
 use Rattle.midi_wire.specs.Readings.{reading}
 use Rattle.seq_ports.specs.declared.log.Reply.TheVariants.{Messages}
 use Rattle.seq_ports.specs.Own.{has_port, fed_of, port_of}
-use Rattle.seq_ports.specs.Step.{sent}
+use Rattle.seq_ports.specs.Step.{send_copies}
 use Rattle.seq_engine.proofs.Arms.{feeding, port_to_feed}
 use Rattle.seq_engine.proofs.patchbay.Patchbay.bytes.Goals as goal
 
@@ -29,4 +29,4 @@ returns c =
     (λ n. feeding (record { clients = i.clients; edges = i.graph }) a.turn.moment a.turn.actor out c.feed.new.self a.port a.bytes.now c.feed.new.out.items c.in_ok-count.count n c.in_ok-count.ensures.fed
     (c.in_ok-count.ensures.told ∙ ap (λ (ms : List (List ℕ)). ms ++ reading (fed_of (port_of (FinMap.get i.clients a.turn.actor) a.port) ++ a.bytes.now)) c.new-messages.ensures.items)
     c.in_ok-count.ensures.number refl
-    (c.in_ok-delivered.ensures ∙ ap (λ (ms : List (List ℕ)). sent i.graph a.turn.moment a.turn.actor (map (λ m. (a.port, m)) ms)) c.as_slice.ensures.value)) c.requires
+    (c.in_ok-delivered.ensures ∙ ap (λ (ms : List (List ℕ)). send_copies i.graph a.turn.moment a.turn.actor (map (λ m. (a.port, m)) ms)) c.as_slice.ensures.value)) c.requires
