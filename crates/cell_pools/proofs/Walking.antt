@@ -19,7 +19,7 @@ pub record IsWalked {T : Type 0} (client index : ℕ) (old now : Store T) : Type
   pub fewer : (key : ℕ) → IsSome (get now.cells key) → get now.cells key ≡ get old.cells key
   pub sizes : (q : ℕ) → size_of now q ≡ size_of old q
 
-slice_get-take : (n : ℕ) (xs : List ℕ) (i : ℕ) → i < n → slice_get (take n xs) i ≡ slice_get xs i
+pub slice_get-take : (n : ℕ) (xs : List ℕ) (i : ℕ) → i < n → slice_get (take n xs) i ≡ slice_get xs i
 slice_get-take zero xs i l = absurd (omega arith)
 slice_get-take (suc n) [] i l = refl
 slice_get-take (suc n) (x ∷ xs) zero l = refl

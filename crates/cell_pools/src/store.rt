@@ -1,11 +1,12 @@
 //! What waits to be sent.
 
-ghost use Rattle.std.specs.Prelude.{◌≡◌, ◌↔◌, ℕ, None, slice_get, length, [], IfOk, OnErr, IfErr, IfNone, IsErrOf};
+ghost use Rattle.std.specs.Prelude.{◌≡◌, ◌↔◌, ◌<◌, ℕ, Some, None, slice_get, length, [], IfOk, OnErr, IfErr, IfNone, IsErrOf};
 ghost use Rattle.std.specs.Option.{option_copied, option_copied_mut};
 ghost use Rattle.std.specs.Borrow.{sem};
 ghost use Rattle.std.specs.FinMap as map;
 ghost use Rattle.cell_pools.specs.Cells.{size_of, keys_of, value_at, client_at, cells_of, used_by, IsFull, with_size, with_cell, AreKeys, IsTaken};
 ghost use Rattle.cell_pools.specs.Faults.{value_of};
+ghost use Rattle.cell_pools.specs.Kept.{IsClient};
 
 use crate::clients::ClientTable;
 use crate::fault::PutFault;
@@ -13,7 +14,7 @@ use crate::key::CellKey;
 use memory::OutOfMemory;
 use node_table::ClientId;
 use slab::Slab;
-use std::alloc::Global;
+use std::alloc::{AllocFailed, Global};
 use std::marker::Model;
 
 /// What is pending, whose it is, and where its key stands among those of its client.
@@ -120,13 +121,31 @@ impl<T> CellStore<T> {
         if self.used(client) >= self.size(client) {
             return Err(PutFault::Full(value));
         }
+        match self.add(client, value) {
+            Ok(cell) => Ok(cell),
+            Err(failed) => Err(PutFault::OutOfMemory(failed.value)),
+        }
+    }
+
+    /// Adds a cell of a client, as `put` does, for a caller that has made its test. `Err` leaves all
+    /// as it was and gives the value back.
+    pub fn add(&mut self, client: ClientId, value: T) -> Result<CellKey, AllocFailed<T>>
+        requires room { used_by self.old.cells client < size_of self.old client }
+        ensures ok { IfOk result (λ key. self.new ≡ with_cell self.old client key value) }
+        ensures vacant { IfOk result (λ key. map.get self.old.cells key ≡ None) }
+        ensures err { OnErr result (self.new ≡ self.old) }
+        ensures value_back { IfErr result (λ failed. failed.value ≡ value) }
+    {
+        let used = self.used(client);
+        let size = self.size(client);
+        prove!(used < size);
         let Ok(()) = self.cells.reserve(1) else {
-            return Err(PutFault::OutOfMemory(value));
+            return Err(AllocFailed { value });
         };
         let key = CellKey::new(self.cells.vacant_key());
         let index = self.clients.get(client).keys().len();
         let Ok(()) = self.clients.push(client, key) else {
-            return Err(PutFault::OutOfMemory(value));
+            return Err(AllocFailed { value });
         };
         self.cells.insert_reserved(Cell {
             client,
@@ -134,6 +153,13 @@ impl<T> CellStore<T> {
             value,
         });
         Ok(key)
+    }
+
+    /// Each cell is a client's, whose number is 128 to 191.
+    pub fn cells_are_of_clients(&self)
+        ensures { (key client : ℕ) → client_at self.now key ≡ Some client → IsClient client }
+    {
+        let _ = &self.cells;
     }
 
     /// What is under a key.

@@ -101,10 +101,10 @@ module _ (s : State) (before after : List Pending) (p : Pending) (e : Event) (es
       go true = refl
       go false = refl
 
-  pub all : List Pending
+  unfoldable pub all : List Pending
   all = before ++ with_events p (e ∷ es) ∷ after
 
-  pub others : List Pending
+  unfoldable pub others : List Pending
   others = before ++ (filter is_left (with_events p es ∷ []) ++ after)
 
   abbrev in_all : ℕ → List Timed

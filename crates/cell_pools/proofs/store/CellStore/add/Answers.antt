@@ -1,7 +1,7 @@
 use Rattle.std.proofs.Common.{length, ap, sym, ◌∙◌}
 use Rattle.cell_pools.specs.Cells.{Held}
 use Rattle.cell_pools.proofs.Keeping.{stored-kept, stored-seen, stored-vacant}
-use Rattle.cell_pools.proofs.store.CellStore.put.Goals as goal
+use Rattle.cell_pools.proofs.store.CellStore.add.Goals as goal
 
 pub invariant_of-self-2 : goal.invariant_of-self-2
 invariant_of-self-2 g c =
