@@ -1,0 +1,12 @@
+pub mod Ranks
+pub mod Stores
+pub mod Clocks
+pub mod Turn
+pub mod Loop
+pub mod Added
+pub mod Marks
+pub mod Dropped
+pub mod NewKeys
+pub mod Counting
+pub mod Elsewhere
+pub mod FirstEvents

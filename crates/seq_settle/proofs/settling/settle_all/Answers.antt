@@ -1,0 +1,51 @@
+use Rattle.std.proofs.Common.{None, sym, ap, ◌∙◌}
+use Rattle.std.specs.FinMap.{get}
+use Rattle.seq_settle.specs.Cells.{seen}
+use Rattle.seq_settle.specs.Sends.{key_of_head}
+use Rattle.seq_settle.proofs.Stores.{get-put_here}
+use Rattle.seq_settle.proofs.Loop.{turn_from, turn_fewer, fresh_next, loop_end, has_event}
+use Rattle.seq_settle.proofs.settling.settle_all.Goals as goal
+
+pub unreachable-requires : goal.unreachable-requires
+unreachable-requires g c =
+    let i = c.loop-due.invariant in
+    has_event _ _ _ _ _ c.in-Some.due.0 c.in-Some.due.1 c.in_ok-popped.field-0 i.kept.are i.kept.keys c.in-Some.ensures.due c.in_ok-popped.ensures.event c.in_default-2.is
+
+pub add_key-requires-clause-absent : goal.add_key-requires-clause-absent
+add_key-requires-clause-absent g c = ap (λ m. get m c.in-Some.due.0) c.in-Some.ensures.popped ∙ get-put_here (g.A.Agenda.content c.loop-due.agenda) c.in-Some.due.0 None
+
+pub add_key-requires-clause-free : goal.add_key-requires-clause-free
+add_key-requires-clause-free g c =
+    let i = c.loop-due.invariant in
+    let r = c.in-Some-2.popped in
+    fresh_next _ c.args.steps c.args.moment _ _ _ c.in-Some.due.0 c.in-Some.due.1 r c.key_of-key.result i.kept.are i.kept.keys c.in-Some.ensures.due
+    (λ x e es h f. sym c.in-Some-2.is ∙ c.in_ok-popped.ensures.event x e es h f) c.in-Some.ensures.popped
+    (c.key_of-key.ensures ∙ ap (key_of_head (g.D.Desk.clients c.send_popped.new.desk)) c.in_ok-head.ensures.head ∙ ap (λ x. key_of_head x r.head) (c.in_ok-head.ensures.clients ∙ i.clients))
+
+pub loop-due-smaller : goal.loop-due-smaller
+loop-due-smaller g c =
+    let i = c.loop-due.invariant in
+    turn_fewer _ (g.D.Desk.edges c.args.desk.now) c.args.steps c.args.moment (g.D.Desk.pools c.args.desk.now) _ _ _ c.in-Some.due.0 c.in-Some.due.1 i.kept.are i.kept.keys c.in-Some.ensures.due c.in_ok-popped.ensures.rest
+
+pub loop-due-preserved : goal.loop-due-preserved
+loop-due-preserved g c =
+    let i = c.loop-due.invariant in
+    let r = c.in-Some-2.popped in
+    record {
+      clients = c.in_ok-head.ensures.clients ∙ i.clients;
+      edges = c.in_ok-head.ensures.edges ∙ i.edges;
+      kept = turn_from _ _ _ _ _ _ _ _ _ _ _ _ _ _ _ c.in-Some.due.0 c.in-Some.due.1 r c.key_of-key.result i.kept c.in-Some.ensures.due (λ x e es h f. sym c.in-Some-2.is ∙ c.in_ok-popped.ensures.event x e es h f) c.in_ok-popped.ensures.rest
+          _ _ _ i.clients i.edges c.in_ok-head.ensures.clients c.in_ok-head.ensures.pools c.in_ok-head.ensures.sent
+          (c.key_of-key.ensures ∙ ap (key_of_head (g.D.Desk.clients c.send_popped.new.desk)) c.in_ok-head.ensures.head) c.in-Some.ensures.popped c.in_ok-add_key.ensures;
+      sizes = λ client. c.in_ok-popped.ensures.sizes client ∙ i.sizes client;
+    }
+
+pub returns-clause-state : goal.returns-clause-state
+returns-clause-state g c =
+    let i = c.loop-due.invariant in
+    ap (λ x. seen x (g.D.Desk.pools c.loop-due.desk) (g.D.Desk.edges c.loop-due.desk) c.loop-due.cells.cells c.args.steps) i.clients
+    ∙ ap (λ x. seen (g.D.Desk.clients c.args.desk.now) (g.D.Desk.pools c.loop-due.desk) x c.loop-due.cells.cells c.args.steps) i.edges
+    ∙ (loop_end _ _ _ _ _ _ _ _ _ _ i.kept c.in_default.ensures.none).0
+
+pub returns-clause-delivered : goal.returns-clause-delivered
+returns-clause-delivered g c = (loop_end _ _ _ _ _ _ _ _ _ _ c.loop-due.invariant.kept c.in_default.ensures.none).1

@@ -1,0 +1,64 @@
+//! A playback more.
+
+ghost use Rattle.std.specs.Prelude.{◌≡◌, ℕ, ◌<◌, ◌+◌, ◌++◌, [], ◌∷◌, true, OnOk};
+ghost use Rattle.std.specs.List.{filter};
+ghost use Rattle.cell_pools.specs.Cells.{size_of, used_by};
+ghost use Rattle.seq_state.specs.Step.{is_left};
+ghost use Rattle.seq_settle.specs.Cells.{AreCells, AreKeys, are_in_order, pending_in, playbacks};
+ghost use Rattle.seq_settle.specs.Sends.{new_left};
+
+use crate::desk::Desk;
+use crate::events::Events;
+use crate::keys::{add_key, key_of};
+use crate::playing::Playing;
+use agenda_heap::Agenda;
+use cell_pools::CellStore;
+use memory::OutOfMemory;
+use node_table::{ClientId, PortNo, QueueAddr};
+
+/// What a command that is accepted now has to send.
+#[derive(Drop)]
+pub struct Accepted<'b> {
+    pub client: ClientId,
+    pub port: PortNo,
+    pub queue: QueueAddr,
+    /// In nanoseconds.
+    pub moment: u64,
+    pub events: Events<'b>,
+}
+
+/// Adds what the command of this rank has to send, if it has an event.
+pub fn add_playback<'b, D: Desk, A: Agenda>(
+    desk: &D,
+    cells: &mut CellStore<Playing<'b>>,
+    agenda: &mut A,
+    rank: u64,
+    accepted: Accepted<'b>,
+) -> Result<(), OutOfMemory>
+    requires cells { AreCells cells.old.cells rank }
+    requires keys { AreKeys (D.clients desk.now) cells.old.cells (A.content agenda.old) }
+    requires ordered { are_in_order accepted.events ≡ true }
+    requires room { used_by cells.old.cells accepted.client < size_of cells.old accepted.client }
+    ensures added { OnOk result (playbacks cells.new.cells (rank + 1) ≡ playbacks cells.old.cells rank
+        ++ filter is_left (pending_in (accepted.entry.client, new_left rank accepted.entry.port accepted.entry.queue accepted.entry.moment accepted.entry.events) ∷ [])) }
+    ensures cells { OnOk result (AreCells cells.new.cells (rank + 1)) }
+    ensures keys { OnOk result (AreKeys (D.clients desk.now) cells.new.cells (A.content agenda.new)) }
+    ensures sizes { OnOk result ((client : ℕ) → size_of cells.new client ≡ size_of cells.old client) }
+{
+    let Accepted {
+        client,
+        port,
+        queue,
+        moment,
+        events,
+    } = accepted;
+    let Some(_) = events.first_due() else {
+        return Ok(());
+    };
+    let playing = Playing::new(rank, port, queue, moment, events);
+    let key = key_of(desk, &playing.head(client));
+    let Ok(cell) = cells.add(client, playing) else {
+        return Err(OutOfMemory);
+    };
+    add_key(agenda, cell, key)
+}

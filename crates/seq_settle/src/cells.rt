@@ -1,0 +1,79 @@
+//! The cells of all playbacks.
+
+ghost use Rattle.std.specs.Prelude.{◌≡◌, ℕ, List, ◌∷◌, None, Some, IsSome, IfOk, OnOk};
+ghost use Rattle.std.specs.FinMap as map;
+ghost use Rattle.std.specs.Option.{option_map};
+ghost use Rattle.cell_pools.specs.Cells.{size_of, IsTaken};
+ghost use Rattle.seq_state.specs.State.{Event, put};
+ghost use Rattle.seq_settle.specs.Cells.{Cell, with_rest, rest_of};
+ghost use Rattle.seq_settle.specs.Sends.{head_of, popped};
+
+use crate::head::{Head, Popped};
+use crate::playing::Playing;
+use cell_pools::{CellKey, CellStore};
+use memory::OutOfMemory;
+use midi_wire::Message;
+
+/// The playbacks of all clients, each in a cell.
+pub type Cells<'b> = CellStore<Playing<'b>>;
+
+/// What the cell under a key says of itself.
+pub(crate) fn head_at(cells: &CellStore<Playing<'_>>, key: CellKey) -> Option<Head>
+    ensures { result ≡ option_map head_of (map.get cells.now.cells key) }
+{
+    let client = cells.client_of(key)?;
+    let playing = cells.get(key)?;
+    Some(playing.head(client))
+}
+
+/// Takes the first event off a cell, and drops the cell where it was the last.
+pub(crate) fn pop_first(
+    cells: &mut CellStore<Playing<'_>>,
+    key: CellKey,
+) -> Result<Option<Popped>, OutOfMemory>
+    ensures event { IfOk result (λ r. (c : Cell) (e : Event) (es : List Event) → map.get cells.old.cells key ≡ Some c
+        → c.1.events ≡ e ∷ es → r ≡ Some (popped c e es)) }
+    ensures rest { OnOk result ((c : Cell) (e : Event) (es : List Event) → map.get cells.old.cells key ≡ Some c
+        → c.1.events ≡ e ∷ es → cells.new.cells ≡ put cells.old.cells key (rest_of c es)) }
+    ensures sizes { OnOk result ((client : ℕ) → size_of cells.new client ≡ size_of cells.old client) }
+{
+    let Some(message) = next_of(cells, key)? else {
+        return Ok(None);
+    };
+    let Some(head) = head_at(cells, key) else {
+        return Ok(None);
+    };
+    drop_spent(cells, key, &head);
+    Ok(Some(Popped { message, head }))
+}
+
+/// Drops a cell that has no event left.
+fn drop_spent(cells: &mut CellStore<Playing<'_>>, key: CellKey, head: &Head)
+    ensures spent { head.now.due ≡ None → IsTaken cells.old cells.new key }
+    ensures left { IsSome head.now.due → cells.new ≡ cells.old }
+{
+    if head.due.is_none() {
+        drop_cell(cells, key);
+    }
+}
+
+/// Drops a cell, if it is there.
+pub(crate) fn drop_cell(cells: &mut CellStore<Playing<'_>>, key: CellKey)
+    ensures { IsTaken cells.old cells.new key }
+{
+    cells.take(key);
+}
+
+/// Takes the message of the first event of a cell.
+fn next_of(cells: &mut CellStore<Playing<'_>>, key: CellKey) -> Result<Option<Message>, OutOfMemory>
+    ensures event { IfOk result (λ r. (c : Cell) (e : Event) (es : List Event) → map.get cells.old.cells key ≡ Some c
+        → c.1.events ≡ e ∷ es → r ≡ Some e.message) }
+    ensures rest { OnOk result ((c : Cell) (e : Event) (es : List Event) → map.get cells.old.cells key ≡ Some c
+        → c.1.events ≡ e ∷ es → cells.new.cells ≡ map.insert cells.old.cells key (c.0, with_rest c.1 es)) }
+    ensures sizes { OnOk result ((client : ℕ) → size_of cells.new client ≡ size_of cells.old client) }
+{
+    match cells.get_mut(key) {
+        Some(playing) => playing.next(),
+        None => Ok(None),
+    }
+}

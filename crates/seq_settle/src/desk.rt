@@ -1,0 +1,46 @@
+//! What settling asks of the clients.
+
+ghost use Rattle.std.specs.Prelude.{◌≡◌, List, ◌++◌, OnOk};
+ghost use Rattle.std.specs.Ordering.{nat_cmp};
+ghost use Rattle.std.specs.FinMap as map;
+ghost use Rattle.patch_graph.specs.declared.edge.Edge.{Edge};
+ghost use Rattle.seq_state.specs.State.{Client, Pool};
+ghost use Rattle.seq_state.specs.Step.{offered, delivered};
+ghost use Rattle.seq_settle.specs.Moments.{moment_at};
+ghost use Rattle.seq_settle.specs.Sends.{copies_of};
+
+use memory::OutOfMemory;
+use midi_wire::Message;
+use node_table::{ClientId, PortNo, QueueAddr};
+use seq_state::Delivery;
+use tempo_clock::Due;
+
+/// The open clients with their input pools, and the subscriptions: whoever has them tells moments and sends messages.
+pub trait Desk {
+    ghost clients: { Self → map.FinMap nat_cmp Client };
+
+    ghost pools: { Self → map.FinMap nat_cmp Pool };
+
+    ghost edges: { Self → List Edge };
+
+    /// The moment, in nanoseconds, at which something is due by a queue, if the queue comes to it as it runs now.
+    fn moment_of(&self, queue: &QueueAddr, accepted: u64, due: Due) -> Option<u64>
+        ensures { result ≡ moment_at (clients self.now) queue.now accepted due };
+
+    /// Sends a message from a port: a copy along each path, to the input pools that have room. Want of memory may leave
+    /// some copies sent.
+    fn send(
+        &mut self,
+        moment: u64,
+        client: ClientId,
+        port: PortNo,
+        message: &Message,
+        out: &mut Vec<Delivery>,
+    ) -> Result<(), OutOfMemory>
+        ensures clients { OnOk result (clients self.new ≡ clients self.old) }
+        ensures edges { OnOk result (edges self.new ≡ edges self.old) }
+        ensures pools { OnOk result (pools self.new
+            ≡ offered (pools self.old) (copies_of (clients self.old) (edges self.old) moment client port message.now)) }
+        ensures sent { OnOk result (out.new.items ≡ out.old.items
+            ++ delivered (pools self.old) (copies_of (clients self.old) (edges self.old) moment client port message.now)) };
+}

@@ -1,0 +1,94 @@
+//! What one command has still to send.
+
+ghost use Rattle.std.specs.Prelude.{◌≡◌, List, [], ◌∷◌, map, Some, IfOk, OnOk};
+ghost use Rattle.seq_state.specs.State.{Event};
+ghost use Rattle.seq_settle.specs.Events.{event_of};
+ghost use Rattle.seq_settle.specs.Sends.{next_due};
+
+use memory::OutOfMemory;
+use midi_wire::Message;
+use smf_files::Cursor;
+use std::marker::Model;
+use tempo_clock::Due;
+
+/// Where the events come from.
+#[derive(Drop)]
+enum Source<'b> {
+    /// A message that was scheduled, until it is sent.
+    Scheduled { due: Due, message: Option<Message> },
+    /// A file that is played.
+    Played(Cursor<'b>),
+}
+
+/// The events that one command has still to send: one that was scheduled, or those of a file that is played.
+#[derive(Drop)]
+pub struct Events<'b> {
+    source: Source<'b>,
+}
+
+impl<'b> Model for Events<'b> {
+    ghost use Rattle.std.specs.Prelude.{List};
+    ghost use Rattle.std.specs.Coded.{coded_list};
+    ghost use Rattle.seq_state.specs.State.{Event, coded_event};
+    ghost use Rattle.seq_settle.specs.Events.{events_seen};
+
+    ghost Value = { List Event };
+
+    ghost coded = { coded_list coded_event };
+
+    ghost view = { λ e. events_seen e.source };
+}
+
+impl<'b> Events<'b> {
+    /// One message, when it is due.
+    pub fn scheduled(due: Due, message: Message) -> Events<'b>
+        ensures { result ≡ record { due = due; message = message } ∷ [] }
+    {
+        Events {
+            source: Source::Scheduled {
+                due,
+                message: Some(message),
+            },
+        }
+    }
+
+    /// What a cursor in a file still gives, each event due at its tick.
+    pub fn played(cursor: Cursor<'b>) -> Events<'b>
+        ensures { result ≡ map event_of cursor.entry }
+    {
+        Events {
+            source: Source::Played(cursor),
+        }
+    }
+
+    /// When the first of them is due.
+    pub fn first_due(&self) -> Option<Due>
+        ensures { result ≡ next_due self.now }
+    {
+        match &self.source {
+            Source::Scheduled {
+                due,
+                message: Some(_),
+            } => Some(*due),
+            Source::Scheduled { .. } => None,
+            Source::Played(cursor) => match cursor.peek_tick() {
+                Some(tick) => Some(Due::Tick(tick)),
+                None => None,
+            },
+        }
+    }
+
+    /// Takes the first of them, if there is one. Where memory is refused, all stay.
+    pub fn next(&mut self) -> Result<Option<Message>, OutOfMemory>
+        ensures first { IfOk result (λ r. (e : Event) (es : List Event) → self.old ≡ e ∷ es → r ≡ Some e.message) }
+        ensures rest { OnOk result ((e : Event) (es : List Event) → self.old ≡ e ∷ es → self.new ≡ es) }
+    {
+        match &mut self.source {
+            Source::Scheduled { due: _, message } => Ok(message.take()),
+            Source::Played(cursor) => match cursor.next()? {
+                Some(event) => Ok(Some(event.message)),
+                None => Ok(None),
+            },
+        }
+    }
+}

@@ -1,0 +1,76 @@
+//! A playback in its cell.
+
+ghost use Rattle.std.specs.Prelude.{◌≡◌, List, ◌∷◌, Some, IfOk, OnOk};
+ghost use Rattle.seq_state.specs.State.{Event};
+ghost use Rattle.seq_settle.specs.Cells.{with_rest};
+ghost use Rattle.seq_settle.specs.Sends.{head_of};
+
+use crate::events::Events;
+use crate::head::Head;
+use memory::OutOfMemory;
+use midi_wire::Message;
+use node_table::{ClientId, PortNo, QueueAddr};
+use std::marker::Model;
+
+/// What one Schedule or Play has still to send.
+#[derive(Drop)]
+pub struct Playing<'b> {
+    rank: u64,
+    port: PortNo,
+    queue: QueueAddr,
+    accepted: u64,
+    events: Events<'b>,
+}
+
+impl<'b> Model for Playing<'b> {
+    ghost use Rattle.seq_settle.specs.Cells.{Left, coded_left};
+
+    ghost Value = { Left };
+
+    ghost coded = { coded_left };
+
+    ghost view = { λ p.
+        record { rank = p.rank; port = p.port; queue = p.queue; accepted = p.accepted; events = p.events } };
+}
+
+impl<'b> Playing<'b> {
+    pub(crate) fn new(
+        rank: u64,
+        port: PortNo,
+        queue: QueueAddr,
+        accepted: u64,
+        events: Events<'b>,
+    ) -> Playing<'b>
+        ensures { result ≡ record { rank = rank; port = port; queue = queue; accepted = accepted; events = events.entry } }
+    {
+        Playing {
+            rank,
+            port,
+            queue,
+            accepted,
+            events,
+        }
+    }
+
+    /// What it says of itself in a cell of this client.
+    pub(crate) fn head(&self, client: ClientId) -> Head
+        ensures { result ≡ head_of (client, self.now) }
+    {
+        Head {
+            client,
+            port: self.port,
+            queue: self.queue,
+            accepted: self.accepted,
+            rank: self.rank,
+            due: self.events.first_due(),
+        }
+    }
+
+    /// Takes the message of its first event.
+    pub(crate) fn next(&mut self) -> Result<Option<Message>, OutOfMemory>
+        ensures first { IfOk result (λ r. (e : Event) (es : List Event) → self.old.events ≡ e ∷ es → r ≡ Some e.message) }
+        ensures rest { OnOk result ((e : Event) (es : List Event) → self.old.events ≡ e ∷ es → self.new ≡ with_rest self.old es) }
+    {
+        self.events.next()
+    }
+}

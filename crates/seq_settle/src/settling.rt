@@ -1,0 +1,69 @@
+//! Sending all that is due.
+
+ghost use Rattle.std.specs.Prelude.{◌≡◌, ℕ, ◌++◌, IfOk, OnOk};
+ghost use Rattle.cell_pools.specs.Cells.{size_of};
+ghost use Rattle.seq_state.specs.Step.{offered, delivered, settle};
+ghost use Rattle.seq_settle.specs.Cells.{AreCells, AreKeys, seen};
+ghost use Rattle.seq_settle.specs.Sends.{copies_of};
+
+use crate::cells::pop_first;
+use crate::desk::Desk;
+use crate::head::{Head, Popped};
+use crate::keys::{add_key, key_of};
+use crate::playing::Playing;
+use agenda_heap::Agenda;
+use cell_pools::CellStore;
+use memory::OutOfMemory;
+use seq_state::Delivery;
+
+/// Sends all that is due by a moment, in order, and adds what came to ports to `out`.
+///
+/// `steps` is the number of inputs so far. Want of memory may leave the agenda without a cell.
+pub fn settle_all<D: Desk, A: Agenda>(
+    desk: &mut D,
+    cells: &mut CellStore<Playing<'_>>,
+    agenda: &mut A,
+    steps: u64,
+    moment: u64,
+    out: &mut Vec<Delivery>,
+) -> Result<(), OutOfMemory>
+    requires cells { AreCells cells.old.cells steps }
+    requires keys { AreKeys (D.clients desk.old) cells.old.cells (A.content agenda.old) }
+    ensures state { OnOk result (seen (D.clients desk.new) (D.pools desk.new) (D.edges desk.new) cells.new.cells steps
+        ≡ (settle (seen (D.clients desk.old) (D.pools desk.old) (D.edges desk.old) cells.old.cells steps) moment).state) }
+    ensures delivered { OnOk result (out.new.items
+        ≡ out.old.items ++ (settle (seen (D.clients desk.old) (D.pools desk.old) (D.edges desk.old) cells.old.cells steps) moment).delivered) }
+    ensures cells { OnOk result (AreCells cells.new.cells steps) }
+    ensures keys { OnOk result (AreKeys (D.clients desk.new) cells.new.cells (A.content agenda.new)) }
+    ensures sizes { OnOk result ((client : ℕ) → size_of cells.new client ≡ size_of cells.old client) }
+{
+    while let Some(due) = agenda.pop_due(moment) {
+        let Some(popped) = pop_first(cells, due.0)? else {
+            unreachable!()
+        };
+        let head = send_popped(desk, due.1.moment, popped, out)?;
+        let key = key_of(desk, &head);
+        add_key(agenda, due.0, key)?;
+    }
+    Ok(())
+}
+
+/// Sends an event that left its cell, and gives what the cell says of itself without it.
+fn send_popped<D: Desk>(
+    desk: &mut D,
+    moment: u64,
+    popped: Popped,
+    out: &mut Vec<Delivery>,
+) -> Result<Head, OutOfMemory>
+    ensures head { IfOk result (λ h. h ≡ popped.head) }
+    ensures clients { OnOk result (D.clients desk.new ≡ D.clients desk.old) }
+    ensures edges { OnOk result (D.edges desk.new ≡ D.edges desk.old) }
+    ensures pools { OnOk result (D.pools desk.new ≡ offered (D.pools desk.old)
+        (copies_of (D.clients desk.old) (D.edges desk.old) moment popped.head.client popped.head.port popped.message)) }
+    ensures sent { OnOk result (out.new.items ≡ out.old.items ++ delivered (D.pools desk.old)
+        (copies_of (D.clients desk.old) (D.edges desk.old) moment popped.head.client popped.head.port popped.message)) }
+{
+    let head = popped.head;
+    desk.send(moment, head.client, head.port, &popped.message, out)?;
+    Ok(head)
+}
