@@ -2,7 +2,7 @@
 use Rattle.std.proofs.Common.{◌≡◌, ℕ, ◌≤◌, ◌<◌, Bool, true, false, ◌⊎◌, inl, inr, List, [], ◌∷◌, ◌++◌, length, refl, sym, subst, arith}
 use Rattle.std.specs.Prelude.{if◌then◌else◌, nat_le, nat_lt, IsTrue}
 use Rattle.std.proofs.lemmas.Bool.{lt-ltb, leb-true, leb-false, cases_Bool}
-use Rattle.midi_wire.specs.Messages.{Width, One, Two, Begins, Channel, Common, Tune, Exclusive, RealTime, Nothing, begins, is_status, is_real_time, most_data, all_data, is_group, IsTail, IsMessage, AllMessages, is_message}
+use Rattle.midi_wire.specs.Messages.{Width, One, Two, StatusClass, Channel, Common, TuneRequest, Exclusive, RealTime, Nothing, begins, is_status, is_real_time, most_data, all_data, is_group, IsTail, IsMessage, AllMessages, is_message}
 use Rattle.midi_wire.specs.Readings.{reading, rest, incomplete, while_incomplete, too_long, matters_by}
 use Rattle.midi_wire.specs.Laws.{ReadsMessages, RestsAreShort}
 use Rattle.midi_wire.proofs.Steps.{begun, ended, ended_by, completed, completed_by, real_of, step_gives, step_leaves, bounded, length-too_long}
@@ -13,7 +13,7 @@ use Rattle.midi_wire.proofs.MessageTests.{and_both, message-test}
 
 -- ---- one message
 
-pub message-by : (k : Begins) (s : ℕ) (tail : List ℕ) → begins s ≡ k → IsTail k tail → IsMessage (s ∷ tail)
+pub message-by : (k : StatusClass) (s : ℕ) (tail : List ℕ) → begins s ≡ k → IsTail k tail → IsMessage (s ∷ tail)
 message-by k s tail e p = subst (λ j. IsTail j tail) (sym e) p
 
 data_true : (d : List ℕ) → AllData d → IsTrue (all_data d)
@@ -32,18 +32,18 @@ all-append (m ∷ a) b p q = (p.0, all-append a b p.1 q)
 
 -- ---- what each step gives
 
-real-messages : (k : Begins) (b : ℕ) → begins b ≡ k → AllMessages (real_of k b)
+real-messages : (k : StatusClass) (b : ℕ) → begins b ≡ k → AllMessages (real_of k b)
 real-messages (Channel w) b e = tt
 real-messages (Common w) b e = tt
-real-messages Tune b e = tt
+real-messages TuneRequest b e = tt
 real-messages Exclusive b e = tt
 real-messages RealTime b e = (message-by RealTime b [] e refl, tt)
 real-messages Nothing b e = tt
 
-begun-messages : (k : Begins) (b : ℕ) → begins b ≡ k → AllMessages (begun k b)
+begun-messages : (k : StatusClass) (b : ℕ) → begins b ≡ k → AllMessages (begun k b)
 begun-messages (Channel w) b e = tt
 begun-messages (Common w) b e = tt
-begun-messages Tune b e = (message-by Tune b [] e refl, tt)
+begun-messages TuneRequest b e = (message-by TuneRequest b [] e refl, tt)
 begun-messages Exclusive b e = tt
 begun-messages RealTime b e = tt
 begun-messages Nothing b e = tt
@@ -56,15 +56,15 @@ exclusive-messages d p =
     go true e = (message-by Exclusive 240 (d ++ 247 ∷ []) begins-F0 (d, refl, data_true d p, leb-true (length d) most_data e), tt)
     go false e = tt
 
-ended-messages : (k : Begins) (d : List ℕ) → AllData d → AllMessages (ended_by k d)
+ended-messages : (k : StatusClass) (d : List ℕ) → AllData d → AllMessages (ended_by k d)
 ended-messages (Channel w) d p = tt
 ended-messages (Common w) d p = tt
-ended-messages Tune d p = tt
+ended-messages TuneRequest d p = tt
 ended-messages Exclusive d p = exclusive-messages d p
 ended-messages RealTime d p = tt
 ended-messages Nothing d p = tt
 
-completed-messages : (k : Begins) (s : ℕ) (d : List ℕ) (b : ℕ) → begins s ≡ k → AllData d → b < 128 → AllMessages (completed_by k s d b)
+completed-messages : (k : StatusClass) (s : ℕ) (d : List ℕ) (b : ℕ) → begins s ≡ k → AllData d → b < 128 → AllMessages (completed_by k s d b)
 completed-messages (Channel One) s d b e p l = (message-by (Channel One) s (b ∷ []) e (group-one b l), tt)
 completed-messages (Channel Two) s [] b e p l = tt
 completed-messages (Channel Two) s (a ∷ []) b e p l = (message-by (Channel Two) s (a ∷ b ∷ []) e (group-two a b p.0 l), tt)
@@ -73,7 +73,7 @@ completed-messages (Common One) s d b e p l = (message-by (Common One) s (b ∷ 
 completed-messages (Common Two) s [] b e p l = tt
 completed-messages (Common Two) s (a ∷ []) b e p l = (message-by (Common Two) s (a ∷ b ∷ []) e (group-two a b p.0 l), tt)
 completed-messages (Common Two) s (a ∷ c ∷ d) b e p l = tt
-completed-messages Tune s d b e p l = tt
+completed-messages TuneRequest s d b e p l = tt
 completed-messages Exclusive s d b e p l = tt
 completed-messages RealTime s d b e p l = tt
 completed-messages Nothing s d b e p l = tt
@@ -98,10 +98,10 @@ data-while Two s [] p = tt
 data-while Two s (a ∷ []) p = p
 data-while Two s (a ∷ b ∷ d) p = tt
 
-data-matters : (k : Begins) (s : ℕ) (d : List ℕ) → AllData d → StatusWithData (matters_by k s d)
+data-matters : (k : StatusClass) (s : ℕ) (d : List ℕ) → AllData d → StatusWithData (matters_by k s d)
 data-matters (Channel w) s d p = data-incomplete w d p
 data-matters (Common w) s d p = data-while w s d p
-data-matters Tune s d p = tt
+data-matters TuneRequest s d p = tt
 data-matters Exclusive s d p = all_data-bounded d p
 data-matters RealTime s d p = tt
 data-matters Nothing s d p = tt
@@ -161,10 +161,10 @@ short-bounded d =
     go true e = let few : length d ≤ 65536 = leb-true (length d) most_data e in omega arith
     go false e = omega (arith, length-too_long)
 
-short-matters : (k : Begins) (s : ℕ) (d : List ℕ) → length (matters_by k s d) ≤ 65538
+short-matters : (k : StatusClass) (s : ℕ) (d : List ℕ) → length (matters_by k s d) ≤ 65538
 short-matters (Channel w) s d = let few : length (incomplete w d) ≤ 1 = short-incomplete w d in omega arith
 short-matters (Common w) s d = let few : length (while_incomplete w s d) ≤ 2 = short-while w s d in omega arith
-short-matters Tune s d = omega arith
+short-matters TuneRequest s d = omega arith
 short-matters Exclusive s d = let few : length (bounded d) ≤ 65537 = short-bounded d in omega arith
 short-matters RealTime s d = omega arith
 short-matters Nothing s d = omega arith

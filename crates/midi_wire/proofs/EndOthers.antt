@@ -6,11 +6,11 @@ use Rattle.midi_wire.specs.declared.parser.LastBlock.TheVariants.{Idle, Waiting,
 use Rattle.midi_wire.specs.Messages.{begins}
 use Rattle.midi_wire.specs.Readings.{reading, rest}
 use Rattle.midi_wire.specs.Parsing.{pending_bytes, is_sound}
-use Rattle.midi_wire.proofs.Calls.{end-idle, end-waiting, end-overlong, waits-two}
+use Rattle.midi_wire.proofs.Calls.{end-idle, end-waiting, end-overlong, waits-two, waits-for}
 
 pub end-others : (k : LastBlock) (payload v : List ℕ) → (k ≡ Collecting → ⊥) → pending_bytes k payload ≡ v → IsTrue (is_sound k payload) → rest v ≡ v → reading (v ++ 247 ∷ []) ≡ []
 end-others Idle payload v n e s h = end-idle v (sym e) h
-end-others (Waiting status) payload v n e s h = end-waiting v status [] (sym e) h s
+end-others (Waiting status width) payload v n e s h = end-waiting v status [] (sym e) h (waits-for width (begins status) s)
 end-others (Half status first) payload v n e s h = end-waiting v status (first ∷ []) (sym e) h (waits-two (begins status) s)
 end-others Collecting payload v n e s h = absurd (n (λ i. Collecting))
 end-others Overlong payload v n e s h = end-overlong v (sym e) h

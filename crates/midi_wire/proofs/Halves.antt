@@ -2,16 +2,16 @@
 use Rattle.std.proofs.Common.{◌≡◌, ℕ, ◌+◌, ◌≤◌, ◌<◌, Bool, true, false, ◌⊎◌, inl, inr, List, [], ◌∷◌, ◌++◌, length, refl, sym, ap, subst, ◌∙◌, arith, append-nil, append_assoc, eq-eqb}
 use Rattle.std.specs.Prelude.{if◌then◌else◌, ◌==◌}
 use Rattle.std.proofs.lemmas.Bool.{cases_Bool, ne_eqb}
-use Rattle.midi_wire.specs.Messages.{Begins, Channel, Common, Tune, Exclusive, RealTime, Nothing, begins, is_real_time}
+use Rattle.midi_wire.specs.Messages.{StatusClass, Channel, Common, TuneRequest, Exclusive, RealTime, Nothing, begins, is_real_time}
 use Rattle.midi_wire.specs.Readings.{Placed, PlacedMessage, placed_from, real_times, without_real_times, blocks, all_given, stream_blocks, placed_messages, at, by_place, reading, rest, last_matters, real_time}
 use Rattle.midi_wire.proofs.Blocks.{placed, placed_from-snoc, real_times-append, without-append, add, blocks-snoc}
 use Rattle.midi_wire.proofs.Table.{below_real}
 use Rattle.midi_wire.proofs.Steps.{all_at, gained, left, real_of, step_gives, step_leaves, all_given-add, last_matters-add}
 
-real_time-at : (k : Begins) (n b : ℕ) → real_time k (placed n b) ≡ all_at n (real_of k b)
+real_time-at : (k : StatusClass) (n b : ℕ) → real_time k (placed n b) ≡ all_at n (real_of k b)
 real_time-at (Channel w) n b = refl
 real_time-at (Common w) n b = refl
-real_time-at Tune n b = refl
+real_time-at TuneRequest n b = refl
 real_time-at Exclusive n b = refl
 real_time-at RealTime n b = refl
 real_time-at Nothing n b = refl

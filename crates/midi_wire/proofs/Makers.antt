@@ -3,23 +3,22 @@ use Rattle.std.proofs.Common.{◌≡◌, ℕ, ◌+◌, ◌-◌, ◌%◌, ◌≤�
 use Rattle.std.specs.Prelude.{if◌then◌else◌, ◌==◌, ◌||◌, IsTrue}
 use Rattle.std.proofs.lemmas.Bool.{eqb-true}
 use Rattle.midi_wire.specs.declared.kind.Kind.TheVariants as kinds
-use Rattle.midi_wire.specs.Messages.{Width, One, Two, Begins, Channel, Common, Tune, Exclusive, RealTime, Nothing, begins, all_data, is_group, IsTail, IsMessage, IsExclusiveTail, is_message}
-use Rattle.midi_wire.specs.Writings.{status_of}
+use Rattle.midi_wire.specs.Messages.{Width, One, Two, StatusClass, Channel, Common, TuneRequest, Exclusive, RealTime, Nothing, begins, all_data, is_group, IsTail, IsMessage, IsExclusiveTail, is_message}
+use Rattle.midi_wire.specs.Writings.{status_of, is_channel}
 use Rattle.midi_wire.specs.Kinds.{kind_of, kind_of_status, channel_number, is_base}
 use Rattle.midi_wire.proofs.Steps.{length-snoc}
-use Rattle.midi_wire.proofs.Table.{begins-8, begins-C, begins-E, begins-F0, channel-from}
+use Rattle.midi_wire.proofs.Table.{begins-8, begins-C, begins-E, begins-F0}
 use Rattle.midi_wire.proofs.AllRead.{message-by, group-one, group-two}
 use Rattle.midi_wire.proofs.Written.{and_true, exclusive-is}
-use Rattle.midi_wire.proofs.WrittenNext.{message-channel}
 use Rattle.midi_wire.proofs.MessageTests.{message-test, message-tested}
 
 -- ---- the channel
 
-pub channel-there : (m : List ℕ) (s : ℕ) → IsMessage m → s ≡ status_of m → s < 240 → Some (s % 16) ≡ channel_number m
-channel-there m s p e l = ap (λ n. Some (n % 16)) e ∙ ap (λ t. if t then Some (status_of m % 16) else None) (sym (message-channel m p (subst (λ n. n < 240) e l)))
+pub channel-there : (m : List ℕ) (s : ℕ) → s ≡ status_of m → is_channel (begins s) ≡ true → Some (s % 16) ≡ channel_number m
+channel-there m s e c = ap (λ t. if t then Some (s % 16) else None) (sym c) ∙ ap (λ n. if is_channel (begins n) then Some (n % 16) else None) e
 
-pub channel-absent : (m : List ℕ) (s : ℕ) → s ≡ status_of m → 240 ≤ s → None ≡ channel_number m
-channel-absent m s e l = ap (λ t. if t then Some (status_of m % 16) else None) (sym (channel-from (status_of m) (subst (λ n. 240 ≤ n) e l)))
+pub channel-absent : (m : List ℕ) (s : ℕ) → s ≡ status_of m → is_channel (begins s) ≡ false → None ≡ channel_number m
+channel-absent m s e c = ap (λ t. if t then Some (s % 16) else None) (sym c) ∙ ap (λ n. if is_channel (begins n) then Some (n % 16) else None) e
 
 -- ---- messages of a channel
 
@@ -117,10 +116,10 @@ group-short Two tail p = let n : length tail ≡ 2 = eqb-true (length tail) 2 (a
 nil-short : (tail : List ℕ) → tail ≡ [] → length tail ≤ 2
 nil-short tail e = subst (λ (xs : List ℕ). length xs ≤ 2) (sym e) (omega arith)
 
-tail-short : (k : Begins) (tail : List ℕ) → IsTail k tail → (k ≡ Exclusive → ⊥) → length tail ≤ 2
+tail-short : (k : StatusClass) (tail : List ℕ) → IsTail k tail → (k ≡ Exclusive → ⊥) → length tail ≤ 2
 tail-short (Channel w) tail p n = group-short w tail p
 tail-short (Common w) tail p n = group-short w tail p
-tail-short Tune tail p n = nil-short tail p
+tail-short TuneRequest tail p n = nil-short tail p
 tail-short Exclusive tail p n = absurd (n refl)
 tail-short RealTime tail p n = nil-short tail p
 tail-short Nothing tail p n = absurd p

@@ -2,7 +2,7 @@
 use Rattle.std.proofs.Common.{◌≡◌, ℕ, ◌≤◌, Bool, true, false, List, [], ◌∷◌, ◌++◌, length, refl, sym, ap, subst, arith}
 use Rattle.std.specs.Prelude.{nat_le, nat_lt, ◌==◌, ◌&&◌, IsTrue}
 use Rattle.std.proofs.lemmas.Bool.{le-leb, leb-true, eqb-true}
-use Rattle.midi_wire.specs.Messages.{Begins, Channel, Common, Tune, Exclusive, RealTime, Nothing, begins, all_data, IsExclusiveTail, IsTail, IsMessage, ends_data, is_tail, is_message}
+use Rattle.midi_wire.specs.Messages.{StatusClass, Channel, Common, TuneRequest, Exclusive, RealTime, Nothing, begins, all_data, IsExclusiveTail, IsTail, IsMessage, ends_data, is_tail, is_message}
 use Rattle.midi_wire.specs.Laws.{TestsMessages}
 use Rattle.midi_wire.proofs.Steps.{length-snoc}
 use Rattle.midi_wire.proofs.Written.{and_true}
@@ -28,10 +28,10 @@ exclusive-test tail p =
     let short : length tail ≤ 65537 = subst (λ (xs : List ℕ). length xs ≤ 65537) (sym p.1) fits in
     and_both (nat_le (length tail) 65537) (ends_data tail) (le-leb (length tail) 65537 short) (subst (λ (xs : List ℕ). IsTrue (ends_data xs)) (sym p.1) (ends_data-append p.0 p.2))
 
-tail-test : (k : Begins) (tail : List ℕ) → IsTail k tail → IsTrue (is_tail k tail)
+tail-test : (k : StatusClass) (tail : List ℕ) → IsTail k tail → IsTrue (is_tail k tail)
 tail-test (Channel w) tail p = p
 tail-test (Common w) tail p = p
-tail-test Tune tail p = empty-test tail p
+tail-test TuneRequest tail p = empty-test tail p
 tail-test Exclusive tail p = exclusive-test tail p
 tail-test RealTime tail p = empty-test tail p
 tail-test Nothing tail p = absurd p
@@ -70,10 +70,10 @@ exclusive-tested tail e =
     let few : length found.payload ≤ 65536 = omega (arith, length-snoc found.payload 247, fits) in
     (found.payload, found.whole, found.low, few)
 
-tail-tested : (k : Begins) (tail : List ℕ) → IsTrue (is_tail k tail) → IsTail k tail
+tail-tested : (k : StatusClass) (tail : List ℕ) → IsTrue (is_tail k tail) → IsTail k tail
 tail-tested (Channel w) tail p = p
 tail-tested (Common w) tail p = p
-tail-tested Tune tail p = empty-tested tail p
+tail-tested TuneRequest tail p = empty-tested tail p
 tail-tested Exclusive tail p = exclusive-tested tail p
 tail-tested RealTime tail p = empty-tested tail p
 tail-tested Nothing tail p = let f : false ≡ true = p in let g : ⊥ = cc in absurd g

@@ -2,7 +2,7 @@
 use Rattle.std.proofs.Common.{◌≡◌, ℕ, ◌≤◌, ◌<◌, Bool, true, false, ◌⊎◌, inl, inr, zero, suc, replicate, List, [], ◌∷◌, ◌++◌, length, refl, sym, ap, subst, ◌∙◌, arith, append-nil, append_assoc}
 use Rattle.std.specs.Prelude.{if◌then◌else◌, nat_le}
 use Rattle.std.proofs.lemmas.Bool.{le-leb, lt-leb, leb-true, leb-false, cases_Bool}
-use Rattle.midi_wire.specs.Messages.{Width, One, Two, Begins, Channel, Common, Tune, Exclusive, RealTime, Nothing, begins, is_status, is_real_time, most_data}
+use Rattle.midi_wire.specs.Messages.{Width, One, Two, StatusClass, Channel, Common, TuneRequest, Exclusive, RealTime, Nothing, begins, is_status, is_real_time, most_data}
 use Rattle.midi_wire.specs.Readings.{reading, rest, incomplete, while_incomplete, too_long, matters_by}
 use Rattle.midi_wire.specs.Laws.{ReadsInTwo, RestsInTwo}
 use Rattle.midi_wire.proofs.Steps.{begun, ended, completed, completed_by, gained, kept_on, left, real_of, step_gives, step_leaves, bounded, bounded-snoc, kept_with, too_long-long}
@@ -81,14 +81,14 @@ settled-none : IsSettled []
 settled-none = record { silent = refl; same = refl }
 
 -- a status that waits for data
-settled-one : (k : Begins) (s : ℕ) → IsBlockStatus s → begins s ≡ k → matters_by k s [] ≡ s ∷ [] → begun k s ≡ [] → IsSettled (s ∷ [])
+settled-one : (k : StatusClass) (s : ℕ) → IsBlockStatus s → begins s ≡ k → matters_by k s [] ≡ s ∷ [] → begun k s ≡ [] → IsSettled (s ∷ [])
 settled-one k s h e m q = record {
   silent = append-nil (step_gives [] s) ∙ status-gives [] s h ∙ ap (λ j. begun j s) e ∙ q;
   same = status-leaves [] s h ∙ ap (λ j. matters_by j s []) e ∙ m;
 }
 
 -- a status with more that waits
-settled-more : (k : Begins) (s : ℕ) (d : List ℕ) → IsBlockStatus s → begins s ≡ k → matters_by k s [] ≡ s ∷ [] → begun k s ≡ [] → gives (s ∷ []) d ≡ [] → leaves (s ∷ []) d ≡ s ∷ d → IsSettled (s ∷ d)
+settled-more : (k : StatusClass) (s : ℕ) (d : List ℕ) → IsBlockStatus s → begins s ≡ k → matters_by k s [] ≡ s ∷ [] → begun k s ≡ [] → gives (s ∷ []) d ≡ [] → leaves (s ∷ []) d ≡ s ∷ d → IsSettled (s ∷ d)
 settled-more k s d h e m q g l =
     let first : step_gives [] s ≡ [] = status-gives [] s h ∙ ap (λ j. begun j s) e ∙ q in
     let next : step_leaves [] s ≡ s ∷ [] = status-leaves [] s h ∙ ap (λ j. matters_by j s []) e ∙ m in
@@ -98,7 +98,7 @@ settled-more k s d h e m q g l =
     }
 
 -- one data byte after a status that waits for two
-settled-half : (k : Begins) (s a : ℕ) → IsBlockStatus s → begins s ≡ k → matters_by k s [] ≡ s ∷ [] → begun k s ≡ [] → completed_by k s [] a ≡ [] → matters_by k s (a ∷ []) ≡ s ∷ a ∷ [] → a < 128 → IsSettled (s ∷ a ∷ [])
+settled-half : (k : StatusClass) (s a : ℕ) → IsBlockStatus s → begins s ≡ k → matters_by k s [] ≡ s ∷ [] → begun k s ≡ [] → completed_by k s [] a ≡ [] → matters_by k s (a ∷ []) ≡ s ∷ a ∷ [] → a < 128 → IsSettled (s ∷ a ∷ [])
 settled-half k s a h e m q g l low =
     settled-more k s (a ∷ []) h e m q
     (append-nil (step_gives (s ∷ []) a) ∙ data-gives (s ∷ []) a low ∙ ap (λ j. completed_by j s [] a) e ∙ g)
@@ -141,10 +141,10 @@ bounded-twice d =
     go (inl e) = ap (λ t. bounded (if t then d else too_long)) e
     go (inr e) = ap (λ t. bounded (if t then d else too_long)) e ∙ ap (λ t. if t then too_long else too_long) too_long-long ∙ ap (λ t. if t then d else too_long) (sym e)
 
-settled-by : (k : Begins) (s : ℕ) → IsBlockStatus s → begins s ≡ k → (d : List ℕ) → AllData d → IsSettled (matters_by k s d)
+settled-by : (k : StatusClass) (s : ℕ) → IsBlockStatus s → begins s ≡ k → (d : List ℕ) → AllData d → IsSettled (matters_by k s d)
 settled-by (Channel w) s h e d p = settled-channel w s h e d p
 settled-by (Common w) s h e d p = settled-common w s h e d p
-settled-by Tune s h e d p = settled-none
+settled-by TuneRequest s h e d p = settled-none
 settled-by Exclusive s h e d p = settled-more Exclusive s (bounded d) h e refl refl (exclusive-gives s e [] (bounded d) (all_data-bounded d p)) (exclusive-leaves s e [] (bounded d) (all_data-bounded d p) ∙ ap (λ u. s ∷ u) (bounded-twice d))
 settled-by RealTime s h e d p = settled-none
 settled-by Nothing s h e d p = settled-none

@@ -2,19 +2,19 @@
 use Rattle.std.proofs.Common.{◌≡◌, ℕ, ◌+◌, Bool, true, false, ◌⊎◌, inl, inr, zero, suc, List, [], ◌∷◌, ◌++◌, length, replicate, Some, None, refl, sym, ap, ◌∙◌, arith, append-nil, append_assoc}
 use Rattle.std.specs.Prelude.{if◌then◌else◌, nat_le}
 use Rattle.std.proofs.lemmas.Bool.{lt-leb, leb-false, cases_Bool}
-use Rattle.midi_wire.specs.Messages.{Width, One, Two, Begins, Channel, Common, Tune, Exclusive, RealTime, Nothing, begins, is_status, is_real_time, most_data}
+use Rattle.midi_wire.specs.Messages.{Width, One, Two, StatusClass, Channel, Common, TuneRequest, Exclusive, RealTime, Nothing, begins, is_status, is_real_time, most_data}
 use Rattle.midi_wire.specs.Readings.{Placed, Block, PlacedMessage, groups, first_message, bytes_of, exclusive, given_by, given, all_given, incomplete, while_incomplete, too_long, matters_by, last_matters}
 use Rattle.midi_wire.proofs.Blocks.{block_of, add}
 
 -- ---- a step over what still matters
 
 -- what a status gives by itself
-abbrev pub begun : Begins → ℕ → List (List ℕ)
-begun Tune b = (b ∷ []) ∷ []
+abbrev pub begun : StatusClass → ℕ → List (List ℕ)
+begun TuneRequest b = (b ∷ []) ∷ []
 begun _ b = []
 
 -- what a status gives by ending the block before it
-abbrev pub ended_by : Begins → List ℕ → List (List ℕ)
+abbrev pub ended_by : StatusClass → List ℕ → List (List ℕ)
 ended_by Exclusive d = if nat_le (length d) most_data then ((240 ∷ d ++ 247 ∷ []) ∷ []) else []
 ended_by _ d = []
 
@@ -29,10 +29,10 @@ complete Two s [] b = []
 complete Two s (a ∷ []) b = (s ∷ a ∷ b ∷ []) ∷ []
 complete Two s (a ∷ c ∷ d) b = []
 
-abbrev pub completed_by : Begins → ℕ → List ℕ → ℕ → List (List ℕ)
+abbrev pub completed_by : StatusClass → ℕ → List ℕ → ℕ → List (List ℕ)
 completed_by (Channel w) s d b = complete w s d b
 completed_by (Common w) s d b = complete w s d b
-completed_by Tune s d b = []
+completed_by TuneRequest s d b = []
 completed_by Exclusive s d b = []
 completed_by RealTime s d b = []
 completed_by Nothing s d b = []
@@ -55,7 +55,7 @@ abbrev pub left : List ℕ → ℕ → List ℕ
 left r b = if is_status b then matters_by (begins b) b [] else kept_on r b
 
 -- a message of real time
-abbrev pub real_of : Begins → ℕ → List (List ℕ)
+abbrev pub real_of : StatusClass → ℕ → List (List ℕ)
 real_of RealTime b = (b ∷ []) ∷ []
 real_of _ b = []
 
@@ -131,10 +131,10 @@ ended-exclusive bytes x =
         ∙ ap (λ t. all_at x.place (if t then ((240 ∷ too_long ++ 247 ∷ []) ∷ []) else [])) (sym too_long-long)
         ∙ ap (λ t. all_at x.place (ended_by Exclusive (if t then bytes_of bytes else too_long))) (sym e)
 
-ended_with : (k : Begins) (st : Placed) → begins st.byte ≡ k → (bytes : List Placed) (x : Placed) → given_by k st bytes (Some x) ≡ given_by k st bytes None ++ all_at x.place (ended (matters_by k st.byte (bytes_of bytes)))
+ended_with : (k : StatusClass) (st : Placed) → begins st.byte ≡ k → (bytes : List Placed) (x : Placed) → given_by k st bytes (Some x) ≡ given_by k st bytes None ++ all_at x.place (ended (matters_by k st.byte (bytes_of bytes)))
 ended_with (Channel w) st e bytes x = rw e (sym (append-nil (groups w st.byte bytes)))
 ended_with (Common w) st e bytes x = rw (ended-common w st.byte e (bytes_of bytes)) (sym (append-nil (first_message (groups w st.byte bytes))))
-ended_with Tune st e bytes x = refl
+ended_with TuneRequest st e bytes x = refl
 ended_with Exclusive st e bytes x = rw e (ended-exclusive bytes x)
 ended_with RealTime st e bytes x = refl
 ended_with Nothing st e bytes x = refl
@@ -155,10 +155,10 @@ first-snoc Two s e [] x = rw e refl
 first-snoc Two s e (a ∷ []) x = rw e refl
 first-snoc Two s e (a ∷ b ∷ more) x = refl
 
-completed_with : (k : Begins) (st : Placed) → begins st.byte ≡ k → (bytes : List Placed) (x : Placed) → given_by k st (bytes ++ x ∷ []) None ≡ given_by k st bytes None ++ all_at x.place (completed (matters_by k st.byte (bytes_of bytes)) x.byte)
+completed_with : (k : StatusClass) (st : Placed) → begins st.byte ≡ k → (bytes : List Placed) (x : Placed) → given_by k st (bytes ++ x ∷ []) None ≡ given_by k st bytes None ++ all_at x.place (completed (matters_by k st.byte (bytes_of bytes)) x.byte)
 completed_with (Channel w) st e bytes x = rw e (groups-snoc w st.byte bytes x)
 completed_with (Common w) st e bytes x = first-snoc w st.byte e bytes x
-completed_with Tune st e bytes x = refl
+completed_with TuneRequest st e bytes x = refl
 completed_with Exclusive st e bytes x = rw e refl
 completed_with RealTime st e bytes x = refl
 completed_with Nothing st e bytes x = refl
@@ -191,22 +191,22 @@ bounded-snoc d b =
         ∙ ap (λ t. if t then (too_long ++ b ∷ []) else too_long) (sym (too_long-more b))
         ∙ ap (λ t. bounded ((if t then d else too_long) ++ b ∷ [])) (sym e)
 
-pub kept_with : (k : Begins) (s : ℕ) → begins s ≡ k → (d : List ℕ) (b : ℕ) → matters_by k s (d ++ b ∷ []) ≡ kept_on (matters_by k s d) b
+pub kept_with : (k : StatusClass) (s : ℕ) → begins s ≡ k → (d : List ℕ) (b : ℕ) → matters_by k s (d ++ b ∷ []) ≡ kept_on (matters_by k s d) b
 kept_with (Channel w) s e d b = rw e (ap (λ (r : List ℕ). s ∷ r) (incomplete-snoc w d b))
 kept_with (Common w) s e d b = common-kept w s e d b
-kept_with Tune s e d b = refl
+kept_with TuneRequest s e d b = refl
 kept_with Exclusive s e d b = rw e (ap (λ (r : List ℕ). s ∷ r) (bounded-snoc d b))
 kept_with RealTime s e d b = refl
 kept_with Nothing s e d b = refl
 
 -- ---- one more byte at the end of the blocks
 
-begun_with : (k : Begins) (x : Placed) → given_by k x [] None ≡ all_at x.place (begun k x.byte)
+begun_with : (k : StatusClass) (x : Placed) → given_by k x [] None ≡ all_at x.place (begun k x.byte)
 begun_with (Channel One) x = refl
 begun_with (Channel Two) x = refl
 begun_with (Common One) x = refl
 begun_with (Common Two) x = refl
-begun_with Tune x = refl
+begun_with TuneRequest x = refl
 begun_with Exclusive x = refl
 begun_with RealTime x = refl
 begun_with Nothing x = refl

@@ -3,7 +3,7 @@ use Rattle.std.proofs.Common.{◌≡◌, ℕ, ◌≤◌, ◌<◌, Bool, true, fa
 use Rattle.std.specs.Prelude.{if◌then◌else◌, nat_le, nat_lt, ◌==◌, ◌&&◌, IsTrue}
 use Rattle.std.proofs.lemmas.Bool.{le-leb, lt-leb, ltb-true, eqb-true, cases_Bool, cases_lt}
 use Rattle.std.proofs.lemmas.Bool.Decides.{nat_tests}
-use Rattle.midi_wire.specs.Messages.{Width, One, Two, Begins, Channel, Common, Tune, Exclusive, RealTime, Nothing, begins, most_data, all_data, is_group, IsTail, IsMessage, AllMessages}
+use Rattle.midi_wire.specs.Messages.{Width, One, Two, StatusClass, Channel, Common, TuneRequest, Exclusive, RealTime, Nothing, begins, most_data, all_data, is_group, IsTail, IsMessage, AllMessages}
 use Rattle.midi_wire.specs.Readings.{rest, matters_by, too_long}
 use Rattle.midi_wire.specs.Writings.{is_channel, is_real, repeats, written_next, written_on, written}
 use Rattle.midi_wire.proofs.Steps.{begun, ended, ended_by, completed_by, real_of, step_gives, step_leaves}
@@ -17,7 +17,7 @@ use Rattle.midi_wire.proofs.Machine.{f7-gives, f7-leaves}
 
 -- ---- the table once more
 
-pub begins-low-not : (s : ℕ) (k : Begins) → begins s ≡ k → (k ≡ Nothing → ⊥) → 128 ≤ s
+pub begins-low-not : (s : ℕ) (k : StatusClass) → begins s ≡ k → (k ≡ Nothing → ⊥) → 128 ≤ s
 begins-low-not s k e n =
     go (cases_lt s 128)
   where
@@ -26,7 +26,7 @@ begins-low-not s k e n =
     go (inr l) = l
 
 -- what a status from F8 on begins
-abbrev pub is_high : Begins → Bool
+abbrev pub is_high : StatusClass → Bool
 is_high RealTime = true
 is_high Nothing = true
 is_high _ = false
@@ -35,7 +35,7 @@ pub high-from : (s : ℕ) → 248 ≤ s → is_high (begins s) ≡ true
 unfolding begins
 high-from s l = grind (arith, nat_tests)
 
-begins-high-not : (s : ℕ) (k : Begins) → begins s ≡ k → is_high k ≡ false → s < 248
+begins-high-not : (s : ℕ) (k : StatusClass) → begins s ≡ k → is_high k ≡ false → s < 248
 begins-high-not s k e n =
     go (cases_lt s 248)
   where
@@ -55,7 +55,7 @@ pub exclusive-is : (s : ℕ) → begins s ≡ Exclusive → s ≡ 240
 unfolding begins
 exclusive-is s e = grind (arith, nat_tests)
 
-block-status : (s : ℕ) (k : Begins) → begins s ≡ k → (k ≡ Nothing → ⊥) → is_high k ≡ false → IsBlockStatus s
+block-status : (s : ℕ) (k : StatusClass) → begins s ≡ k → (k ≡ Nothing → ⊥) → is_high k ≡ false → IsBlockStatus s
 block-status s k e n h = record { high = begins-low-not s k e n; low = begins-high-not s k e h }
 
 -- ---- data
@@ -80,17 +80,17 @@ leaves-append r (b ∷ s) t = leaves-append (step_leaves r b) s t
 
 -- ---- a group after its status
 
-record Group (k : Begins) (s : ℕ) (d : List ℕ) : Type 0 where
+record Group (k : StatusClass) (s : ℕ) (d : List ℕ) : Type 0 where
   told : gives (s ∷ []) d ≡ (s ∷ d) ∷ []
   left : leaves (s ∷ []) d ≡ after_group (is_channel k) s
 
-group-one : (k : Begins) (s a : ℕ) → begins s ≡ k → waits k ≡ true → waits_for_two k ≡ false → a < 128 → Group k s (a ∷ [])
+group-one : (k : StatusClass) (s a : ℕ) → begins s ≡ k → waits k ≡ true → waits_for_two k ≡ false → a < 128 → Group k s (a ∷ [])
 group-one k s a e w f l = record {
   told = append-nil (step_gives (s ∷ []) a) ∙ data-gives (s ∷ []) a l ∙ ap (λ j. completed_by j s [] a) e ∙ one-told k s a w f;
   left = data-leaves (s ∷ []) a l ∙ ap (λ j. matters_by j s (a ∷ [])) e ∙ one-left k s a (is_channel k) w f refl;
 }
 
-group-two : (k : Begins) (s a b : ℕ) → begins s ≡ k → waits_for_two k ≡ true → a < 128 → b < 128 → Group k s (a ∷ b ∷ [])
+group-two : (k : StatusClass) (s a b : ℕ) → begins s ≡ k → waits_for_two k ≡ true → a < 128 → b < 128 → Group k s (a ∷ b ∷ [])
 group-two k s a b e f l m =
     let first : step_gives (s ∷ []) a ≡ [] = data-gives (s ∷ []) a l ∙ ap (λ j. completed_by j s [] a) e ∙ two-silent k s a f in
     let next : step_leaves (s ∷ []) a ≡ s ∷ a ∷ [] = data-leaves (s ∷ []) a l ∙ ap (λ j. matters_by j s (a ∷ [])) e ∙ two-half k s a f in
@@ -99,12 +99,12 @@ group-two k s a b e f l m =
       left = ap (λ r. step_leaves r b) next ∙ data-leaves (s ∷ a ∷ []) b m ∙ ap (λ j. matters_by j s (a ∷ b ∷ [])) e ∙ two-left k s a b (is_channel k) f refl;
     }
 
-group-of-one : (k : Begins) (s : ℕ) (d : List ℕ) → begins s ≡ k → waits k ≡ true → waits_for_two k ≡ false → IsTrue (is_group One d) → Group k s d
+group-of-one : (k : StatusClass) (s : ℕ) (d : List ℕ) → begins s ≡ k → waits k ≡ true → waits_for_two k ≡ false → IsTrue (is_group One d) → Group k s d
 group-of-one k s [] e w f p = let n : 0 ≡ 1 = eqb-true 0 1 (and_true (length {A = ℕ} [] == 1) (all_data []) p).0 in absurd (omega (arith, n))
 group-of-one k s (a ∷ []) e w f p = group-one k s a e w f (data_of (a ∷ []) (and_true (length (a ∷ []) == 1) (all_data (a ∷ [])) p).1).0
 group-of-one k s (a ∷ b ∷ d) e w f p = let n : length (a ∷ b ∷ d) ≡ 1 = eqb-true (length (a ∷ b ∷ d)) 1 (and_true (length (a ∷ b ∷ d) == 1) (all_data (a ∷ b ∷ d)) p).0 in absurd (omega arith)
 
-group-of-two : (k : Begins) (s : ℕ) (d : List ℕ) → begins s ≡ k → waits_for_two k ≡ true → IsTrue (is_group Two d) → Group k s d
+group-of-two : (k : StatusClass) (s : ℕ) (d : List ℕ) → begins s ≡ k → waits_for_two k ≡ true → IsTrue (is_group Two d) → Group k s d
 group-of-two k s [] e f p = let n : 0 ≡ 2 = eqb-true 0 2 (and_true (length {A = ℕ} [] == 2) (all_data []) p).0 in absurd (omega (arith, n))
 group-of-two k s (a ∷ []) e f p = let n : length (a ∷ []) ≡ 2 = eqb-true (length (a ∷ [])) 2 (and_true (length (a ∷ []) == 2) (all_data (a ∷ [])) p).0 in absurd (omega arith)
 group-of-two k s (a ∷ b ∷ []) e f p = let q : AllData (a ∷ b ∷ []) = data_of (a ∷ b ∷ []) (and_true (length (a ∷ b ∷ []) == 2) (all_data (a ∷ b ∷ [])) p).1 in group-two k s a b e f q.0 q.1.0
@@ -120,7 +120,7 @@ record Back (r : List ℕ) (before : List (List ℕ)) (m : List ℕ) (u : List �
   told : gives r u ≡ m ∷ []
   next : Follows (leaves r u) (m ∷ before)
 
-follows-new : (k : Begins) (s : ℕ) (d : List ℕ) (before : List (List ℕ)) (r : List ℕ) → begins s ≡ k → is_real k ≡ false → ended r ≡ [] → (is_channel k ≡ true → r ≡ s ∷ []) → Follows r ((s ∷ d) ∷ before)
+follows-new : (k : StatusClass) (s : ℕ) (d : List ℕ) (before : List (List ℕ)) (r : List ℕ) → begins s ≡ k → is_real k ≡ false → ended r ≡ [] → (is_channel k ≡ true → r ≡ s ∷ []) → Follows r ((s ∷ d) ∷ before)
 follows-new k s d before r e f q h = record {
   quiet = q;
   runs = λ t c p.
@@ -129,26 +129,26 @@ follows-new k s d before r e f q h = record {
       h chan ∙ ap (λ n. n ∷ []) same;
 }
 
-after-quiet : (k : Begins) (s : ℕ) (t : Bool) → begins s ≡ k → waits k ≡ true → ended (after_group t s) ≡ []
+after-quiet : (k : StatusClass) (s : ℕ) (t : Bool) → begins s ≡ k → waits k ≡ true → ended (after_group t s) ≡ []
 after-quiet k s true e w = ap (λ j. ended_by j []) e ∙ ended-waiting k [] w
 after-quiet k s false e w = refl
 
 after-channel : (s : ℕ) (t : Bool) → t ≡ true → after_group t s ≡ s ∷ []
 after-channel s t e = ap (λ b. after_group b s) e
 
-waits-not-real : (k : Begins) → waits k ≡ true → is_real k ≡ false
+waits-not-real : (k : StatusClass) → waits k ≡ true → is_real k ≡ false
 waits-not-real (Channel w) e = refl
 waits-not-real (Common w) e = refl
-waits-not-real Tune e = refl
+waits-not-real TuneRequest e = refl
 waits-not-real Exclusive e = refl
 waits-not-real RealTime e = cc
 waits-not-real Nothing e = refl
 
-group-follows : (k : Begins) (s : ℕ) (d : List ℕ) (before : List (List ℕ)) → begins s ≡ k → waits k ≡ true → Group k s d → Follows (leaves (s ∷ []) d) ((s ∷ d) ∷ before)
+group-follows : (k : StatusClass) (s : ℕ) (d : List ℕ) (before : List (List ℕ)) → begins s ≡ k → waits k ≡ true → Group k s d → Follows (leaves (s ∷ []) d) ((s ∷ d) ∷ before)
 group-follows k s d before e w g = follows-new k s d before (leaves (s ∷ []) d) e (waits-not-real k w) (ap (λ r. ended r) g.left ∙ after-quiet k s (is_channel k) e w) (λ c. g.left ∙ after-channel s (is_channel k) c)
 
 -- the status and its group
-back-whole : (k : Begins) (r : List ℕ) (before : List (List ℕ)) (s : ℕ) (d : List ℕ) → begins s ≡ k → IsBlockStatus s → waits k ≡ true → ended r ≡ [] → Group k s d → Back r before (s ∷ d) (s ∷ d)
+back-whole : (k : StatusClass) (r : List ℕ) (before : List (List ℕ)) (s : ℕ) (d : List ℕ) → begins s ≡ k → IsBlockStatus s → waits k ≡ true → ended r ≡ [] → Group k s d → Back r before (s ∷ d) (s ∷ d)
 back-whole k r before s d e b w q g =
     let first : step_gives r s ≡ [] = status-gives r s b ∙ ap (λ ms. ms ++ begun (begins s) s) q ∙ ap (λ j. begun j s) e ∙ begun-waiting k s w in
     let next : step_leaves r s ≡ s ∷ [] = status-leaves r s b ∙ ap (λ j. matters_by j s []) e ∙ matters-waiting k s w in
@@ -158,13 +158,13 @@ back-whole k r before s d e b w q g =
     }
 
 -- the group alone, under running status
-back-running : (k : Begins) (r : List ℕ) (before : List (List ℕ)) (s : ℕ) (d : List ℕ) → begins s ≡ k → waits k ≡ true → r ≡ s ∷ [] → Group k s d → Back r before (s ∷ d) d
+back-running : (k : StatusClass) (r : List ℕ) (before : List (List ℕ)) (s : ℕ) (d : List ℕ) → begins s ≡ k → waits k ≡ true → r ≡ s ∷ [] → Group k s d → Back r before (s ∷ d) d
 back-running k r before s d e w h g = record {
   told = ap (λ x. gives x d) h ∙ g.told;
   next = subst (λ x. Follows (leaves x d) ((s ∷ d) ∷ before)) (sym h) (group-follows k s d before e w g);
 }
 
-written_next-by : (k : Begins) (before : List (List ℕ)) (s : ℕ) (d : List ℕ) → begins s ≡ k → written_next before (s ∷ d) ≡ (if is_channel k && repeats before s then d else (s ∷ d))
+written_next-by : (k : StatusClass) (before : List (List ℕ)) (s : ℕ) (d : List ℕ) → begins s ≡ k → written_next before (s ∷ d) ≡ (if is_channel k && repeats before s then d else (s ∷ d))
 written_next-by k before s d e = ap (λ j. if is_channel j && repeats before s then d else (s ∷ d)) e
 
 back-channel : (w : Width) (r : List ℕ) (before : List (List ℕ)) (s : ℕ) (d : List ℕ) → begins s ≡ Channel w → Follows r before → Group (Channel w) s d → Back r before (s ∷ d) (written_next before (s ∷ d))
@@ -175,13 +175,13 @@ back-channel w r before s d e f g =
     go (inl p) = subst (λ t. Back r before (s ∷ d) (if t then d else (s ∷ d))) (sym p) (back-running (Channel w) r before s d e refl (f.runs s (ap is_channel e) p) g)
     go (inr p) = subst (λ t. Back r before (s ∷ d) (if t then d else (s ∷ d))) (sym p) (back-whole (Channel w) r before s d e (block-status s (Channel w) e (λ x. cc) refl) refl f.quiet g)
 
-back-tune : (r : List ℕ) (before : List (List ℕ)) (s : ℕ) → begins s ≡ Tune → Follows r before → Back r before (s ∷ []) (s ∷ [])
+back-tune : (r : List ℕ) (before : List (List ℕ)) (s : ℕ) → begins s ≡ TuneRequest → Follows r before → Back r before (s ∷ []) (s ∷ [])
 back-tune r before s e f =
-    let b : IsBlockStatus s = block-status s Tune e (λ x. cc) refl in
+    let b : IsBlockStatus s = block-status s TuneRequest e (λ x. cc) refl in
     let next : step_leaves r s ≡ [] = status-leaves r s b ∙ ap (λ j. matters_by j s []) e in
     record {
       told = append-nil (step_gives r s) ∙ status-gives r s b ∙ ap (λ ms. ms ++ begun (begins s) s) f.quiet ∙ ap (λ j. begun j s) e;
-      next = follows-new Tune s [] before (step_leaves r s) e refl (ap (λ x. ended x) next) (λ c. cc);
+      next = follows-new TuneRequest s [] before (step_leaves r s) e refl (ap (λ x. ended x) next) (λ c. cc);
     }
 
 back-real : (r : List ℕ) (before : List (List ℕ)) (s : ℕ) → begins s ≡ RealTime → Follows r before → Back r before (s ∷ []) (s ∷ [])
@@ -218,12 +218,12 @@ back-exclusive r before s payload e f p l =
       next = follows-new Exclusive s (payload ++ 247 ∷ []) before _ e refl (ap (λ x. ended x) done) (λ c. cc);
     }
 
-back-by : (k : Begins) (r : List ℕ) (before : List (List ℕ)) (s : ℕ) (d : List ℕ) → begins s ≡ k → Follows r before → IsTail k d → Back r before (s ∷ d) (written_next before (s ∷ d))
+back-by : (k : StatusClass) (r : List ℕ) (before : List (List ℕ)) (s : ℕ) (d : List ℕ) → begins s ≡ k → Follows r before → IsTail k d → Back r before (s ∷ d) (written_next before (s ∷ d))
 back-by (Channel One) r before s d e f p = back-channel One r before s d e f (group-of-one (Channel One) s d e refl refl p)
 back-by (Channel Two) r before s d e f p = back-channel Two r before s d e f (group-of-two (Channel Two) s d e refl p)
 back-by (Common One) r before s d e f p = subst (λ u. Back r before (s ∷ d) u) (sym (written_next-by (Common One) before s d e)) (back-whole (Common One) r before s d e (block-status s (Common One) e (λ x. cc) refl) refl f.quiet (group-of-one (Common One) s d e refl refl p))
 back-by (Common Two) r before s d e f p = subst (λ u. Back r before (s ∷ d) u) (sym (written_next-by (Common Two) before s d e)) (back-whole (Common Two) r before s d e (block-status s (Common Two) e (λ x. cc) refl) refl f.quiet (group-of-two (Common Two) s d e refl p))
-back-by Tune r before s d e f p = subst (λ x. Back r before (s ∷ x) (written_next before (s ∷ x))) (sym p) (subst (λ u. Back r before (s ∷ []) u) (sym (written_next-by Tune before s [] e)) (back-tune r before s e f))
+back-by TuneRequest r before s d e f p = subst (λ x. Back r before (s ∷ x) (written_next before (s ∷ x))) (sym p) (subst (λ u. Back r before (s ∷ []) u) (sym (written_next-by TuneRequest before s [] e)) (back-tune r before s e f))
 back-by Exclusive r before s d e f p = subst (λ x. Back r before (s ∷ x) (written_next before (s ∷ x))) (sym p.1) (subst (λ u. Back r before (s ∷ p.0 ++ 247 ∷ []) u) (sym (written_next-by Exclusive before s (p.0 ++ 247 ∷ []) e)) (back-exclusive r before s p.0 e f (data_of p.0 p.2) p.3))
 back-by RealTime r before s d e f p = subst (λ x. Back r before (s ∷ x) (written_next before (s ∷ x))) (sym p) (subst (λ u. Back r before (s ∷ []) u) (sym (written_next-by RealTime before s [] e)) (back-real r before s e f))
 back-by Nothing r before s d e f p = absurd p

@@ -2,7 +2,7 @@
 use Rattle.std.proofs.Common.{◌≡◌, ℕ, ◌≤◌, ◌<◌, true, false, List, [], ◌∷◌, ◌++◌, Option, Some, None, refl, sym, ap, subst, ◌∙◌, arith, append-nil, eq-eqb}
 use Rattle.std.specs.Prelude.{if◌then◌else◌, ◌==◌, ◌&&◌}
 use Rattle.std.proofs.lemmas.Bool.Decides.{nat_tests}
-use Rattle.midi_wire.specs.Messages.{Begins, Channel, Common, Tune, Exclusive, RealTime, Nothing, begins, IsTail, IsMessage}
+use Rattle.midi_wire.specs.Messages.{StatusClass, Channel, Common, TuneRequest, Exclusive, RealTime, Nothing, begins, IsTail, IsMessage}
 use Rattle.midi_wire.specs.Writings.{status_of, tail_of, is_channel, is_real, repeats, written_next, message_with, status_after}
 use Rattle.std.specs.Option.{option_eq}
 use Rattle.std.specs.Prelude.{nat_eq}
@@ -10,28 +10,32 @@ use Rattle.std.proofs.lemmas.Bool.{eqb-true}
 use Rattle.midi_wire.proofs.Table.{channel-below, channel-from}
 use Rattle.midi_wire.proofs.Written.{begins-low-not, high-from, is_high}
 
-no-tail : (k : Begins) (d : List ℕ) → IsTail k d → k ≡ Nothing → ⊥
+no-tail : (k : StatusClass) (d : List ℕ) → IsTail k d → k ≡ Nothing → ⊥
 no-tail k d p e = subst (λ j. IsTail j d) e p
 
 begins-some : (m : List ℕ) → IsMessage m → begins (status_of m) ≡ Nothing → ⊥
 begins-some [] p e = p
 begins-some (s ∷ d) p e = no-tail (begins s) d p e
 
+-- a message begins with a status
+pub message-status : (m : List ℕ) → IsMessage m → 128 ≤ status_of m
+message-status m p = begins-low-not (status_of m) (begins (status_of m)) refl (begins-some m p)
+
 pub message-channel : (m : List ℕ) → IsMessage m → status_of m < 240 → is_channel (begins (status_of m)) ≡ true
 message-channel m p l = channel-below (status_of m) (begins-low-not (status_of m) (begins (status_of m)) refl (begins-some m p)) l
 
-pub channel-not-real : (k : Begins) → is_channel k ≡ true → is_real k ≡ false
+pub channel-not-real : (k : StatusClass) → is_channel k ≡ true → is_real k ≡ false
 channel-not-real (Channel w) e = refl
 channel-not-real (Common w) e = refl
-channel-not-real Tune e = refl
+channel-not-real TuneRequest e = refl
 channel-not-real Exclusive e = refl
 channel-not-real RealTime e = cc
 channel-not-real Nothing e = refl
 
-high-real : (k : Begins) → is_high k ≡ true → (k ≡ Nothing → ⊥) → is_real k ≡ true
+high-real : (k : StatusClass) → is_high k ≡ true → (k ≡ Nothing → ⊥) → is_real k ≡ true
 high-real (Channel w) e n = cc
 high-real (Common w) e n = cc
-high-real Tune e n = cc
+high-real TuneRequest e n = cc
 high-real Exclusive e n = cc
 high-real RealTime e n = refl
 high-real Nothing e n = absurd (n refl)

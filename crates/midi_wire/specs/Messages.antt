@@ -1,42 +1,27 @@
 -- What a status begins, and the messages.
 use Rattle.std.specs.Prelude.{◌≡◌, ◌≤◌, ℕ, ◌+◌, List, [], ◌∷◌, ◌++◌, length, Bool, true, false, IsTrue, ◌&&◌, ◌==◌, nat_lt, nat_le, if◌then◌else◌}
+use Rattle.midi_wire.specs.declared.status.TheConstants.{EXCLUSIVE, END_OF_EXCLUSIVE}
+pub use Rattle.midi_wire.specs.declared.status.Width.{Width}
+pub use Rattle.midi_wire.specs.declared.status.Width.TheVariants.{One, Two}
+pub use Rattle.midi_wire.specs.declared.status.StatusClass.{StatusClass}
+pub use Rattle.midi_wire.specs.declared.status.StatusClass.TheVariants.{Channel, Common, TuneRequest, Exclusive, RealTime, Nothing}
 
--- how many data bytes make a group
-pub data Width : Type 0 where
-  One : Width
-  Two : Width
-
--- what a status begins
-pub data Begins : Type 0 where
-  -- 8n to En: messages of a channel
-  Channel : Width → Begins
-  -- F1, F2, F3: one message with data
-  Common : Width → Begins
-  -- F6: one message without data
-  Tune : Begins
-  -- F0: an exclusive message
-  Exclusive : Begins
-  -- F8, FA, FB, FC, FE, FF: one message of real time
-  RealTime : Begins
-  -- F4, F5, F7, F9, FD, and what is no status: no message
-  Nothing : Begins
-
--- the table of statuses
-unfoldable pub begins : ℕ → Begins
+-- the table of statuses: what each byte begins
+unfoldable pub begins : ℕ → StatusClass
 begins s =
-    if nat_lt s 128 then Nothing else
-    (if nat_lt s 192 then Channel Two else
-    (if nat_lt s 224 then Channel One else
-    (if nat_lt s 240 then Channel Two else
-    (if s == 240 then Exclusive else
-    (if s == 241 then Common One else
-    (if s == 242 then Common Two else
-    (if s == 243 then Common One else
-    (if s == 246 then Tune else
-    (if nat_lt s 248 then Nothing else
-    (if s == 249 then Nothing else
-    (if s == 253 then Nothing else
-    (if nat_lt s 256 then RealTime else Nothing))))))))))))
+    if nat_lt s 0x80 then Nothing else
+    (if nat_lt s 0xC0 then Channel Two else
+    (if nat_lt s 0xE0 then Channel One else
+    (if nat_lt s 0xF0 then Channel Two else
+    (if s == 0xF0 then Exclusive else
+    (if s == 0xF1 then Common One else
+    (if s == 0xF2 then Common Two else
+    (if s == 0xF3 then Common One else
+    (if s == 0xF6 then TuneRequest else
+    (if nat_lt s 0xF8 then Nothing else
+    (if s == 0xF9 then Nothing else
+    (if s == 0xFD then Nothing else
+    (if nat_lt s 0x100 then RealTime else Nothing))))))))))))
 
 -- a byte with bit 7 set
 abbrev pub is_status : ℕ → Bool
@@ -49,6 +34,10 @@ is_real_time b = nat_le 248 b
 -- how many data bytes an exclusive message has at most
 abbrev pub most_data : ℕ
 most_data = 65536
+
+-- the full bytes of the exclusive message of this data
+abbrev pub exclusive_message : List ℕ → List ℕ
+exclusive_message payload = EXCLUSIVE ∷ payload ++ END_OF_EXCLUSIVE ∷ []
 
 -- each is a data byte
 abbrev pub all_data : List ℕ → Bool
@@ -65,10 +54,10 @@ abbrev pub IsExclusiveTail : List ℕ → Type 0
 IsExclusiveTail tail = (payload : List ℕ) × (tail ≡ payload ++ 247 ∷ []) × IsTrue (all_data payload) × (length payload ≤ most_data)
 
 -- what may follow a status in a message
-abbrev pub IsTail : Begins → List ℕ → Type 0
+abbrev pub IsTail : StatusClass → List ℕ → Type 0
 IsTail (Channel width) tail = IsTrue (is_group width tail)
 IsTail (Common width) tail = IsTrue (is_group width tail)
-IsTail Tune tail = tail ≡ []
+IsTail TuneRequest tail = tail ≡ []
 IsTail Exclusive tail = IsExclusiveTail tail
 IsTail RealTime tail = tail ≡ []
 IsTail Nothing tail = ⊥
@@ -90,10 +79,10 @@ ends_data (b ∷ []) = b == 247
 ends_data (b ∷ c ∷ more) = nat_lt b 128 && ends_data (c ∷ more)
 
 -- what may follow a status in a message, as a test
-abbrev pub is_tail : Begins → List ℕ → Bool
+abbrev pub is_tail : StatusClass → List ℕ → Bool
 is_tail (Channel width) tail = is_group width tail
 is_tail (Common width) tail = is_group width tail
-is_tail Tune tail = length tail == 0
+is_tail TuneRequest tail = length tail == 0
 is_tail Exclusive tail = nat_le (length tail) (most_data + 1) && ends_data tail
 is_tail RealTime tail = length tail == 0
 is_tail Nothing tail = false

@@ -1,6 +1,6 @@
 -- What a message and a parser are seen as.
-use Rattle.std.specs.Prelude.{◌≡◌, ℕ, List, [], ◌∷◌, ◌++◌, length, Bool, true, false, nat_le}
-use Rattle.std.specs.Rc.{rc_slice_items}
+use Rattle.std.specs.Prelude.{◌≡◌, ℕ, List, [], ◌∷◌, ◌++◌, length, Bool, true, false, nat_le, if◌then◌else◌}
+use Rattle.std.specs.Rc.{rc_value}
 use Rattle.midi_wire.specs.declared.message.Form.{Form}
 use Rattle.midi_wire.specs.declared.message.Form.TheVariants.{Alone, WithOne, WithTwo, Exclusive}
 use Rattle.midi_wire.specs.declared.parser.LastBlock.{LastBlock}
@@ -8,38 +8,51 @@ use Rattle.midi_wire.specs.declared.parser.LastBlock.TheVariants.{Idle, Waiting,
 use Rattle.midi_wire.specs.Messages.{begins, most_data, all_data}
 use Rattle.midi_wire.specs.Messages as messages
 use Rattle.midi_wire.specs.Readings.{too_long}
+use Rattle.midi_wire.specs.Writings.{is_channel}
 
 -- the full bytes of a message
 abbrev pub full_bytes : Form → List ℕ
 full_bytes (Alone status) = status ∷ []
 full_bytes (WithOne status first) = status ∷ first ∷ []
 full_bytes (WithTwo status first second) = status ∷ first ∷ second ∷ []
-full_bytes (Exclusive payload) = 240 ∷ rc_slice_items payload ++ 247 ∷ []
+full_bytes (Exclusive payload) = messages.exclusive_message (rc_value payload).items
 
 -- what of the last block still matters, as a parser holds it
 abbrev pub pending_bytes : LastBlock → List ℕ → List ℕ
 pending_bytes Idle payload = []
-pending_bytes (Waiting status) payload = status ∷ []
+pending_bytes (Waiting status width) payload = status ∷ []
 pending_bytes (Half status first) payload = status ∷ first ∷ []
 pending_bytes Collecting payload = 240 ∷ payload
 pending_bytes Overlong payload = 240 ∷ too_long
 
+-- what is waited for after a whole message
+abbrev pub next_group : messages.Width → ℕ → LastBlock
+next_group width status = if is_channel (begins status) then Waiting status width else Idle
+
 -- a status that waits for data
-abbrev pub waits : messages.Begins → Bool
+abbrev pub waits : messages.StatusClass → Bool
 waits (messages.Channel width) = true
 waits (messages.Common width) = true
 waits _ = false
 
 -- a status that waits for two data bytes
-abbrev pub waits_for_two : messages.Begins → Bool
+abbrev pub waits_for_two : messages.StatusClass → Bool
 waits_for_two (messages.Channel messages.Two) = true
 waits_for_two (messages.Common messages.Two) = true
 waits_for_two _ = false
 
+-- a status that waits for so many data bytes
+abbrev pub waits_for : messages.Width → messages.StatusClass → Bool
+waits_for messages.One (messages.Channel messages.One) = true
+waits_for messages.One (messages.Common messages.One) = true
+waits_for messages.Two (messages.Channel messages.Two) = true
+waits_for messages.Two (messages.Common messages.Two) = true
+waits_for _ _ = false
+
 -- what a parser holds is in order
 abbrev pub is_sound : LastBlock → List ℕ → Bool
 is_sound Idle payload = true
-is_sound (Waiting status) payload = waits (begins status)
+is_sound (Waiting status width) payload = waits_for width (begins status)
 is_sound (Half status first) payload = waits_for_two (begins status)
 is_sound Collecting payload = nat_le (length payload) most_data
 is_sound Overlong payload = true

@@ -7,7 +7,7 @@
 -- place of its last byte, an exclusive one at that of the status that ends it and before what stands there too.
 -- The reading lists them by place.
 use Rattle.std.specs.Prelude.{ℕ, ◌+◌, List, [], ◌∷◌, ◌++◌, length, Option, Some, None, ◌==◌, nat_le, if◌then◌else◌, replicate}
-use Rattle.midi_wire.specs.Messages.{Width, One, Two, Begins, Channel, Common, Tune, Exclusive, RealTime, Nothing, begins, is_status, is_real_time, most_data}
+use Rattle.midi_wire.specs.Messages.{Width, One, Two, StatusClass, Channel, Common, TuneRequest, Exclusive, RealTime, Nothing, begins, is_status, is_real_time, most_data, exclusive_message}
 
 -- a byte and its place in the stream
 pub record Placed : Type 0 where
@@ -30,7 +30,7 @@ placed_from n [] = []
 placed_from n (b ∷ s) = record { place = n; byte = b } ∷ placed_from (n + 1) s
 
 -- a message of real time
-abbrev pub real_time : Begins → Placed → List PlacedMessage
+abbrev pub real_time : StatusClass → Placed → List PlacedMessage
 real_time RealTime x = record { place = x.place; message = x.byte ∷ [] } ∷ []
 real_time _ x = []
 
@@ -75,13 +75,13 @@ bytes_of (x ∷ xs) = x.byte ∷ bytes_of xs
 -- one exclusive message at the place of the status that ends it, where one does and the data is not too long
 abbrev pub exclusive : List Placed → Option Placed → List PlacedMessage
 exclusive bytes None = []
-exclusive bytes (Some end) = if nat_le (length bytes) most_data then (record { place = end.place; message = 240 ∷ bytes_of bytes ++ 247 ∷ [] } ∷ []) else []
+exclusive bytes (Some end) = if nat_le (length bytes) most_data then (record { place = end.place; message = exclusive_message (bytes_of bytes) } ∷ []) else []
 
 -- the messages of a block, by its status and the next one
-abbrev pub given_by : Begins → Placed → List Placed → Option Placed → List PlacedMessage
+abbrev pub given_by : StatusClass → Placed → List Placed → Option Placed → List PlacedMessage
 given_by (Channel width) status bytes next = groups width status.byte bytes
 given_by (Common width) status bytes next = first_message (groups width status.byte bytes)
-given_by Tune status bytes next = record { place = status.place; message = status.byte ∷ [] } ∷ []
+given_by TuneRequest status bytes next = record { place = status.place; message = status.byte ∷ [] } ∷ []
 given_by Exclusive status bytes next = exclusive bytes next
 given_by RealTime status bytes next = []
 given_by Nothing status bytes next = []
@@ -137,11 +137,11 @@ unfoldable pub too_long : List ℕ
 too_long = replicate 65537 0
 
 -- what of a block still matters
-abbrev pub matters_by : Begins → ℕ → List ℕ → List ℕ
+abbrev pub matters_by : StatusClass → ℕ → List ℕ → List ℕ
 matters_by (Channel width) s bytes = s ∷ incomplete width bytes
 matters_by (Common width) s bytes = while_incomplete width s bytes
 matters_by Exclusive s bytes = s ∷ (if nat_le (length bytes) most_data then bytes else too_long)
-matters_by Tune s bytes = []
+matters_by TuneRequest s bytes = []
 matters_by RealTime s bytes = []
 matters_by Nothing s bytes = []
 

@@ -1,6 +1,6 @@
 -- What is written for a list of messages.
 use Rattle.std.specs.Prelude.{ℕ, List, [], ◌∷◌, ◌++◌, Bool, true, false, Option, Some, None, ◌==◌, ◌&&◌, if◌then◌else◌}
-use Rattle.midi_wire.specs.Messages.{Begins, Channel, RealTime, begins}
+use Rattle.midi_wire.specs.Messages.{StatusClass, Channel, RealTime, begins}
 
 -- the status of a message
 abbrev pub status_of : List ℕ → ℕ
@@ -12,11 +12,11 @@ abbrev pub tail_of : List ℕ → List ℕ
 tail_of [] = []
 tail_of (s ∷ tail) = tail
 
-abbrev pub is_channel : Begins → Bool
+abbrev pub is_channel : StatusClass → Bool
 is_channel (Channel width) = true
 is_channel _ = false
 
-abbrev pub is_real : Begins → Bool
+abbrev pub is_real : StatusClass → Bool
 is_real RealTime = true
 is_real _ = false
 

@@ -20,6 +20,7 @@ pub use fault::WireFault;
 pub use kind::Kind;
 pub use message::Message;
 pub use parser::StreamParser;
+pub use status::{END_OF_EXCLUSIVE, EXCLUSIVE, StatusClass, Width, is_exclusive_tail};
 pub use writer::StreamWriter;
 
 /// A list of bytes passes the test of a message exactly where it is one.

@@ -1,30 +1,36 @@
 //! One message.
 
-ghost use Rattle.std.specs.Prelude.{◌≡◌, ◌<◌, ℕ, [], ◌∷◌, ◌++◌, ◌+◌, length, vec_len, vec_capacity, slice_get, if◌then◌else◌, IfOk, OnOk, OnErr, IsTrue};
-ghost use Rattle.midi_wire.specs.Messages.{One, Two, IsMessage, is_message};
+ghost use Rattle.std.specs.Prelude.{◌≡◌, ◌<◌, ℕ, [], ◌∷◌, ◌++◌, ◌+◌, length, vec_len, vec_capacity, slice_get, if◌then◌else◌, bytes_eq, IfOk, OnOk, OnErr, IsTrue};
+ghost use Rattle.std.specs.Cmp.{partial_equiv_from_equiv};
+ghost use Rattle.std.specs.Cmp.Lexicographic.{nat_list_eq_equiv};
+ghost use Rattle.midi_wire.specs.Messages.{One, Two, IsMessage, exclusive_message, is_message};
 ghost use Rattle.midi_wire.specs.Kinds.{kind_of, channel_number, is_base, with_one_data, with_two_data, channel_message};
 ghost use Rattle.midi_wire.specs.Writings.{status_of, tail_of};
 
 use crate::kind::{Kind, kind_of_status};
-use crate::status::is_message;
+use crate::status::{END_OF_EXCLUSIVE, EXCLUSIVE, FIRST_STATUS, StatusClass, is_message};
 use memory::OutOfMemory;
+use smallvec::SmallVec;
 use std::alloc::Global;
 use std::marker::Model;
-use std::rc::RcSlice;
+use std::rc::Rc;
+
+/// So many data bytes of an exclusive message take one allocation; more take two.
+const INLINE_DATA: usize = 64;
 
 /// How a message is kept.
-#[derive(Drop)]
+#[derive(Debug, Drop)]
 enum Form {
     Alone(u8),
     WithOne { status: u8, first: u8 },
     WithTwo { status: u8, first: u8, second: u8 },
-    Exclusive(RcSlice<u8>),
+    Exclusive(Rc<SmallVec<u8, INLINE_DATA>>),
 }
 
 /// One message, seen as its full bytes: its status, its data, and F7 at the end of an exclusive message.
 ///
 /// Each value is a whole message of the MIDI 1.0 Detailed Specification ("Messages"), with no more than 65,536 data bytes.
-#[derive(Drop)]
+#[derive(Debug, Drop)]
 pub struct Message {
     form: Form,
 }
@@ -41,6 +47,30 @@ impl Model for Message {
     ghost view = { λ m. full_bytes m.form };
 
     ghost invariant = { λ m. IsTrue (is_message (full_bytes m.form)) };
+}
+
+impl PartialEq for Message {
+    ghost eq = { bytes_eq };
+
+    ghost laws = { partial_equiv_from_equiv nat_list_eq_equiv };
+
+    /// Whether both have the same full bytes.
+    fn eq(&self, other: &Message) -> bool {
+        let count = self.len();
+        if other.len() != count {
+            return false;
+        }
+        for i in 0..count {
+            if self.byte_at(i) != other.byte_at(i) {
+                return false;
+            }
+        }
+        true
+    }
+}
+
+impl Eq for Message {
+    ghost laws = { nat_list_eq_equiv };
 }
 
 impl Message {
@@ -82,11 +112,12 @@ impl Message {
 
     /// An exclusive message of this data, without F0 and F7, under the same condition.
     pub fn exclusive(alloc: Global, payload: &[u8]) -> Result<Message, OutOfMemory>
-        requires { IsTrue (is_message (240 ∷ payload.now ++ 247 ∷ [])) }
-        ensures { IfOk result (λ m. m ≡ 240 ∷ payload.now ++ 247 ∷ []) }
+        requires { IsTrue (is_message (exclusive_message payload.now)) }
+        ensures { IfOk result (λ m. m ≡ exclusive_message payload.now) }
     {
+        let data = SmallVec::from_slice(alloc, payload)?;
         Ok(Message {
-            form: Form::Exclusive(RcSlice::from_slice(alloc, payload)?),
+            form: Form::Exclusive(Rc::new(alloc, data)?),
         })
     }
 
@@ -114,7 +145,7 @@ impl Message {
         requires { IsTrue (is_base One base) }
         ensures { result ≡ with_one_data base channel first second }
     {
-        if channel < 16 && first < 0x80 && second == 0 {
+        if channel < 16 && first < FIRST_STATUS && second == 0 {
             return Some(Message::with_one(base + channel, first));
         }
         None
@@ -125,7 +156,7 @@ impl Message {
         requires { IsTrue (is_base Two base) }
         ensures { result ≡ with_two_data base channel first second }
     {
-        if channel < 16 && first < 0x80 && second < 0x80 {
+        if channel < 16 && first < FIRST_STATUS && second < FIRST_STATUS {
             return Some(Message::with_two(base + channel, first, second));
         }
         None
@@ -143,7 +174,7 @@ impl Message {
             return Ok(None);
         }
         let status = bytes[0];
-        if status == 0xF0 {
+        if status == EXCLUSIVE {
             let payload = &bytes[1..bytes.len() - 1];
             return Ok(Some(Message::exclusive(alloc, payload)?));
         }
@@ -191,7 +222,7 @@ impl Message {
         ensures { result ≡ channel_number self.now }
     {
         let status = self.status();
-        if status < 0xF0 {
+        if StatusClass::of(status).is_channel() {
             Some(status % 16)
         } else {
             None
@@ -206,7 +237,7 @@ impl Message {
             Form::Alone(_) => 1,
             Form::WithOne { .. } => 2,
             Form::WithTwo { .. } => 3,
-            Form::Exclusive(payload) => payload.len() + 2,
+            Form::Exclusive(payload) => payload.as_ref().len() + 2,
         }
     }
 
@@ -222,7 +253,7 @@ impl Message {
                 first,
                 second,
             } => [*status, *first, *second].get(i).copied(),
-            Form::Exclusive(payload) => exclusive_byte(payload.as_slice(), i),
+            Form::Exclusive(payload) => exclusive_byte(payload.as_ref().as_slice(), i),
         }
     }
 
@@ -236,7 +267,7 @@ impl Message {
             Form::Alone(status) => *status,
             Form::WithOne { status, .. } => *status,
             Form::WithTwo { status, .. } => *status,
-            Form::Exclusive(_) => 0xF0,
+            Form::Exclusive(_) => EXCLUSIVE,
         }
     }
 
@@ -263,30 +294,35 @@ impl Message {
                 out.extend_from_slice(&[*status, *first, *second])?;
             }
             Form::Exclusive(payload) => {
-                let data = payload.as_slice();
+                let data = payload.as_ref().as_slice();
                 out.reserve(data.len() + 2)?;
-                out.push(0xF0).ok().unwrap();
+                out.push(EXCLUSIVE).ok().unwrap();
                 out.extend_from_slice(data).ok().unwrap();
-                out.push(0xF7).ok().unwrap();
+                out.push(END_OF_EXCLUSIVE).ok().unwrap();
             }
         }
         Ok(())
     }
 
-    /// Appends what follows the status of a message that is not exclusive.
+    /// Appends what follows the status. Where there is no memory, nothing changes.
     pub(crate) fn append_tail(&self, out: &mut Vec<u8>) -> Result<(), OutOfMemory>
-        requires { status_of self.now < 240 }
         ensures ok { OnOk result (out.new.items ≡ out.old.items ++ tail_of self.now) }
         ensures err { OnErr result (out.new.items ≡ out.old.items) }
         ensures full { OnErr result (vec_capacity out.old < vec_len out.old + length (tail_of self.now)) }
     {
         match &self.form {
-            Form::Alone(_) | Form::Exclusive(_) => {}
+            Form::Alone(_) => {}
             Form::WithOne { first, .. } => {
                 out.extend_from_slice(&[*first])?;
             }
             Form::WithTwo { first, second, .. } => {
                 out.extend_from_slice(&[*first, *second])?;
+            }
+            Form::Exclusive(payload) => {
+                let data = payload.as_ref().as_slice();
+                out.reserve(data.len() + 1)?;
+                out.extend_from_slice(data).ok().unwrap();
+                out.push(END_OF_EXCLUSIVE).ok().unwrap();
             }
         }
         Ok(())
@@ -295,13 +331,13 @@ impl Message {
 
 /// One of the full bytes of an exclusive message with this data.
 fn exclusive_byte(payload: &[u8], i: usize) -> Option<u8>
-    ensures { result ≡ slice_get (240 ∷ payload.now ++ 247 ∷ []) i }
+    ensures { result ≡ slice_get (exclusive_message payload.now) i }
 {
     if i == 0 {
-        return Some(0xF0);
+        return Some(EXCLUSIVE);
     }
     if i == payload.len() + 1 {
-        return Some(0xF7);
+        return Some(END_OF_EXCLUSIVE);
     }
     payload.get(i - 1).copied()
 }

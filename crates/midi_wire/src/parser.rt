@@ -3,11 +3,14 @@
 ghost use Rattle.std.specs.Prelude.{◌≡◌, ◌≤◌, ◌<◌, ℕ, [], ◌∷◌, ◌++◌, length, take, Bool, true, false, IsTrue, ◌↔◌, IfOk, OnOk, OnErr, IsErrOf};
 ghost use Rattle.midi_wire.specs.Messages.{begins};
 ghost use Rattle.midi_wire.specs.Readings.{reading, rest};
-ghost use Rattle.midi_wire.specs.Parsing.{waits, waits_for_two, GainsPrefix};
+ghost use Rattle.midi_wire.specs.Parsing.{next_group, GainsPrefix};
 
 use crate::fault::WireFault;
 use crate::message::Message;
-use crate::status::{MOST_DATA, wants_two};
+use crate::status::{
+    END_OF_EXCLUSIVE, FIRST_REAL_TIME, FIRST_STATUS, MOST_DATA, StatusClass, Width, is_real_time,
+    is_status,
+};
 use memory::OutOfMemory;
 use std::alloc::Global;
 use std::marker::Model;
@@ -17,14 +20,26 @@ use std::marker::Model;
 enum LastBlock {
     /// Nothing: data is passed over.
     Idle,
-    /// One data byte or two, of which none has come.
-    Waiting { status: u8 },
+    /// So many data bytes, of which none has come.
+    Waiting { status: u8, width: Width },
     /// The second of two data bytes.
     Half { status: u8, first: u8 },
     /// The status that ends an exclusive message, whose data stands in `payload`.
     Collecting,
     /// The same, but the message has too much data and is not given.
     Overlong,
+}
+
+/// What is waited for after a whole message: data under running status, which only a channel message leaves.
+#[inline]
+fn next_group(status: u8, width: Width) -> LastBlock
+    ensures { result ≡ next_group width status }
+{
+    if StatusClass::of(status).is_channel() {
+        LastBlock::Waiting { status, width }
+    } else {
+        LastBlock::Idle
+    }
 }
 
 /// What of the stream so far still matters.
@@ -64,7 +79,7 @@ impl Pending {
     #[inline]
     fn end(&mut self, out: &mut Vec<Message>) -> Result<(), OutOfMemory>
         requires { rest self.old ≡ self.old }
-        ensures told { OnOk result (out.new.items ≡ out.old.items ++ reading (self.old ++ 247 ∷ [])) }
+        ensures told { OnOk result (out.new.items ≡ out.old.items ++ reading (self.old ++ END_OF_EXCLUSIVE ∷ [])) }
         ensures nothing { OnOk result (self.new ≡ []) }
         ensures err { OnErr result (out.new.items ≡ out.old.items) }
     {
@@ -80,21 +95,22 @@ impl Pending {
     #[inline]
     fn begin(&mut self, status: u8, out: &mut Vec<Message>) -> Result<(), OutOfMemory>
         requires idle { self.old ≡ [] }
-        requires high { 128 ≤ status }
-        requires low { status < 248 }
+        requires high { FIRST_STATUS ≤ status }
+        requires low { status < FIRST_REAL_TIME }
         ensures told { OnOk result (out.new.items ≡ out.old.items ++ reading (status ∷ [])) }
         ensures leaves { OnOk result (self.new ≡ rest (status ∷ [])) }
         ensures err { OnErr result (out.new.items ≡ out.old.items) }
     {
-        if status < 0xF0 {
-            self.block = LastBlock::Waiting { status };
-        } else if status == 0xF0 {
-            self.payload.clear();
-            self.block = LastBlock::Collecting;
-        } else if status < 0xF4 {
-            self.block = LastBlock::Waiting { status };
-        } else if status == 0xF6 {
-            out.push(Message::alone(status))?;
+        match StatusClass::of(status) {
+            StatusClass::Channel(width) | StatusClass::Common(width) => {
+                self.block = LastBlock::Waiting { status, width };
+            }
+            StatusClass::Exclusive => {
+                self.payload.clear();
+                self.block = LastBlock::Collecting;
+            }
+            StatusClass::TuneRequest => out.push(Message::alone(status))?,
+            StatusClass::RealTime | StatusClass::Nothing => {}
         }
         Ok(())
     }
@@ -103,33 +119,28 @@ impl Pending {
     #[inline]
     fn data(&mut self, byte: u8, out: &mut Vec<Message>) -> Result<(), OutOfMemory>
         requires settled { rest self.old ≡ self.old }
-        requires low { byte < 128 }
+        requires low { byte < FIRST_STATUS }
         ensures told { OnOk result (out.new.items ≡ out.old.items ++ reading (self.old ++ byte ∷ [])) }
         ensures leaves { OnOk result (self.new ≡ rest (self.old ++ byte ∷ [])) }
         ensures err { OnErr result (out.new.items ≡ out.old.items) }
     {
         match self.block {
             LastBlock::Idle | LastBlock::Overlong => {}
-            LastBlock::Waiting { status } => {
-                if wants_two(status) {
+            LastBlock::Waiting { status, width } => match width {
+                Width::One => {
+                    out.push(Message::with_one(status, byte))?;
+                    self.block = next_group(status, width);
+                }
+                Width::Two => {
                     self.block = LastBlock::Half {
                         status,
                         first: byte,
                     };
-                } else {
-                    out.push(Message::with_one(status, byte))?;
-                    if status >= 0xF0 {
-                        self.block = LastBlock::Idle;
-                    }
                 }
-            }
+            },
             LastBlock::Half { status, first } => {
                 out.push(Message::with_two(status, first, byte))?;
-                if status >= 0xF0 {
-                    self.block = LastBlock::Idle;
-                } else {
-                    self.block = LastBlock::Waiting { status };
-                }
+                self.block = next_group(status, Width::Two);
             }
             LastBlock::Collecting => {
                 if self.payload.len() < MOST_DATA {
@@ -151,17 +162,17 @@ impl Pending {
         ensures leaves { OnOk result (self.new ≡ rest (self.old ++ byte ∷ [])) }
         ensures err { OnErr result (GainsPrefix out.old.items out.new.items (reading (self.old ++ byte ∷ []))) }
     {
-        if byte >= 0xF8 {
-            if byte != 0xF9 && byte != 0xFD {
-                out.push(Message::alone(byte))?;
-            }
-            return Ok(());
+        if !is_status(byte) {
+            return self.data(byte, out);
         }
-        if byte >= 0x80 {
+        if !is_real_time(byte) {
             self.end(out)?;
             return self.begin(byte, out);
         }
-        self.data(byte, out)
+        if let StatusClass::RealTime = StatusClass::of(byte) {
+            out.push(Message::alone(byte))?;
+        }
+        Ok(())
     }
 }
 

@@ -1,28 +1,92 @@
 //! The table of statuses, and what may follow each in a message.
 
-ghost use Rattle.std.specs.Prelude.{◌≡◌, ◌<◌, ℕ, IsTrue};
-ghost use Rattle.midi_wire.specs.Messages.{begins, One, Two, is_group, ends_data, is_tail, is_message};
-ghost use Rattle.midi_wire.specs.Parsing.{waits, waits_for_two};
+ghost use Rattle.std.specs.Prelude.{◌≡◌, ◌∷◌, ℕ};
+ghost use Rattle.midi_wire.specs.Messages.{begins, is_status, is_real_time, is_group, ends_data, is_tail, is_message};
+ghost use Rattle.midi_wire.specs.Writings.{is_channel};
+
+/// The first status byte: bytes below are data.
+pub(crate) const FIRST_STATUS: u8 = 0x80;
+
+/// The status of an exclusive message.
+pub const EXCLUSIVE: u8 = 0xF0;
+
+/// The status that ends an exclusive message (EOX).
+pub const END_OF_EXCLUSIVE: u8 = 0xF7;
+
+/// The first status of real time.
+pub(crate) const FIRST_REAL_TIME: u8 = 0xF8;
 
 /// The most data bytes of an exclusive message, between F0 and F7.
 pub(crate) const MOST_DATA: usize = 65536;
 
-/// Whether a status waits for two data bytes, and not for one.
+/// How many data bytes a message has.
+#[derive(Clone, Copy, Debug, PartialEq, Eq)]
+pub enum Width {
+    One,
+    Two,
+}
+
+/// What a status begins (MIDI 1.0 Detailed Specification, "Summary of Status Bytes").
+#[derive(Clone, Copy, Debug, PartialEq, Eq)]
+pub enum StatusClass {
+    /// 8n to En: messages of a channel, also by running status.
+    Channel(Width),
+    /// F1, F2, F3: one system common message with data.
+    Common(Width),
+    /// F6: a tune request, a system common message without data.
+    TuneRequest,
+    /// F0: a system exclusive message.
+    Exclusive,
+    /// F8, FA, FB, FC, FE, FF: one message of real time.
+    RealTime,
+    /// F4, F5, F9, FD, which are undefined, F7, and what is no status: no message.
+    Nothing,
+}
+
+impl StatusClass {
+    /// The row of a byte in the table of statuses.
+    #[inline]
+    #[tactic(auto, unfolding(crate::specs::Messages::begins))]
+    pub fn of(byte: u8) -> StatusClass
+        ensures { result ≡ begins byte }
+    {
+        match byte {
+            0x00..=0x7F => StatusClass::Nothing,
+            0x80..=0xBF => StatusClass::Channel(Width::Two),
+            0xC0..=0xDF => StatusClass::Channel(Width::One),
+            0xE0..=0xEF => StatusClass::Channel(Width::Two),
+            EXCLUSIVE => StatusClass::Exclusive,
+            0xF1 | 0xF3 => StatusClass::Common(Width::One),
+            0xF2 => StatusClass::Common(Width::Two),
+            0xF6 => StatusClass::TuneRequest,
+            0xF8 | 0xFA..=0xFC | 0xFE | 0xFF => StatusClass::RealTime,
+            0xF4 | 0xF5 | END_OF_EXCLUSIVE | 0xF9 | 0xFD => StatusClass::Nothing,
+        }
+    }
+
+    /// Whether it begins messages of a channel, which alone have running status.
+    #[inline]
+    pub fn is_channel(self) -> bool
+        ensures { result ≡ is_channel self }
+    {
+        matches!(self, StatusClass::Channel(_))
+    }
+}
+
+/// Whether a byte is a status, and no data.
 #[inline]
-pub(crate) fn wants_two(status: u8) -> bool
-    requires { IsTrue (waits (begins status)) }
-    ensures { result ≡ waits_for_two (begins status) }
+pub(crate) fn is_status(byte: u8) -> bool
+    ensures { result ≡ is_status byte }
 {
-    if status < 0xC0 {
-        return true;
-    }
-    if status < 0xE0 {
-        return false;
-    }
-    if status == 0xF1 || status == 0xF3 {
-        return false;
-    }
-    true
+    byte >= FIRST_STATUS
+}
+
+/// Whether a byte is a status of real time, also an undefined one.
+#[inline]
+pub(crate) fn is_real_time(byte: u8) -> bool
+    ensures { result ≡ is_real_time byte }
+{
+    byte >= FIRST_REAL_TIME
 }
 
 /// Whether these are the full bytes of one message.
@@ -31,42 +95,38 @@ pub(crate) fn is_message(bytes: &[u8]) -> bool
 {
     match bytes {
         [] => false,
-        [status, tail @ ..] => is_tail(*status, tail),
+        [status, tail @ ..] => is_tail(StatusClass::of(*status), tail),
     }
 }
 
 /// Whether these may follow a status in a message.
-#[tactic(auto, unfolding(crate::specs::Messages::begins))]
-fn is_tail(status: u8, tail: &[u8]) -> bool
-    ensures { result ≡ is_tail (begins status) tail.now }
+fn is_tail(class: StatusClass, tail: &[u8]) -> bool
+    ensures { result ≡ is_tail class tail.now }
 {
-    match status {
-        0x80..=0xBF | 0xE0..=0xEF | 0xF2 => is_group_of_two(tail),
-        0xC0..=0xDF | 0xF1 | 0xF3 => is_group_of_one(tail),
-        0xF0 => tail.len() <= MOST_DATA + 1 && ends_data(tail),
-        0xF6 | 0xF8 | 0xFA..=0xFC | 0xFE | 0xFF => tail.is_empty(),
+    match class {
+        StatusClass::Channel(width) | StatusClass::Common(width) => is_group(width, tail),
+        StatusClass::Exclusive => is_exclusive_tail(tail),
+        StatusClass::TuneRequest | StatusClass::RealTime => tail.is_empty(),
+        StatusClass::Nothing => false,
+    }
+}
+
+/// Whether these are so many data bytes.
+fn is_group(width: Width, tail: &[u8]) -> bool
+    ensures { result ≡ is_group width tail.now }
+{
+    match (width, tail) {
+        (Width::One, [first]) => !is_status(*first),
+        (Width::Two, [first, second]) => !is_status(*first) && !is_status(*second),
         _ => false,
     }
 }
 
-/// Whether this is one data byte.
-fn is_group_of_one(tail: &[u8]) -> bool
-    ensures { result ≡ is_group One tail.now }
+/// Whether F0 and these bytes are a whole exclusive message.
+pub fn is_exclusive_tail(tail: &[u8]) -> bool
+    ensures { result ≡ is_message (EXCLUSIVE ∷ tail.now) }
 {
-    match tail {
-        [first] => *first < 0x80,
-        _ => false,
-    }
-}
-
-/// Whether these are two data bytes.
-fn is_group_of_two(tail: &[u8]) -> bool
-    ensures { result ≡ is_group Two tail.now }
-{
-    match tail {
-        [first, second] => *first < 0x80 && *second < 0x80,
-        _ => false,
-    }
+    tail.len() <= MOST_DATA + 1 && ends_data(tail)
 }
 
 /// Whether these are data bytes with F7 as the last.
@@ -75,8 +135,8 @@ fn ends_data(tail: &[u8]) -> bool
 {
     for i in 0..tail.len() {
         let byte = tail[i];
-        if byte >= 0x80 {
-            return byte == 0xF7 && tail.len() - i == 1;
+        if is_status(byte) {
+            return byte == END_OF_EXCLUSIVE && tail.len() - i == 1;
         }
     }
     false

@@ -182,6 +182,16 @@ fn messages_from_bytes(rt: HostRuntime) -> Result<(), Fail> {
     Ok(())
 }
 
+#[test]
+fn equal_messages(rt: HostRuntime) -> Result<(), Fail> {
+    let song = Message::from_bytes(rt.alloc(), &[0xF2, 0x10, 0x01])?.ok_or("a message")?;
+    let bytes = [0xF0, 0x7E, 0x7F, 0x06, 0x01, 0xF7];
+    let inquiry = Message::from_bytes(rt.alloc(), &bytes)?.ok_or("a message")?;
+    assert_eq!(rt; inquiry.duplicate()?, inquiry);
+    assert_ne!(rt; song, inquiry);
+    Ok(())
+}
+
 /// Where memory is refused, the parser answers that it has failed from then on.
 #[test]
 fn refused_growth(rt: HostRuntime) {

@@ -5,6 +5,7 @@ ghost use Rattle.midi_wire.specs.Messages.{IsMessage};
 ghost use Rattle.midi_wire.specs.Writings.{written_after, status_after};
 
 use crate::message::Message;
+use crate::status::StatusClass;
 use memory::OutOfMemory;
 use std::marker::Model;
 
@@ -43,17 +44,15 @@ impl StreamWriter {
         ensures full { OnErr result (vec_capacity out.old < vec_len out.old + length (written_after self.old (message.now ∷ []))) }
     {
         let status = message.status();
-        if status < 0xF0 {
-            if self.status == Some(status) {
-                return message.append_tail(out);
-            }
-            message.append_to(out)?;
-            self.status = Some(status);
-            return Ok(());
+        let class = StatusClass::of(status);
+        if class.is_channel() && self.status == Some(status) {
+            return message.append_tail(out);
         }
         message.append_to(out)?;
-        if status < 0xF8 {
-            self.status = None;
+        match class {
+            StatusClass::Channel(_) => self.status = Some(status),
+            StatusClass::RealTime => {}
+            _ => self.status = None,
         }
         Ok(())
     }

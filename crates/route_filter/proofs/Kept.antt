@@ -5,7 +5,9 @@ use Rattle.std.proofs.lemmas.Bool.{cases_lt, lt-ltb, le-leb, eqb-true}
 use Rattle.std.proofs.lemmas.Nat.{and_mask, and_comm, pow_below, pow_pos}
 use Rattle.midi_wire.specs.declared.kind.Kind.{Kind}
 use Rattle.midi_wire.specs.declared.kind.Kind.TheVariants.{NoteOff, NoteOn, PolyPressure, ControlChange, ProgramChange, ChannelPressure, PitchBend, SystemCommon, RealTime, Exclusive}
-use Rattle.midi_wire.specs.Messages.{One, Two, Channel, begins, IsMessage}
+use Rattle.midi_wire.specs.declared.status.Width.TheVariants.{One, Two}
+use Rattle.midi_wire.specs.declared.status.StatusClass.TheVariants.{Channel}
+use Rattle.midi_wire.specs.Messages.{begins, IsMessage}
 use Rattle.midi_wire.specs.Writings.{status_of, is_channel}
 use Rattle.midi_wire.specs.Kinds.{kind_of, kind_of_status, channel_number}
 use Rattle.midi_wire.proofs.AllRead.{message-by, group-one, group-two}

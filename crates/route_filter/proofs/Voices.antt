@@ -2,7 +2,9 @@
 use Rattle.std.proofs.Common.{◌≡◌, ℕ, ◌+◌, ◌*◌, ◌/◌, ◌%◌, ◌≤◌, ◌<◌, ◌⊎◌, inl, inr, Bool, true, false, List, [], ◌∷◌, length, Some, None, refl, sym, ap, subst, ◌∙◌, arith}
 use Rattle.std.specs.Prelude.{Option, if◌then◌else◌, ◌&&◌, ◌==◌, nat_lt, nat_le, IsTrue, is_some, option_map, unwrap_or, slice_get, unsigned_abs, ℤ, pos, negsuc, ◌+ℤ◌}
 use Rattle.std.proofs.lemmas.Bool.{cases_lt, ltb-true, leb-true, eqb-true}
-use Rattle.midi_wire.specs.Messages.{One, Two, Begins, begins, all_data, is_group, IsTail, IsMessage}
+use Rattle.midi_wire.specs.declared.status.Width.TheVariants.{One, Two}
+use Rattle.midi_wire.specs.declared.status.StatusClass.{StatusClass}
+use Rattle.midi_wire.specs.Messages.{begins, all_data, is_group, IsTail, IsMessage}
 use Rattle.midi_wire.specs.Writings.{status_of, is_channel}
 use Rattle.midi_wire.specs.Kinds.{kind_of, kind_of_status, channel_message}
 use Rattle.midi_wire.proofs.Table.{begins-8, begins-C, begins-E, begins-low, channel-below}
@@ -43,10 +45,10 @@ voice-of (s ∷ tail) p l =
     go (cases_lt s 128) (cases_lt s 192) (cases_lt s 224)
   where
     go : (s < 128) ⊎ (128 ≤ s) → (s < 192) ⊎ (192 ≤ s) → (s < 224) ⊎ (224 ≤ s) → Voice (s ∷ tail)
-    go (inl c) y z = absurd (subst (λ (k : Begins). IsTail k tail) (begins-low s c) p)
-    go (inr c) (inl d) z = voice-two s tail (subst (λ (k : Begins). IsTail k tail) (begins-8 s c d) p) c l (λ h. absurd (omega arith))
-    go (inr c) (inr d) (inl e) = voice-one s tail (subst (λ (k : Begins). IsTail k tail) (begins-C s d e) p) d e
-    go (inr c) (inr d) (inr e) = voice-two s tail (subst (λ (k : Begins). IsTail k tail) (begins-E s e l) p) c l (λ h. e)
+    go (inl c) y z = absurd (subst (λ (k : StatusClass). IsTail k tail) (begins-low s c) p)
+    go (inr c) (inl d) z = voice-two s tail (subst (λ (k : StatusClass). IsTail k tail) (begins-8 s c d) p) c l (λ h. absurd (omega arith))
+    go (inr c) (inr d) (inl e) = voice-one s tail (subst (λ (k : StatusClass). IsTail k tail) (begins-C s d e) p) d e
+    go (inr c) (inr d) (inr e) = voice-two s tail (subst (λ (k : StatusClass). IsTail k tail) (begins-E s e l) p) c l (λ h. e)
 
 -- ---- the status of what passes
 

@@ -4,7 +4,11 @@ use Rattle.std.specs.Prelude.{Option, Some, None, if◌then◌else◌, IsTrue, n
 use Rattle.std.specs.Option.{option_map}
 use Rattle.std.proofs.lemmas.Bool.{cases_lt, cases_eq, eqb-true, leb-true, le-leb}
 use Rattle.std.proofs.lemmas.Bool.Decides.{nat_tests}
-use Rattle.midi_wire.specs.Messages.{Begins, Width, One, Two, Channel, Common, Tune, Exclusive, RealTime, Nothing, begins, IsTail, IsMessage, AllMessages, is_group, all_data}
+use Rattle.midi_wire.specs.declared.status.Width.{Width}
+use Rattle.midi_wire.specs.declared.status.Width.TheVariants.{One, Two}
+use Rattle.midi_wire.specs.declared.status.StatusClass.{StatusClass}
+use Rattle.midi_wire.specs.declared.status.StatusClass.TheVariants.{Channel, Common, TuneRequest, Exclusive, RealTime, Nothing}
+use Rattle.midi_wire.specs.Messages.{begins, IsTail, IsMessage, AllMessages, is_group, all_data}
 use Rattle.midi_wire.specs.Writings.{status_of}
 use Rattle.midi_wire.proofs.Table.{begins-low, begins-8, begins-C, begins-E, begins-F0}
 use Rattle.midi_wire.proofs.Written.{and_true}
@@ -41,7 +45,7 @@ message-status (s ∷ tail) h =
     go (cases_lt s 128)
   where
     go : (s < 128) ⊎ (128 ≤ s) → 128 ≤ s
-    go (inl l) = let P : Begins → Type 0 = λ b. IsTail b tail in absurd (subst P (begins-low s l) h)
+    go (inl l) = let P : StatusClass → Type 0 = λ b. IsTail b tail in absurd (subst P (begins-low s l) h)
     go (inr l) = l
 
 pub stands-by-status : (m : List ℕ) → IsMessage m → nat_le (status_of m) 240 ≡ stands_in_files (begins (status_of m))
@@ -60,10 +64,10 @@ group-length : (w : Width) (xs : List ℕ) → IsTrue (is_group w xs) → length
 group-length One xs h = let e : length xs ≡ 1 = eqb-true (length xs) 1 (and_true (length xs == 1) (all_data xs) h).0 in omega arith
 group-length Two xs h = let e : length xs ≡ 2 = eqb-true (length xs) 2 (and_true (length xs == 2) (all_data xs) h).0 in omega arith
 
-tail-length : (b : Begins) (tail : List ℕ) → IsTail b tail → length tail ≤ 65537
+tail-length : (b : StatusClass) (tail : List ℕ) → IsTail b tail → length tail ≤ 65537
 tail-length (Channel w) tail h = let e : length tail ≤ 2 = group-length w tail h in omega arith
 tail-length (Common w) tail h = let e : length tail ≤ 2 = group-length w tail h in omega arith
-tail-length Tune tail h = let e : length tail ≡ 0 = ap (λ (xs : List ℕ). length xs) h in omega arith
+tail-length TuneRequest tail h = let e : length tail ≡ 0 = ap (λ (xs : List ℕ). length xs) h in omega arith
 tail-length RealTime tail h = let e : length tail ≡ 0 = ap (λ (xs : List ℕ). length xs) h in omega arith
 tail-length Nothing tail h = absurd h
 tail-length Exclusive tail h =

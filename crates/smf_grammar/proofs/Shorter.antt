@@ -2,8 +2,11 @@
 use Rattle.std.proofs.Common.{◌≡◌, ◌≢◌, ◌≤◌, ◌<◌, ℕ, suc, ◌-◌, Bool, true, false, List, [], ◌∷◌, length, take, drop, refl, arith, length-drop, ap}
 use Rattle.std.specs.Prelude.{Option, Some, None, Result, Ok, Err, if◌then◌else◌, nat_le, nat_lt, ◌==◌, codes}
 use Rattle.std.proofs.lemmas.Bool.{eq-eqb, leb-true}
-use Rattle.midi_wire.specs.Messages.{Width, One, Two, Begins, begins, is_status}
-use Rattle.midi_wire.specs.Messages as wire
+use Rattle.midi_wire.specs.declared.status.Width.{Width}
+use Rattle.midi_wire.specs.declared.status.Width.TheVariants.{One, Two}
+use Rattle.midi_wire.specs.declared.status.StatusClass.{StatusClass}
+use Rattle.midi_wire.specs.Messages.{begins, is_status}
+use Rattle.midi_wire.specs.declared.status.StatusClass.TheVariants as wire
 use Rattle.smf_grammar.specs.Outcomes.{◌>>=◌, unless}
 use Rattle.smf_grammar.specs.Quantities.{continued, septets, quantity}
 use Rattle.smf_grammar.specs.declared.fault.QuantityFault.{QuantityFault}
@@ -82,10 +85,10 @@ unfolding voice_at
 voice-shortens n status left h =
     go (begins status)
   where
-    go : (k : Begins) → Shortens n (voice_by k status left)
+    go : (k : StatusClass) → Shortens n (voice_by k status left)
     go (wire.Channel w) = shortens-bind n (group_at w left) (λ group. Ok (Voice status group.0, group.1)) (group-shortens n w left h) (λ y k. shortens-ok n (Voice status y.0, y.1) k)
     go (wire.Common w) = shortens-err n BadStatus
-    go wire.Tune = shortens-err n BadStatus
+    go wire.TuneRequest = shortens-err n BadStatus
     go wire.Exclusive = shortens-err n BadStatus
     go wire.RealTime = shortens-err n BadStatus
     go wire.Nothing = shortens-err n BadStatus

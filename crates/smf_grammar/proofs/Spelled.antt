@@ -4,8 +4,11 @@ use Rattle.std.specs.Prelude.{Option, Result, Ok, Err, if◌then◌else◌, IsTr
 use Rattle.std.proofs.lemmas.Bool.{eqb-true, le-leb}
 use Rattle.std.proofs.lemmas.Bool.Decides.{leb_tells, eqb_tells, nat_tests}
 use Rattle.std.proofs.Math.Seq.{take-append_seam}
-use Rattle.midi_wire.specs.Messages.{Width, One, Two, Begins, begins, is_status, all_data, is_group, is_tail, is_message, IsTail, IsExclusiveTail, IsMessage}
-use Rattle.midi_wire.specs.Messages as wire
+use Rattle.midi_wire.specs.declared.status.Width.{Width}
+use Rattle.midi_wire.specs.declared.status.Width.TheVariants.{One, Two}
+use Rattle.midi_wire.specs.declared.status.StatusClass.{StatusClass}
+use Rattle.midi_wire.specs.Messages.{begins, is_status, all_data, is_group, IsTail, IsExclusiveTail, IsMessage}
+use Rattle.midi_wire.specs.declared.status.StatusClass.TheVariants as wire
 use Rattle.midi_wire.specs.Writings.{is_channel, status_of}
 use Rattle.midi_wire.proofs.Table.{begins-low, channel-from}
 use Rattle.midi_wire.proofs.Written.{and_true}
@@ -145,7 +148,7 @@ event-text running [] more h k = absurd h
 event-text running (s ∷ tail) more h k =
     go (begins s) refl h k
   where
-    go : (b : Begins) → begins s ≡ b → IsTail b tail → IsTrue (stands_in_files b) → EventReads running (s ∷ tail) more
+    go : (b : StatusClass) → begins s ≡ b → IsTail b tail → IsTrue (stands_in_files b) → EventReads running (s ∷ tail) more
     go (wire.Channel w) is t k = voice-text running s w tail more is t
     go wire.Exclusive is t k =
         elim (eqb_tells s 240) as (λ _. EventReads running (s ∷ tail) more) [
@@ -160,7 +163,7 @@ event-text running (s ∷ tail) more h k =
             let few : length t.0 ≤ 65536 = t.3 in
             omega arith
     go (wire.Common w) is t k = let bad : false ≡ true = k in let none : ⊥ = cc in absurd none
-    go wire.Tune is t k = let bad : false ≡ true = k in let none : ⊥ = cc in absurd none
+    go wire.TuneRequest is t k = let bad : false ≡ true = k in let none : ⊥ = cc in absurd none
     go wire.RealTime is t k = let bad : false ≡ true = k in let none : ⊥ = cc in absurd none
     go wire.Nothing is t k = let bad : false ≡ true = k in let none : ⊥ = cc in absurd none
 

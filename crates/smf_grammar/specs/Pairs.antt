@@ -4,8 +4,11 @@
 -- format in their order, and gives the item with what is left after it, or the first test that
 -- fails.
 use Rattle.std.specs.Prelude.{ℕ, Bool, false, List, [], ◌∷◌, length, take, drop, Option, Some, None, Result, Ok, Err, nat_lt, nat_le, ◌==◌, if◌then◌else◌}
-use Rattle.midi_wire.specs.Messages.{Width, One, Two, Begins, begins, is_status}
-use Rattle.midi_wire.specs.Messages as wire
+use Rattle.midi_wire.specs.declared.status.Width.{Width}
+use Rattle.midi_wire.specs.declared.status.Width.TheVariants.{One, Two}
+use Rattle.midi_wire.specs.declared.status.StatusClass.{StatusClass}
+use Rattle.midi_wire.specs.Messages.{begins, is_status}
+use Rattle.midi_wire.specs.declared.status.StatusClass.TheVariants as wire
 use Rattle.smf_grammar.specs.Outcomes.{◌>>=◌, unless}
 use Rattle.smf_grammar.specs.Quantities.{quantity}
 use Rattle.smf_grammar.specs.declared.fault.QuantityFault.{QuantityFault}
@@ -73,7 +76,7 @@ group_at Two left = do
   Ok (first.0 ∷ second.0 ∷ [], second.1)
 
 -- a message of a channel, by what its status begins
-abbrev pub voice_by : Begins → ℕ → List ℕ → Result (TrackEvent × List ℕ) PairFault
+abbrev pub voice_by : StatusClass → ℕ → List ℕ → Result (TrackEvent × List ℕ) PairFault
 voice_by (wire.Channel width) status left = do
   group ← group_at width left
   Ok (Voice status group.0, group.1)

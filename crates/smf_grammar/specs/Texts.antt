@@ -2,8 +2,9 @@
 use Rattle.std.specs.Prelude.{ℕ, suc, ◌+◌, ◌-◌, ◌/◌, ◌%◌, Bool, List, [], ◌∷◌, ◌++◌, length, Option, Some, None, nat_lt, nat_le, ◌==◌, ◌&&◌, if◌then◌else◌, codes}
 use Rattle.std.specs.Option.{option_map}
 use Rattle.byteorder.specs.Endian.{big_bytes}
-use Rattle.midi_wire.specs.Messages.{Begins, begins}
-use Rattle.midi_wire.specs.Messages as wire
+use Rattle.midi_wire.specs.declared.status.StatusClass.{StatusClass}
+use Rattle.midi_wire.specs.Messages.{begins}
+use Rattle.midi_wire.specs.declared.status.StatusClass.TheVariants as wire
 use Rattle.midi_wire.specs.Writings.{status_of}
 use Rattle.smf_grammar.specs.declared.event.Event.{Event}
 
@@ -49,7 +50,7 @@ abbrev pub most_delta : ℕ
 most_delta = 268435455
 
 -- a message of a channel or an exclusive one
-abbrev pub stands_in_files : Begins → Bool
+abbrev pub stands_in_files : StatusClass → Bool
 stands_in_files (wire.Channel width) = Bool.true
 stands_in_files wire.Exclusive = Bool.true
 stands_in_files _ = Bool.false

@@ -1,7 +1,6 @@
 //! What events say.
 
-ghost use Rattle.std.specs.Prelude.{◌≡◌, ◌∷◌, ◌+◌, ℕ, is_some};
-ghost use Rattle.midi_wire.specs.Messages.{is_message, ends_data};
+ghost use Rattle.std.specs.Prelude.{◌≡◌, ℕ, is_some};
 ghost use Rattle.smf_grammar.specs.Pairs.{is_end, status_after};
 ghost use Rattle.smf_grammar.specs.Contents.{message_of, tempo_in, tempo_of, is_skipped};
 ghost use Rattle.smf_grammar.specs.Seen.{event_seen};
@@ -10,29 +9,7 @@ ghost use Rattle.smf_grammar.specs.Files.{fault_of_pair};
 use crate::fault::{PairFault, SmfFault};
 use crate::pair::EventBytes;
 use byteorder::{BigEndian, ByteOrder};
-
-/// The most data bytes of an exclusive message, between F0 and F7.
-const MOST_DATA: usize = 65536;
-
-/// Whether F0 and these bytes are a whole exclusive message.
-pub fn is_exclusive(payload: &[u8]) -> bool
-    ensures { result ≡ is_message (240 ∷ payload.now) }
-{
-    payload.len() <= MOST_DATA + 1 && ends_data(payload)
-}
-
-/// Whether these are data bytes with F7 as the last.
-fn ends_data(payload: &[u8]) -> bool
-    ensures { result ≡ ends_data payload.now }
-{
-    for i in 0..payload.len() {
-        let byte = payload[i];
-        if byte >= 0x80 {
-            return byte == 0xF7 && payload.len() - i == 1;
-        }
-    }
-    false
-}
+use midi_wire::is_exclusive_tail;
 
 /// The tempo that these bytes of FF 51 set: three, and not all 0.
 pub fn tempo_in(payload: &[u8]) -> Option<u32>
@@ -95,7 +72,7 @@ impl EventBytes<'_> {
         ensures { result ≡ is_skipped metrical (event_seen self.now) }
     {
         match self {
-            EventBytes::Exclusive(payload) => !is_exclusive(payload),
+            EventBytes::Exclusive(payload) => !is_exclusive_tail(payload),
             EventBytes::Escape(_) => true,
             EventBytes::Meta { kind, payload } => {
                 metrical && *kind == 0x51 && tempo_in(payload).is_none()
@@ -112,7 +89,7 @@ impl EventBytes<'_> {
         match self {
             EventBytes::VoiceOfOne { .. } => true,
             EventBytes::VoiceOfTwo { .. } => true,
-            EventBytes::Exclusive(payload) => is_exclusive(payload),
+            EventBytes::Exclusive(payload) => is_exclusive_tail(payload),
             _ => false,
         }
     }

@@ -10,7 +10,7 @@ mod pair;
 mod rows;
 
 pub use chunk::{ChunkBytes, Header, chunk_at, counts_frames, header_at};
-pub use content::{fault_of_pair, is_exclusive, tempo_in};
+pub use content::{fault_of_pair, tempo_in};
 pub use event::Event;
 pub use fault::{ChunkFault, PairFault, QuantityFault, SmfFault};
 pub use laws::{events_in_order, faults_of_bytes, one_reading, reads_text};

@@ -3,7 +3,8 @@
 ghost use Rattle.std.specs.Prelude.{◌≡◌, ◌≤◌, ◌<◌, ◌^◌, ◌∷◌, ℕ, length, IfOk, IsTrue};
 ghost use Rattle.smf_grammar.specs.Quantities.{quantity};
 ghost use Rattle.smf_grammar.specs.Pairs.{quantity_at, data_byte_at, voice_by, voice_at, sized_at, meta_at, event_at, pair_at};
-ghost use Rattle.midi_wire.specs.Messages.{Channel, One, Two};
+ghost use Rattle.midi_wire.specs.declared.status.Width.TheVariants.{One, Two};
+ghost use Rattle.midi_wire.specs.declared.status.StatusClass.TheVariants.{Channel};
 ghost use Rattle.smf_grammar.specs.Septets.{septets_at};
 ghost use Rattle.smf_grammar.specs.Seen.{Gives, event_seen, pair_seen, is_voice, is_sound, IsRunning};
 

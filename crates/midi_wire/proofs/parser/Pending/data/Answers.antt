@@ -1,9 +1,9 @@
-use Rattle.std.proofs.Common.{List, ℕ, ◌∷◌, ◌++◌, [], true, false, sym, ap, subst, ◌∙◌, inl, inr, length, ◌<◌, ◌≤◌, arith}
+use Rattle.std.proofs.Common.{◌≡◌, List, ℕ, ◌∷◌, ◌++◌, [], true, refl, sym, ap, subst, ◌∙◌, inl, inr, length, ◌<◌, ◌≤◌, arith}
 use Rattle.std.specs.Prelude.{IsTrue}
-use Rattle.midi_wire.specs.Messages.{begins}
-use Rattle.midi_wire.specs.Parsing.{pending_bytes, is_sound}
-use Rattle.midi_wire.proofs.Table.{channel-from, channel-below, waits-from}
-use Rattle.midi_wire.proofs.Calls.{gains-none, gains-one, idle-data-reading, idle-data-rest, collecting-reading, collecting-rest, overlong-rest, overlong-again, after-data-reading, after-data-rest, two-silent, two-half, one-told, two-told, one-left, two-left, waits-two}
+use Rattle.midi_wire.specs.Messages.{One, Two, begins}
+use Rattle.midi_wire.specs.Parsing.{pending_bytes, is_sound, waits_for, waits_for_two}
+use Rattle.midi_wire.specs.Writings.{is_channel}
+use Rattle.midi_wire.proofs.Calls.{gains-none, gains-one, idle-data-reading, idle-data-rest, collecting-reading, collecting-rest, overlong-rest, overlong-again, after-data-reading, after-data-rest, two-silent, two-half, one-told, two-told, one-left, two-left, waits-for, waits-one, waits-both, next-left}
 use Rattle.midi_wire.specs.Readings.{too_long}
 use Rattle.midi_wire.proofs.AllRead.{read-test}
 use Rattle.midi_wire.proofs.parser.Pending.data.Goals as goal
@@ -22,35 +22,41 @@ returns-in-Idle-clause-leaves c =
       | inr e ↦ overlong-again c.args.self.now c.args.byte (sym c.self.view_is ∙ ap (λ k. pending_bytes k c.self.inside.payload.items) e) c.requires.settled c.requires.low
     ]
 
-pub returns-then-wants_two-clause-told : goal.returns-then-wants_two-clause-told
-returns-then-wants_two-clause-told c = gains-none c.args.out.now.items (c.args.self.now ++ c.args.byte ∷ []) (after-data-reading c.args.self.now c.in-Waiting.status ([]) c.args.byte (sym c.self.view_is ∙ ap (λ k. pending_bytes k c.self.inside.payload.items) c.in-Waiting.is) c.requires.settled c.requires.low ∙ two-silent (begins c.in-Waiting.status) c.in-Waiting.status c.args.byte (sym c.wants_two.ensures ∙ c.if-wants_two.true))
+pub returns-in_ok-push-in-One-clause-told : goal.returns-in_ok-push-in-One-clause-told
+returns-in_ok-push-in-One-clause-told c =
+    let waits : waits_for One (begins c.in-Waiting.status) ≡ true = ap (λ w. waits_for w (begins c.in-Waiting.status)) (sym c.in-One.is) ∙ subst (λ k. IsTrue (is_sound k c.self.inside.payload.items)) c.in-Waiting.is c.self.invariant.0 in
+    gains-one _ c.args.out.now.items c.with_one.result (c.in-Waiting.status ∷ c.args.byte ∷ []) (c.args.self.now ++ c.args.byte ∷ []) c.in_ok-push-in-One.ensures.items c.with_one.ensures
+    (after-data-reading c.args.self.now c.in-Waiting.status [] c.args.byte (sym c.self.view_is ∙ ap (λ k. pending_bytes k c.self.inside.payload.items) c.in-Waiting.is) c.requires.settled c.requires.low ∙ one-told (begins c.in-Waiting.status) c.in-Waiting.status c.args.byte (waits-for One (begins c.in-Waiting.status) waits) (waits-one (begins c.in-Waiting.status) waits))
 
-pub returns-then-wants_two-clause-leaves : goal.returns-then-wants_two-clause-leaves
-returns-then-wants_two-clause-leaves c = sym (after-data-rest c.args.self.now c.in-Waiting.status ([]) c.args.byte (sym c.self.view_is ∙ ap (λ k. pending_bytes k c.self.inside.payload.items) c.in-Waiting.is) c.requires.settled c.requires.low ∙ two-half (begins c.in-Waiting.status) c.in-Waiting.status c.args.byte (sym c.wants_two.ensures ∙ c.if-wants_two.true))
+pub returns-in_ok-push-in-One-clause-leaves : goal.returns-in_ok-push-in-One-clause-leaves
+returns-in_ok-push-in-One-clause-leaves c =
+    let waits : waits_for One (begins c.in-Waiting.status) ≡ true = ap (λ w. waits_for w (begins c.in-Waiting.status)) (sym c.in-One.is) ∙ subst (λ k. IsTrue (is_sound k c.self.inside.payload.items)) c.in-Waiting.is c.self.invariant.0 in
+    ap (λ k. pending_bytes k c.self.inside.payload.items) c.next_group-self-inside.ensures
+    ∙ next-left c.in-Waiting.width c.in-Waiting.status c.self.inside.payload.items
+    ∙ sym (after-data-rest c.args.self.now c.in-Waiting.status [] c.args.byte (sym c.self.view_is ∙ ap (λ k. pending_bytes k c.self.inside.payload.items) c.in-Waiting.is) c.requires.settled c.requires.low ∙ one-left (begins c.in-Waiting.status) c.in-Waiting.status c.args.byte (is_channel (begins c.in-Waiting.status)) (waits-for One (begins c.in-Waiting.status) waits) (waits-one (begins c.in-Waiting.status) waits) refl)
 
-pub returns-then-status-ge240-clause-told : goal.returns-then-status-ge240-clause-told
-returns-then-status-ge240-clause-told c = gains-one _ c.args.out.now.items c.with_one.result (c.in-Waiting.status ∷ c.args.byte ∷ []) (c.args.self.now ++ c.args.byte ∷ []) c.in_ok-push-in-Waiting.ensures.items c.with_one.ensures (after-data-reading c.args.self.now c.in-Waiting.status ([]) c.args.byte (sym c.self.view_is ∙ ap (λ k. pending_bytes k c.self.inside.payload.items) c.in-Waiting.is) c.requires.settled c.requires.low ∙ one-told (begins c.in-Waiting.status) c.in-Waiting.status c.args.byte (subst (λ k. IsTrue (is_sound k c.self.inside.payload.items)) c.in-Waiting.is c.self.invariant.0) (sym c.wants_two.ensures ∙ c.if-wants_two.false))
+pub returns-in-Two-clause-told : goal.returns-in-Two-clause-told
+returns-in-Two-clause-told c =
+    let waits : waits_for Two (begins c.in-Waiting.status) ≡ true = ap (λ w. waits_for w (begins c.in-Waiting.status)) (sym c.in-Two.is) ∙ subst (λ k. IsTrue (is_sound k c.self.inside.payload.items)) c.in-Waiting.is c.self.invariant.0 in
+    gains-none c.args.out.now.items (c.args.self.now ++ c.args.byte ∷ []) (after-data-reading c.args.self.now c.in-Waiting.status [] c.args.byte (sym c.self.view_is ∙ ap (λ k. pending_bytes k c.self.inside.payload.items) c.in-Waiting.is) c.requires.settled c.requires.low ∙ two-silent (begins c.in-Waiting.status) c.in-Waiting.status c.args.byte (waits-both (begins c.in-Waiting.status) waits))
 
-pub returns-else-status-ge240-clause-told : goal.returns-else-status-ge240-clause-told
-returns-else-status-ge240-clause-told c = gains-one _ c.args.out.now.items c.with_one.result (c.in-Waiting.status ∷ c.args.byte ∷ []) (c.args.self.now ++ c.args.byte ∷ []) c.in_ok-push-in-Waiting.ensures.items c.with_one.ensures (after-data-reading c.args.self.now c.in-Waiting.status ([]) c.args.byte (sym c.self.view_is ∙ ap (λ k. pending_bytes k c.self.inside.payload.items) c.in-Waiting.is) c.requires.settled c.requires.low ∙ one-told (begins c.in-Waiting.status) c.in-Waiting.status c.args.byte (subst (λ k. IsTrue (is_sound k c.self.inside.payload.items)) c.in-Waiting.is c.self.invariant.0) (sym c.wants_two.ensures ∙ c.if-wants_two.false))
+pub returns-in-Two-clause-leaves : goal.returns-in-Two-clause-leaves
+returns-in-Two-clause-leaves c =
+    let waits : waits_for Two (begins c.in-Waiting.status) ≡ true = ap (λ w. waits_for w (begins c.in-Waiting.status)) (sym c.in-Two.is) ∙ subst (λ k. IsTrue (is_sound k c.self.inside.payload.items)) c.in-Waiting.is c.self.invariant.0 in
+    sym (after-data-rest c.args.self.now c.in-Waiting.status [] c.args.byte (sym c.self.view_is ∙ ap (λ k. pending_bytes k c.self.inside.payload.items) c.in-Waiting.is) c.requires.settled c.requires.low ∙ two-half (begins c.in-Waiting.status) c.in-Waiting.status c.args.byte (waits-both (begins c.in-Waiting.status) waits))
 
-pub returns-then-status-ge240-clause-leaves : goal.returns-then-status-ge240-clause-leaves
-returns-then-status-ge240-clause-leaves c = sym (after-data-rest c.args.self.now c.in-Waiting.status ([]) c.args.byte (sym c.self.view_is ∙ ap (λ k. pending_bytes k c.self.inside.payload.items) c.in-Waiting.is) c.requires.settled c.requires.low ∙ one-left (begins c.in-Waiting.status) c.in-Waiting.status c.args.byte false (subst (λ k. IsTrue (is_sound k c.self.inside.payload.items)) c.in-Waiting.is c.self.invariant.0) (sym c.wants_two.ensures ∙ c.if-wants_two.false) (channel-from c.in-Waiting.status c.if-status-ge240.true))
+pub returns-in_ok-push-in-Half-clause-told : goal.returns-in_ok-push-in-Half-clause-told
+returns-in_ok-push-in-Half-clause-told c =
+    let waits : waits_for_two (begins c.in-Half.status) ≡ true = subst (λ k. IsTrue (is_sound k c.self.inside.payload.items)) c.in-Half.is c.self.invariant.0 in
+    gains-one _ c.args.out.now.items c.with_two.result (c.in-Half.status ∷ c.in-Half.first ∷ c.args.byte ∷ []) (c.args.self.now ++ c.args.byte ∷ []) c.in_ok-push-in-Half.ensures.items c.with_two.ensures
+    (after-data-reading c.args.self.now c.in-Half.status (c.in-Half.first ∷ []) c.args.byte (sym c.self.view_is ∙ ap (λ k. pending_bytes k c.self.inside.payload.items) c.in-Half.is) c.requires.settled c.requires.low ∙ two-told (begins c.in-Half.status) c.in-Half.status c.in-Half.first c.args.byte waits)
 
-pub returns-else-status-ge240-clause-leaves : goal.returns-else-status-ge240-clause-leaves
-returns-else-status-ge240-clause-leaves c = (sym c.self.view_is ∙ ap (λ k. pending_bytes k c.self.inside.payload.items) c.in-Waiting.is) ∙ sym (after-data-rest c.args.self.now c.in-Waiting.status ([]) c.args.byte (sym c.self.view_is ∙ ap (λ k. pending_bytes k c.self.inside.payload.items) c.in-Waiting.is) c.requires.settled c.requires.low ∙ one-left (begins c.in-Waiting.status) c.in-Waiting.status c.args.byte true (subst (λ k. IsTrue (is_sound k c.self.inside.payload.items)) c.in-Waiting.is c.self.invariant.0) (sym c.wants_two.ensures ∙ c.if-wants_two.false) (channel-below c.in-Waiting.status (waits-from c.in-Waiting.status (subst (λ k. IsTrue (is_sound k c.self.inside.payload.items)) c.in-Waiting.is c.self.invariant.0)) c.if-status-ge240.false))
-
-pub returns-then-status-ge240-2-clause-told : goal.returns-then-status-ge240-2-clause-told
-returns-then-status-ge240-2-clause-told c = gains-one _ c.args.out.now.items c.with_two.result (c.in-Half.status ∷ c.in-Half.first ∷ c.args.byte ∷ []) (c.args.self.now ++ c.args.byte ∷ []) c.in_ok-push-in-Half.ensures.items c.with_two.ensures (after-data-reading c.args.self.now c.in-Half.status (c.in-Half.first ∷ []) c.args.byte (sym c.self.view_is ∙ ap (λ k. pending_bytes k c.self.inside.payload.items) c.in-Half.is) c.requires.settled c.requires.low ∙ two-told (begins c.in-Half.status) c.in-Half.status c.in-Half.first c.args.byte (subst (λ k. IsTrue (is_sound k c.self.inside.payload.items)) c.in-Half.is c.self.invariant.0))
-
-pub returns-else-status-ge240-2-clause-told : goal.returns-else-status-ge240-2-clause-told
-returns-else-status-ge240-2-clause-told c = gains-one _ c.args.out.now.items c.with_two.result (c.in-Half.status ∷ c.in-Half.first ∷ c.args.byte ∷ []) (c.args.self.now ++ c.args.byte ∷ []) c.in_ok-push-in-Half.ensures.items c.with_two.ensures (after-data-reading c.args.self.now c.in-Half.status (c.in-Half.first ∷ []) c.args.byte (sym c.self.view_is ∙ ap (λ k. pending_bytes k c.self.inside.payload.items) c.in-Half.is) c.requires.settled c.requires.low ∙ two-told (begins c.in-Half.status) c.in-Half.status c.in-Half.first c.args.byte (subst (λ k. IsTrue (is_sound k c.self.inside.payload.items)) c.in-Half.is c.self.invariant.0))
-
-pub returns-then-status-ge240-2-clause-leaves : goal.returns-then-status-ge240-2-clause-leaves
-returns-then-status-ge240-2-clause-leaves c = sym (after-data-rest c.args.self.now c.in-Half.status (c.in-Half.first ∷ []) c.args.byte (sym c.self.view_is ∙ ap (λ k. pending_bytes k c.self.inside.payload.items) c.in-Half.is) c.requires.settled c.requires.low ∙ two-left (begins c.in-Half.status) c.in-Half.status c.in-Half.first c.args.byte false (subst (λ k. IsTrue (is_sound k c.self.inside.payload.items)) c.in-Half.is c.self.invariant.0) (channel-from c.in-Half.status c.if-status-ge240-2.true))
-
-pub returns-else-status-ge240-2-clause-leaves : goal.returns-else-status-ge240-2-clause-leaves
-returns-else-status-ge240-2-clause-leaves c = sym (after-data-rest c.args.self.now c.in-Half.status (c.in-Half.first ∷ []) c.args.byte (sym c.self.view_is ∙ ap (λ k. pending_bytes k c.self.inside.payload.items) c.in-Half.is) c.requires.settled c.requires.low ∙ two-left (begins c.in-Half.status) c.in-Half.status c.in-Half.first c.args.byte true (subst (λ k. IsTrue (is_sound k c.self.inside.payload.items)) c.in-Half.is c.self.invariant.0) (channel-below c.in-Half.status (waits-from c.in-Half.status (waits-two (begins c.in-Half.status) (subst (λ k. IsTrue (is_sound k c.self.inside.payload.items)) c.in-Half.is c.self.invariant.0))) c.if-status-ge240-2.false))
+pub returns-in_ok-push-in-Half-clause-leaves : goal.returns-in_ok-push-in-Half-clause-leaves
+returns-in_ok-push-in-Half-clause-leaves c =
+    let waits : waits_for_two (begins c.in-Half.status) ≡ true = subst (λ k. IsTrue (is_sound k c.self.inside.payload.items)) c.in-Half.is c.self.invariant.0 in
+    ap (λ k. pending_bytes k c.self.inside.payload.items) c.next_group-self-inside-in-Half.ensures
+    ∙ next-left Two c.in-Half.status c.self.inside.payload.items
+    ∙ sym (after-data-rest c.args.self.now c.in-Half.status (c.in-Half.first ∷ []) c.args.byte (sym c.self.view_is ∙ ap (λ k. pending_bytes k c.self.inside.payload.items) c.in-Half.is) c.requires.settled c.requires.low ∙ two-left (begins c.in-Half.status) c.in-Half.status c.in-Half.first c.args.byte (is_channel (begins c.in-Half.status)) waits refl)
 
 pub returns-in_ok-push-in-Collecting-clause-told : goal.returns-in_ok-push-in-Collecting-clause-told
 returns-in_ok-push-in-Collecting-clause-told c = gains-none c.args.out.now.items (c.args.self.now ++ c.args.byte ∷ []) (collecting-reading c.args.self.now c.self.inside.payload.items c.args.byte (sym c.self.view_is ∙ ap (λ k. pending_bytes k c.self.inside.payload.items) c.in-Collecting.is) c.requires.settled c.requires.low)
