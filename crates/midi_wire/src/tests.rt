@@ -205,3 +205,19 @@ fn refused_growth(rt: HostRuntime) {
         }
     }
 }
+
+#[test]
+fn many_messages_in_one_piece(rt: HostRuntime) -> Result<(), Fail> {
+    let mut stream = Vec::new(rt.alloc());
+    stream.push(0x90)?;
+    for _ in 0..10_000 {
+        stream.extend_from_slice(b"\x3C\x40")?;
+    }
+    let mut parser = StreamParser::new(rt.alloc());
+    let mut messages = Vec::new(rt.alloc());
+    assert_eq!(rt; parser.feed(stream.as_slice(), &mut messages)?, 10_000);
+    assert_eq!(rt; messages.len(), 10_000);
+    let last = full_bytes(rt.alloc(), &messages.as_slice()[9_999..])?;
+    assert_eq!(rt; last.as_slice(), b"\x90\x3C\x40");
+    Ok(())
+}

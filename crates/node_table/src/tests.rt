@@ -320,3 +320,34 @@ fn addresses_of_queues_have_their_text(rt: HostRuntime) -> Result<(), Fail> {
     assert_eq!(rt; text.as_str(), "128:q7");
     Ok(())
 }
+
+#[test]
+fn a_full_house_has_room_for_all(rt: HostRuntime) -> Result<(), Fail> {
+    let mut table: NodeTable<u32> = NodeTable::new(rt.alloc());
+    for number in 128..192 {
+        assert_eq!(rt; table.open_client(client(&rt, number), b"full"), Ok(()));
+    }
+    for place in 0..PLACES {
+        if let Some(addr) = addr_at(place) {
+            let name = if addr.is_filter() {
+                b"".as_slice()
+            } else {
+                b"port".as_slice()
+            };
+            assert_eq!(rt;
+                answer(table.create(addr, name, caps(&rt, 99), place as u32)),
+                ('-', 0)
+            );
+        }
+    }
+    for place in 0..PLACES {
+        if let Some(addr) = addr_at(place) {
+            assert_eq!(rt; body(&table, &addr), Some(place as u32));
+        }
+    }
+    assert!(rt; table.close_client(client(&rt, 160)));
+    assert_eq!(rt; body(&table, &port(&rt, 159, 15)), Some(1007));
+    assert_eq!(rt; body(&table, &port(&rt, 160, 0)), None);
+    assert_eq!(rt; body(&table, &port(&rt, 161, 0)), Some(1056));
+    Ok(())
+}

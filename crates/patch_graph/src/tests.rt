@@ -244,3 +244,32 @@ fn a_client_goes_with_its_edges(rt: HostRuntime) -> Result<(), Fail> {
     assert!(rt; graph.is_empty());
     Ok(())
 }
+
+#[test]
+fn a_full_house_of_ports_has_32_sources_at_each(rt: HostRuntime) -> Result<(), Fail> {
+    let mut graph = PatchGraph::new(rt.alloc());
+    for number in 128..192 {
+        for target in 0..16 {
+            for source in 0..16 {
+                graph.connect(port(&rt, 128, source), port(&rt, number, target))?;
+                graph.connect(port(&rt, 129, source), port(&rt, number, target))?;
+            }
+        }
+    }
+    assert_eq!(rt; graph.len(), 32_768);
+    for number in 128..192 {
+        assert_eq!(rt; graph.sources(&port(&rt, number, 15)), 32);
+        assert_eq!(rt;
+            graph.connect(port(&rt, 130, 0), port(&rt, number, 15)),
+            Err(EdgeFault::SourcesFull)
+        );
+    }
+    let mut routes = graph.routes(&port(&rt, 129, 3));
+    for number in 128..192 {
+        for target in 0..16 {
+            assert_way(&rt, &mut routes, &[port(&rt, number, target)]);
+        }
+    }
+    assert!(rt; routes.next().is_none());
+    Ok(())
+}

@@ -238,3 +238,21 @@ fn settles_with_nothing_due(rt: HostRuntime) -> Result<(), Fail> {
     assert_eq!(rt; engine.steps(), 1);
     Ok(())
 }
+
+/// A long run has all its replies and all its deliveries.
+#[test]
+fn a_hundred_thousand_inputs(rt: HostRuntime) -> Result<(), Fail> {
+    let alloc = rt.alloc();
+    let mut inputs = two_clients(alloc)?;
+    for moment in 0..100_000 {
+        let message = Message::channel(Kind::NoteOn, 0, 60, 64).ok_or("a message")?;
+        let port = port(0)?;
+        inputs.push(said(moment, 128, Command::Send { port, message })?)?;
+    }
+    let log = run(alloc, inputs.as_slice(), 100_000)?;
+    let entries = log.entries.as_slice();
+    assert_eq!(rt; entries.len(), 200_005);
+    assert_delivery(&rt, alloc, &entries[200_003], 99_999, b"\x90\x3C\x40")?;
+    assert_reply(&rt, &entries[200_004], 100_004, 99_999, 128, Reply::Done);
+    Ok(())
+}
