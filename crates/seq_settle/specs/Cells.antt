@@ -77,7 +77,8 @@ abbrev pub playbacks : FinMap nat_cmp Cell → ℕ → List Pending
 playbacks cells steps = ranked (at_rank cells) steps
 
 -- the plain state that is seen
-abbrev pub seen : FinMap nat_cmp Client → FinMap nat_cmp Pool → List Edge → FinMap nat_cmp Cell → ℕ → State
+abbrev pub seen : FinMap nat_cmp Client → FinMap nat_cmp Pool → List Edge → FinMap nat_cmp Cell →
+    ℕ → State
 seen clients pools edges cells steps = record { clients = clients; pools = pools; edges = edges; pending = playbacks cells steps }
 
 -- ---- the invariant
@@ -96,7 +97,8 @@ are_in_order (e ∷ es) = list_all (λ x. due_le e.due x.due) es && are_in_order
 -- The cells are of commands so far, no two of one command, each has an event left, and its events are in order.
 pub record AreCells (cells : FinMap nat_cmp Cell) (steps : ℕ) : Type 0 where
   pub early : (q : ℕ) (c : Cell) → FinMap.get cells q ≡ Some c → c.1.rank < steps
-  pub apart : (q r : ℕ) (c d : Cell) → FinMap.get cells q ≡ Some c → FinMap.get cells r ≡ Some d → c.1.rank ≡ d.1.rank → q ≡ r
+  pub apart : (q r : ℕ) (c d : Cell) → FinMap.get cells q ≡ Some c → FinMap.get cells r ≡ Some d →
+      c.1.rank ≡ d.1.rank → q ≡ r
   pub filled : (q : ℕ) (c : Cell) → FinMap.get cells q ≡ Some c → is_left (pending_in c) ≡ true
   pub ordered : (q : ℕ) (c : Cell) → FinMap.get cells q ≡ Some c → are_in_order c.1.events ≡ true
 

@@ -28,15 +28,21 @@ queue_goes AllAndOnQueues n = true
 
 -- what stays where these of a client go
 abbrev pub stays : ℕ → Which → Pending → Bool
-stays client which p = not (((p.client == client) && goes which p.playback.port) || ((p.queue.client == client) && queue_goes which p.queue.queue))
+stays client which p = not (((p.client == client)
+    && goes which p.playback.port) || ((p.queue.client == client)
+    && queue_goes which p.queue.queue))
 
 -- the same of what a cell says of itself
 abbrev pub chosen : ℕ → Which → Head → Bool
-chosen client which h = ((h.client == client) && goes which h.port) || ((h.queue.client == client) && queue_goes which h.queue.queue)
+chosen client which h = ((h.client == client)
+    && goes which h.port) || ((h.queue.client == client) && queue_goes which h.queue.queue)
 
 -- A cell was dropped where it goes, and all else is as it was; before the place where its key stood
 -- among its owner's, the keys are the same.
 pub record IsDropped (client : ℕ) (which : Which) (old new : Store Left) (key : ℕ) : Type 0 where
-  pub cells : (q : ℕ) → FinMap.get new.cells q ≡ (if q == key then kept_cell (stays client which) (FinMap.get old.cells key) else FinMap.get old.cells q)
-  pub before : (owner i : ℕ) → StandsAt (keys_of old owner) i key → SameBefore i (keys_of old owner) (keys_of new owner)
+  pub cells : (q : ℕ) →
+      FinMap.get new.cells q
+      ≡ (if q == key then kept_cell (stays client which) (FinMap.get old.cells key) else FinMap.get old.cells q)
+  pub before : (owner i : ℕ) → StandsAt (keys_of old owner) i key →
+      SameBefore i (keys_of old owner) (keys_of new owner)
   pub sizes : (owner : ℕ) → size_of new owner ≡ size_of old owner

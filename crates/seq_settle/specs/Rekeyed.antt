@@ -15,6 +15,8 @@ OthersSame was clients queue =
     (other : QueueAddr) → (other ≡ queue → ⊥) → SameMoments was clients other
 
 -- the agenda has the keys that these cells have by the new clients, and of all others those by the old ones
-abbrev pub AreKeysSo : FinMap nat_cmp Client → FinMap nat_cmp Client → FinMap nat_cmp Cell → FinMap nat_cmp DueKey → (ℕ → Bool) → Type 0
+abbrev pub AreKeysSo : FinMap nat_cmp Client → FinMap nat_cmp Client → FinMap nat_cmp Cell →
+    FinMap nat_cmp DueKey → (ℕ → Bool) → Type 0
 AreKeysSo was clients cells agenda done =
-    (q : ℕ) → FinMap.get agenda q ≡ (if done q then key_of clients (FinMap.get cells q) else key_of was (FinMap.get cells q))
+    (q : ℕ) → FinMap.get agenda q
+    ≡ (if done q then key_of clients (FinMap.get cells q) else key_of was (FinMap.get cells q))

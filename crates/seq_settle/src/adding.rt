@@ -39,11 +39,13 @@ pub fn add_playback<'b, D: Desk, A: Agenda>(
     requires keys { AreKeys (D.clients desk.now) cells.old.cells (A.content agenda.old) }
     requires ordered { are_in_order accepted.events ≡ true }
     requires room { used_by cells.old.cells accepted.client < size_of cells.old accepted.client }
-    ensures added { OnOk result (playbacks cells.new.cells (rank + 1) ≡ playbacks cells.old.cells rank
+    ensures added { OnOk result (playbacks cells.new.cells (rank + 1)
+        ≡ playbacks cells.old.cells rank
         ++ filter is_left (pending_in (accepted.entry.client, new_left rank accepted.entry.port accepted.entry.queue accepted.entry.moment accepted.entry.events) ∷ [])) }
     ensures cells { OnOk result (AreCells cells.new.cells (rank + 1)) }
     ensures keys { OnOk result (AreKeys (D.clients desk.now) cells.new.cells (A.content agenda.new)) }
-    ensures sizes { OnOk result ((client : ℕ) → size_of cells.new client ≡ size_of cells.old client) }
+    ensures sizes { OnOk result ((client : ℕ) →
+        size_of cells.new client ≡ size_of cells.old client) }
 {
     let Accepted {
         client,

@@ -31,11 +31,14 @@ pub(crate) fn pop_first(
     cells: &mut CellStore<Playing<'_>>,
     key: CellKey,
 ) -> Result<Option<Popped>, OutOfMemory>
-    ensures event { IfOk result (λ r. (c : Cell) (e : Event) (es : List Event) → map.get cells.old.cells key ≡ Some c
+    ensures event { IfOk result (λ r. (c : Cell) (e : Event) (es : List Event) →
+        map.get cells.old.cells key ≡ Some c
         → c.1.events ≡ e ∷ es → r ≡ Some (popped c e es)) }
-    ensures rest { OnOk result ((c : Cell) (e : Event) (es : List Event) → map.get cells.old.cells key ≡ Some c
+    ensures rest { OnOk result ((c : Cell) (e : Event) (es : List Event) →
+        map.get cells.old.cells key ≡ Some c
         → c.1.events ≡ e ∷ es → cells.new.cells ≡ put cells.old.cells key (rest_of c es)) }
-    ensures sizes { OnOk result ((client : ℕ) → size_of cells.new client ≡ size_of cells.old client) }
+    ensures sizes { OnOk result ((client : ℕ) →
+        size_of cells.new client ≡ size_of cells.old client) }
 {
     let Some(message) = next_of(cells, key)? else {
         return Ok(None);
@@ -66,11 +69,15 @@ pub(crate) fn drop_cell(cells: &mut CellStore<Playing<'_>>, key: CellKey)
 
 /// Takes the message of the first event of a cell.
 fn next_of(cells: &mut CellStore<Playing<'_>>, key: CellKey) -> Result<Option<Message>, OutOfMemory>
-    ensures event { IfOk result (λ r. (c : Cell) (e : Event) (es : List Event) → map.get cells.old.cells key ≡ Some c
+    ensures event { IfOk result (λ r. (c : Cell) (e : Event) (es : List Event) →
+        map.get cells.old.cells key ≡ Some c
         → c.1.events ≡ e ∷ es → r ≡ Some e.message) }
-    ensures rest { OnOk result ((c : Cell) (e : Event) (es : List Event) → map.get cells.old.cells key ≡ Some c
-        → c.1.events ≡ e ∷ es → cells.new.cells ≡ map.insert cells.old.cells key (c.0, with_rest c.1 es)) }
-    ensures sizes { OnOk result ((client : ℕ) → size_of cells.new client ≡ size_of cells.old client) }
+    ensures rest { OnOk result ((c : Cell) (e : Event) (es : List Event) →
+        map.get cells.old.cells key ≡ Some c
+        → c.1.events ≡ e ∷ es →
+        cells.new.cells ≡ map.insert cells.old.cells key (c.0, with_rest c.1 es)) }
+    ensures sizes { OnOk result ((client : ℕ) →
+        size_of cells.new client ≡ size_of cells.old client) }
 {
     match cells.get_mut(key) {
         Some(playing) => playing.next(),

@@ -32,11 +32,14 @@ pub fn drop_playbacks<A: Agenda>(
     requires cells { AreCells cells.old.cells steps }
     requires alone { foreign ≡ false → (q : ℕ) (c : Cell) → map.get cells.old.cells q ≡ Some c
         → stays client which.now (pending_in c) ≡ false → c.0 ≡ client }
-    ensures playbacks { playbacks cells.new.cells steps ≡ filter (stays client which.now) (playbacks cells.old.cells steps) }
+    ensures playbacks { playbacks cells.new.cells steps
+        ≡ filter (stays client which.now) (playbacks cells.old.cells steps) }
     ensures cells { AreCells cells.new.cells steps }
-    ensures keys { (clients : map.FinMap nat_cmp Client) → AreKeys clients cells.old.cells (A.content agenda.old)
+    ensures keys { (clients : map.FinMap nat_cmp Client) →
+        AreKeys clients cells.old.cells (A.content agenda.old)
         → AreKeys clients cells.new.cells (A.content agenda.new) }
-    ensures left { (q : ℕ) (c : Cell) → map.get cells.new.cells q ≡ Some c → stays client which.now (pending_in c) ≡ true }
+    ensures left { (q : ℕ) (c : Cell) → map.get cells.new.cells q ≡ Some c →
+        stays client which.now (pending_in c) ≡ true }
     ensures sizes { (owner : ℕ) → size_of cells.new owner ≡ size_of cells.old owner }
 {
     if !foreign {
@@ -58,9 +61,11 @@ fn drop_of<A: Agenda>(
     client: ClientId,
     which: &Which,
 )
-    ensures cells { (q : ℕ) → map.get cells.new.cells q ≡ (if is_of owner (map.get cells.old.cells q)
+    ensures cells { (q : ℕ) →
+        map.get cells.new.cells q ≡ (if is_of owner (map.get cells.old.cells q)
         then kept_cell (stays client which.now) (map.get cells.old.cells q) else map.get cells.old.cells q) }
-    ensures keys { (clients : map.FinMap nat_cmp Client) → AreKeys clients cells.old.cells (A.content agenda.old)
+    ensures keys { (clients : map.FinMap nat_cmp Client) →
+        AreKeys clients cells.old.cells (A.content agenda.old)
         → AreKeys clients cells.new.cells (A.content agenda.new) }
     ensures sizes { (other : ℕ) → size_of cells.new other ≡ size_of cells.old other }
 {
@@ -80,7 +85,8 @@ fn drop_one<A: Agenda>(
     which: &Which,
 )
     ensures cells { IsDropped client which.now cells.old cells.new cell }
-    ensures keys { (clients : map.FinMap nat_cmp Client) → AreKeys clients cells.old.cells (A.content agenda.old)
+    ensures keys { (clients : map.FinMap nat_cmp Client) →
+        AreKeys clients cells.old.cells (A.content agenda.old)
         → AreKeys clients cells.new.cells (A.content agenda.new) }
 {
     if let Some(head) = head_at(cells, cell) {

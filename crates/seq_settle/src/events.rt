@@ -80,8 +80,10 @@ impl<'b> Events<'b> {
 
     /// Takes the first of them, if there is one. Where memory is refused, all stay.
     pub fn next(&mut self) -> Result<Option<Message>, OutOfMemory>
-        ensures first { IfOk result (λ r. (e : Event) (es : List Event) → self.old ≡ e ∷ es → r ≡ Some e.message) }
-        ensures rest { OnOk result ((e : Event) (es : List Event) → self.old ≡ e ∷ es → self.new ≡ es) }
+        ensures first { IfOk result (λ r. (e : Event) (es : List Event) → self.old ≡ e ∷ es →
+            r ≡ Some e.message) }
+        ensures rest { OnOk result ((e : Event) (es : List Event) → self.old ≡ e ∷ es →
+            self.new ≡ es) }
     {
         match &mut self.source {
             Source::Scheduled { due: _, message } => Ok(message.take()),

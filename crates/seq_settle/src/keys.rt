@@ -32,7 +32,8 @@ pub(crate) fn add_key<A: Agenda>(
     key: Option<DueKey>,
 ) -> Result<(), OutOfMemory>
     requires absent { map.get (A.content agenda.old) cell ≡ None }
-    requires free { (k : DueKey) (q : ℕ) → key ≡ Some k → map.get (A.content agenda.old) q ≡ Some k → q ≡ cell }
+    requires free { (k : DueKey) (q : ℕ) → key ≡ Some k →
+        map.get (A.content agenda.old) q ≡ Some k → q ≡ cell }
     ensures { OnOk result (A.content agenda.new ≡ put (A.content agenda.old) cell key) }
 {
     match key {
@@ -47,7 +48,8 @@ pub(crate) fn set_key<A: Agenda>(
     cell: CellKey,
     key: Option<DueKey>,
 ) -> Result<(), OutOfMemory>
-    requires free { (k : DueKey) (q : ℕ) → key ≡ Some k → map.get (A.content agenda.old) q ≡ Some k → q ≡ cell }
+    requires free { (k : DueKey) (q : ℕ) → key ≡ Some k →
+        map.get (A.content agenda.old) q ≡ Some k → q ≡ cell }
     ensures { OnOk result (A.content agenda.new ≡ put (A.content agenda.old) cell key) }
 {
     agenda.remove(cell);

@@ -41,7 +41,8 @@ impl<'b> Playing<'b> {
         accepted: u64,
         events: Events<'b>,
     ) -> Playing<'b>
-        ensures { result ≡ record { rank = rank; port = port; queue = queue; accepted = accepted; events = events.entry } }
+        ensures { result
+            ≡ record { rank = rank; port = port; queue = queue; accepted = accepted; events = events.entry } }
     {
         Playing {
             rank,
@@ -68,8 +69,10 @@ impl<'b> Playing<'b> {
 
     /// Takes the message of its first event.
     pub(crate) fn next(&mut self) -> Result<Option<Message>, OutOfMemory>
-        ensures first { IfOk result (λ r. (e : Event) (es : List Event) → self.old.events ≡ e ∷ es → r ≡ Some e.message) }
-        ensures rest { OnOk result ((e : Event) (es : List Event) → self.old.events ≡ e ∷ es → self.new ≡ with_rest self.old es) }
+        ensures first { IfOk result (λ r. (e : Event) (es : List Event) →
+            self.old.events ≡ e ∷ es → r ≡ Some e.message) }
+        ensures rest { OnOk result ((e : Event) (es : List Event) → self.old.events ≡ e ∷ es →
+            self.new ≡ with_rest self.old es) }
     {
         self.events.next()
     }

@@ -32,7 +32,8 @@ pub fn rekey_all<D: Desk, A: Agenda>(
     foreign: bool,
 ) -> Result<(), OutOfMemory>
     requires cells { AreCells cells.now.cells steps }
-    requires keys { (was : map.FinMap nat_cmp Client) × OthersSame was (D.clients desk.now) queue.now
+    requires keys { (was : map.FinMap nat_cmp Client)
+        × OthersSame was (D.clients desk.now) queue.now
         × AreKeys was cells.now.cells (A.content agenda.old) }
     requires alone { foreign ≡ false → (q : ℕ) (c : Cell) → map.get cells.now.cells q ≡ Some c
         → c.1.queue ≡ queue.now → c.0 ≡ queue.now.client }
@@ -59,11 +60,14 @@ fn rekey_of<D: Desk, A: Agenda>(
     queue: &QueueAddr,
 ) -> Result<(), OutOfMemory>
     requires cells { AreCells cells.now.cells steps }
-    requires keys { (was : map.FinMap nat_cmp Client) × (done : ℕ → Bool) × OthersSame was (D.clients desk.now) queue.now
+    requires keys { (was : map.FinMap nat_cmp Client) × (done : ℕ →
+        Bool) × OthersSame was (D.clients desk.now) queue.now
         × AreKeysSo was (D.clients desk.now) cells.now.cells (A.content agenda.old) done }
-    ensures { OnOk result ((was : map.FinMap nat_cmp Client) (done : ℕ → Bool) → OthersSame was (D.clients desk.now) queue.now
+    ensures { OnOk result ((was : map.FinMap nat_cmp Client) (done : ℕ → Bool) →
+        OthersSame was (D.clients desk.now) queue.now
         → AreKeysSo was (D.clients desk.now) cells.now.cells (A.content agenda.old) done
-        → AreKeysSo was (D.clients desk.now) cells.now.cells (A.content agenda.new) (λ q. done q || is_of owner (map.get cells.now.cells q))) }
+        → AreKeysSo was (D.clients desk.now) cells.now.cells (A.content agenda.new) (λ q. done q
+        || is_of owner (map.get cells.now.cells q))) }
 {
     for index in 0..cells.used(owner) {
         let Some(cell) = cells.nth_of(owner, index) else {

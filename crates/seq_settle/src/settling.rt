@@ -32,10 +32,12 @@ pub fn settle_all<D: Desk, A: Agenda>(
     ensures state { OnOk result (seen (D.clients desk.new) (D.pools desk.new) (D.edges desk.new) cells.new.cells steps
         ≡ (settle (seen (D.clients desk.old) (D.pools desk.old) (D.edges desk.old) cells.old.cells steps) moment).state) }
     ensures delivered { OnOk result (out.new.items
-        ≡ out.old.items ++ (settle (seen (D.clients desk.old) (D.pools desk.old) (D.edges desk.old) cells.old.cells steps) moment).delivered) }
+        ≡ out.old.items
+        ++ (settle (seen (D.clients desk.old) (D.pools desk.old) (D.edges desk.old) cells.old.cells steps) moment).delivered) }
     ensures cells { OnOk result (AreCells cells.new.cells steps) }
     ensures keys { OnOk result (AreKeys (D.clients desk.new) cells.new.cells (A.content agenda.new)) }
-    ensures sizes { OnOk result ((client : ℕ) → size_of cells.new client ≡ size_of cells.old client) }
+    ensures sizes { OnOk result ((client : ℕ) →
+        size_of cells.new client ≡ size_of cells.old client) }
 {
     while let Some(due) = agenda.pop_due(moment) {
         let Some(popped) = pop_first(cells, due.0)? else {
