@@ -1,37 +1,34 @@
 //! `midiseq`: a MIDI sequencer and patchbay on the command line.
 #![tactic(auto)]
 
-mod dump;
-mod fault;
 mod words;
 
-use crate::dump::dump;
 use byte_io::{StdSink, StdSource};
 use clap::error::ErrorKind;
-use fault::Fault;
-use std::alloc::Global;
 use std::process::ExitCode;
 use std::rt::{Env, Files};
 use std::{env, fs, io};
-use tool_text::{ToolFault, thru_text, wire_text};
-
-/// The name of a standard stream.
-const STANDARD: &str = "-";
+use tool_text::{ProgramFault, STANDARD, Stream, Task, ToolFault};
 
 fn main(rt: HostRuntime) -> ExitCode {
-    match program(&rt) {
+    let words = match read_words(&rt) {
+        Ok(words) => words,
+        Err(fault) => return failed(&rt, fault),
+    };
+    match program(&rt, words.as_slice()) {
         Ok(code) => code,
-        Err(fault) => {
-            let _ = eprintln!(rt; "midiseq: {fault}");
-            ExitCode::from(fault.status())
-        }
+        Err(fault) => failed(&rt, fault),
     }
 }
 
-/// Without words it passes standard input on, as `thru -` does.
-fn program(
-    rt: &(impl Files + Env + Input + Print + Eprint + AllocGlobal),
-) -> Result<ExitCode, Fault> {
+/// Tells a fault, and gives its status.
+fn failed(rt: &impl Eprint, fault: ProgramFault<'_>) -> ExitCode {
+    let _ = eprintln!(rt; "midiseq: {fault}");
+    ExitCode::from(fault.status())
+}
+
+/// The words of the command line, of which the first is the program's name.
+fn read_words(rt: &(impl Env + AllocGlobal)) -> Result<Vec<String>, ProgramFault<'static>> {
     let mut words = Vec::new(rt.alloc());
     match env::args(rt) {
         Ok(args) => {
@@ -39,64 +36,59 @@ fn program(
                 words.push(word)?;
             }
         }
-        Err(_) => return Err(Fault::NotUtf8),
+        Err(error) => return Err(ProgramFault::of_words(error.kind())),
     }
+    Ok(words)
+}
+
+/// Does what the words say.
+fn program<'a>(
+    rt: &(impl Files + Input + Print + Eprint + AllocGlobal),
+    words: &'a [String],
+) -> Result<ExitCode, ProgramFault<'a>> {
     if words.len() <= 1 {
-        return thru(rt, STANDARD);
+        return perform(rt, Task::without_words());
     }
     let command = words::command(rt.alloc())?;
-    match command.try_get_matches_from(words.as_slice()) {
-        Ok(matches) => match matches.subcommand() {
-            Some(("thru", found)) => thru(rt, found.get_str("FILE").unwrap_or(STANDARD)),
-            Some(("wire", found)) => wire(rt, found.get_str("FILE").unwrap_or(STANDARD)),
-            Some(("dump", found)) => dump(rt, found.get_str("FILE").unwrap_or(STANDARD)),
-            _ => Err(Fault::NoSubcommand),
-        },
+    match command.try_get_matches_from(words) {
+        Ok(matches) => {
+            let Some((name, found)) = matches.subcommand() else {
+                return Err(ProgramFault::NoSubcommand);
+            };
+            match Task::of_words(name, found.get_str("FILE").unwrap_or(STANDARD)) {
+                Some(task) => perform(rt, task),
+                None => Err(ProgramFault::NoSubcommand),
+            }
+        }
         Err(error) => {
             if error.kind() == ErrorKind::OutOfMemory {
-                return Err(Fault::OutOfMemory);
+                return Err(ProgramFault::OutOfMemory);
             }
-            let _ = error.print(rt);
+            // What goes to standard output is what was asked for; of what goes to standard error nobody could be told.
+            if error.print(rt).is_err() && !error.use_stderr() {
+                return Err(ProgramFault::CannotWrite(STANDARD));
+            }
             Ok(ExitCode::from(error.exit_code() as u8))
         }
     }
 }
 
-/// Passes a MIDI stream from one client of a sequencer to another.
-fn thru(rt: &(impl Files + Input + Print + AllocGlobal), path: &str) -> Result<ExitCode, Fault> {
+/// Gives a tool its stream, and prints on standard output.
+fn perform<'a>(
+    rt: &(impl Files + Input + Print + AllocGlobal),
+    task: Task<'a>,
+) -> Result<ExitCode, ProgramFault<'a>> {
     let mut out = StdSink::new(io::writer(rt));
-    let done = if path == STANDARD {
-        thru_text(rt.alloc(), &mut StdSource::new(rt.reader()), &mut out)
-    } else {
-        match fs::open(rt, path) {
-            Ok(file) => thru_text(rt.alloc(), &mut StdSource::new(file), &mut out),
+    let tool = task.tool;
+    let done = match task.stream {
+        Stream::Standard => tool.print(rt.alloc(), &mut StdSource::new(rt.reader()), &mut out),
+        Stream::Path(path) => match fs::open(rt, path) {
+            Ok(file) => tool.print(rt.alloc(), &mut StdSource::new(file), &mut out),
             Err(_) => Err(ToolFault::Read),
-        }
+        },
     };
-    ended(rt.alloc(), path, done)
-}
-
-/// Reads a MIDI stream, and writes it back.
-fn wire(rt: &(impl Files + Input + Print + AllocGlobal), path: &str) -> Result<ExitCode, Fault> {
-    let mut out = StdSink::new(io::writer(rt));
-    let done = if path == STANDARD {
-        wire_text(rt.alloc(), &mut StdSource::new(rt.reader()), &mut out)
-    } else {
-        match fs::open(rt, path) {
-            Ok(file) => wire_text(rt.alloc(), &mut StdSource::new(file), &mut out),
-            Err(_) => Err(ToolFault::Read),
-        }
-    };
-    ended(rt.alloc(), path, done)
-}
-
-/// The status of a tool, or its fault with the place.
-fn ended(alloc: Global, path: &str, done: Result<(), ToolFault>) -> Result<ExitCode, Fault> {
     match done {
         Ok(()) => Ok(ExitCode::SUCCESS),
-        Err(ToolFault::OutOfMemory) => Err(Fault::OutOfMemory),
-        Err(ToolFault::Read) => Err(Fault::cannot_read(alloc, path)),
-        Err(ToolFault::Write) => Err(Fault::cannot_write(alloc, STANDARD)),
-        Err(ToolFault::Smf(fault)) => Err(Fault::Smf(fault)),
+        Err(fault) => Err(ProgramFault::of_tool(task.stream, fault)),
     }
 }

@@ -1,87 +1,125 @@
--- A stream that is read and passed on in pieces.
-use Rattle.std.proofs.Common.{◌≡◌, ℕ, ◌+◌, ◌<◌, ◌≤◌, ◌++◌, ◌∙◌, Bool, true, false, List, [], ◌∷◌, length, take, refl, sym, ap, arith, append_assoc, append-nil, length-append}
+-- A stream that is read in pieces and printed as it comes.
+use Rattle.std.proofs.Common.{◌≡◌, ℕ, ◌+◌, ◌-◌, ◌<◌, ◌≤◌, ◌++◌, ◌∙◌, Bool, true, false, List, [], ◌∷◌, length, refl, sym, ap, arith, append_assoc, append-nil, length-append}
 use Rattle.std.specs.Prelude.{Result, Ok, Err, OnOk, OnErr}
 use Rattle.std.specs.Result.{is_err}
 use Rattle.std.specs.List.{flat_map}
 use Rattle.std.proofs.lemmas.Bool.{false≢true}
-use Rattle.std.proofs.lemmas.List.{take-append-le}
+use Rattle.std.proofs.lemmas.List.Concat.{flat_map-append}
 use Rattle.byte_io.specs.Moved.{GainsBytes}
 use Rattle.midi_wire.specs.Readings.{reading, rest}
-use Rattle.midi_wire.proofs.Settled.{reads-in-two, rests-in-two}
-use Rattle.tool_text.specs.Thru.{StopsShort}
+use Rattle.midi_wire.proofs.Settled.{reads-in-two}
+use Rattle.tool_text.specs.Limits.{most_bytes}
+use Rattle.tool_text.specs.Stream.{lines_of, whole_text, HasRoom, StopsShort}
 
--- a line for each message of a stream
-abbrev pub lines_of : (List ℕ → List ℕ) → List ℕ → List ℕ
-lines_of line bytes = flat_map line (reading bytes)
-
--- These bytes were read, and the lines for them were written: `tells` says whether the source tells its bytes, `told` whether the sink does.
-pub record Passed (line : List ℕ → List ℕ) (tells : Bool) (first left : List ℕ) (told : Bool) (old new : List ℕ) (stream : List ℕ) (count : ℕ) : Type 0 where
+-- These bytes were taken, and the lines for them were written: `tells` says whether the source tells its bytes, `told` whether the sink does.
+pub record Passed (taken : List ℕ → Type 0) (lines : List ℕ → List ℕ) (tells : Bool) (first left : List ℕ) (told : Bool) (old new : List ℕ) (room : ℕ) : Type 0 where
   pub read : List ℕ
-  pub matters : stream ≡ rest read
+  pub has : taken read
   pub split : tells ≡ true → first ≡ read ++ left
-  pub counted : length read ≡ count
-  pub written : tells ≡ true → told ≡ true → new ≡ old ++ lines_of line read
+  pub counted : length read + room ≡ most_bytes
+  pub written : told ≡ true → new ≡ old ++ lines read
 
--- a text that begins with the lines
-pub record BeginsWithLines (line text : List ℕ → List ℕ) : Type 0 where
-  pub more : List ℕ → List ℕ
-  pub same : (bytes : List ℕ) → text bytes ≡ lines_of line bytes ++ more bytes
+-- ---- one more piece
 
-pub flat_map-append : {X Y : Type 0} (f : X → List Y) (xs ys : List X) → flat_map f (xs ++ ys) ≡ flat_map f xs ++ flat_map f ys
-flat_map-append f [] ys = refl
-flat_map-append f (x ∷ xs) ys = ap (λ zs. f x ++ zs) (flat_map-append f xs ys) ∙ sym (append_assoc (f x) (flat_map f xs) (flat_map f ys))
+pub nothing_passed : (taken : List ℕ → Type 0) (lines : List ℕ → List ℕ) (tells told : Bool) (first old : List ℕ) → taken [] → lines [] ≡ [] → Passed taken lines tells first first told old old most_bytes
+nothing_passed taken lines tells told first old h e = record {
+  read = [];
+  has = h;
+  split = λ t. refl;
+  counted = refl;
+  written = λ t. sym (ap (λ xs. old ++ xs) e ∙ append-nil old);
+}
 
--- the lines for a piece go on from what still matters
-pub lines-more : (line : List ℕ → List ℕ) (read piece : List ℕ) → lines_of line (read ++ piece) ≡ lines_of line read ++ lines_of line (rest read ++ piece)
-lines-more line read piece = ap (flat_map line) (reads-in-two read piece) ∙ flat_map-append line (reading read) (reading (rest read ++ piece))
+pub has_room : (taken : List ℕ → Type 0) (lines : List ℕ → List ℕ) (tells : Bool) (first left : List ℕ) (told : Bool) (old new : List ℕ) (room n : ℕ) (piece : List ℕ) → Passed taken lines tells first left told old new room → length piece ≡ n → n ≤ room → HasRoom taken piece
+has_room taken lines tells first left told old new room n piece p c l =
+    let k : length p.read + room ≡ most_bytes = p.counted in
+    let fits : length p.read + length piece ≤ most_bytes = omega arith in
+    (p.read, p.has, fits)
 
-unfoldable pub nothing_passed : (line : List ℕ → List ℕ) (tells told : Bool) (first old stream : List ℕ) → stream ≡ [] → Passed line tells first first told old old stream 0
-unfolding reading rest
-nothing_passed line tells told first old stream e = record { read = []; matters = e; split = λ t. refl; counted = refl; written = λ t u. sym (append-nil old) }
-
-unfoldable pub one_more_passed : (line : List ℕ → List ℕ) (tells : Bool) (first left left' : List ℕ) (told : Bool) (old new new' stream stream' : List ℕ) (count n : ℕ) (piece added : List ℕ) → Passed line tells first left told old new stream count →
-    stream' ≡ rest (stream ++ piece) → (tells ≡ true → left ≡ piece ++ left') → length piece ≡ n → (told ≡ true → new' ≡ new ++ added) → added ≡ lines_of line (stream ++ piece) →
-    Passed line tells first left' told old new' stream' (count + n)
-one_more_passed line tells first left left' told old new new' stream stream' count n piece added p s l c w t = record {
+pub one_more_passed : (taken taken' : List ℕ → Type 0) (lines : List ℕ → List ℕ) (tells : Bool) (first left left' : List ℕ) (told : Bool) (old new new' : List ℕ) (room n : ℕ) (piece added : List ℕ) → Passed taken lines tells first left told old new room →
+    ((read : List ℕ) → taken read → taken' (read ++ piece)) → ((read : List ℕ) → taken read → lines (read ++ piece) ≡ lines read ++ added) → (tells ≡ true → left ≡ piece ++ left') → length piece ≡ n → n ≤ room → (told ≡ true → new' ≡ new ++ added) →
+    Passed taken' lines tells first left' told old new' (room - n)
+one_more_passed taken taken' lines tells first left left' told old new new' room n piece added p h t l c r w = record {
   read = p.read ++ piece;
-  matters = s ∙ ap (λ r. rest (r ++ piece)) p.matters ∙ sym (rests-in-two p.read piece);
+  has = h p.read p.has;
   split = λ x. p.split x ∙ ap (λ xs. p.read ++ xs) (l x) ∙ sym (append_assoc p.read piece left');
-  counted = let a : length (p.read ++ piece) ≡ length p.read + length piece = length-append p.read piece in let b : length p.read ≡ count = p.counted in omega arith;
-  written = λ x y. w y ∙ ap (λ xs. xs ++ added) (p.written x y) ∙ append_assoc old (lines_of line p.read) added
-      ∙ ap (λ xs. old ++ (lines_of line p.read ++ xs)) (t ∙ ap (λ r. lines_of line (r ++ piece)) p.matters) ∙ ap (λ xs. old ++ xs) (sym (lines-more line p.read piece));
+  counted = let a : length (p.read ++ piece) ≡ length p.read + length piece = length-append p.read piece in let b : length p.read + room ≡ most_bytes = p.counted in omega arith;
+  written = λ y. w y ∙ ap (λ xs. xs ++ added) (p.written y) ∙ append_assoc old (lines p.read) added ∙ ap (λ xs. old ++ xs) (sym (t p.read p.has));
 }
 
 -- ---- where it ends
 
-pub all_passed : (line : List ℕ → List ℕ) (tells : Bool) (first left : List ℕ) (told : Bool) (old new stream : List ℕ) (count : ℕ) → Passed line tells first left told old new stream count → tells ≡ true → told ≡ true → left ≡ [] → new ≡ old ++ lines_of line first
-all_passed line tells first left told old new stream count p x y e = p.written x y ∙ ap (λ xs. old ++ lines_of line xs) (sym (p.split x ∙ ap (λ xs. p.read ++ xs) e ∙ append-nil p.read))
+pub all_passed : (taken : List ℕ → Type 0) (lines ending : List ℕ → List ℕ) (tells : Bool) (first left : List ℕ) (told : Bool) (old new new' : List ℕ) (room : ℕ) (added : List ℕ) → Passed taken lines tells first left told old new room →
+    ((read : List ℕ) → taken read → added ≡ ending read) → tells ≡ true → told ≡ true → left ≡ [] → new' ≡ new ++ added → new' ≡ old ++ whole_text lines ending first
+all_passed taken lines ending tells first left told old new new' room added p h x y e w =
+    w
+    ∙ ap (λ xs. xs ++ added) (p.written y)
+    ∙ append_assoc old (lines p.read) added
+    ∙ ap (λ xs. old ++ (lines p.read ++ xs)) (h p.read p.has)
+    ∙ ap (λ xs. old ++ whole_text lines ending xs) (sym (p.split x ∙ ap (λ xs. p.read ++ xs) e ∙ append-nil p.read))
 
--- more was read than may be
-pub too_long : (line : List ℕ → List ℕ) (tells : Bool) (first left : List ℕ) (told : Bool) (old new stream : List ℕ) (count most : ℕ) → Passed line tells first left told old new stream count → most < count → tells ≡ true → most < length first
-too_long line tells first left told old new stream count most p l t =
-    let all : length first ≡ length p.read + length left = ap length (p.split t) ∙ length-append p.read left in
-    let read : length p.read ≡ count = p.counted in
+pub within_bound : (taken : List ℕ → Type 0) (lines : List ℕ → List ℕ) (tells : Bool) (first left : List ℕ) (told : Bool) (old new : List ℕ) (room : ℕ) → Passed taken lines tells first left told old new room → tells ≡ true → left ≡ [] → length first ≤ most_bytes
+within_bound taken lines tells first left told old new room p t e =
+    let all : length first ≡ length p.read = ap length (p.split t ∙ ap (λ xs. p.read ++ xs) e ∙ append-nil p.read) in
+    let k : length p.read + room ≡ most_bytes = p.counted in
     omega arith
 
-pub stops_at_once : (text : List ℕ → List ℕ) (first old : List ℕ) → StopsShort text first old old
-stops_at_once text first old = record { read = []; unread = first; split = refl; written = []; missing = text []; now = sym (append-nil old); front = refl }
+-- more was read than may be
+pub too_long : (taken : List ℕ → Type 0) (lines : List ℕ → List ℕ) (tells : Bool) (first left left' : List ℕ) (told : Bool) (old new : List ℕ) (room n : ℕ) (piece : List ℕ) → Passed taken lines tells first left told old new room → (tells ≡ true → left ≡ piece ++ left') → length piece ≡ n → room < n → tells ≡ true → most_bytes < length first
+too_long taken lines tells first left left' told old new room n piece p l c r t =
+    let all : length first ≡ length p.read + length left = ap length (p.split t) ∙ length-append p.read left in
+    let more : length left ≡ length piece + length left' = ap length (l t) ∙ length-append piece left' in
+    let k : length p.read + room ≡ most_bytes = p.counted in
+    omega arith
 
-pub stops : (line text : List ℕ → List ℕ) (tells : Bool) (first left : List ℕ) (told : Bool) (old new stream : List ℕ) (count : ℕ) → BeginsWithLines line text → Passed line tells first left told old new stream count → tells ≡ true → told ≡ true → StopsShort text first old new
-stops line text tells first left told old new stream count b p x y = record { read = p.read; unread = left; split = p.split x; written = lines_of line p.read; missing = b.more p.read; now = p.written x y; front = b.same p.read }
+-- ---- where it stops
 
-pub stops_within : (line text : List ℕ → List ℕ) (tells : Bool) (first left left' : List ℕ) (told : Bool) (old new new' stream : List ℕ) (count : ℕ) (piece added : List ℕ) → BeginsWithLines line text → Passed line tells first left told old new stream count →
-    (tells ≡ true → left ≡ piece ++ left') → GainsBytes new new' added → added ≡ lines_of line (stream ++ piece) → tells ≡ true → told ≡ true → StopsShort text first old new'
-stops_within line text tells first left left' told old new new' stream count piece added b p l g t x y = record {
+pub stops : (taken : List ℕ → Type 0) (lines ending : List ℕ → List ℕ) (tells : Bool) (first left : List ℕ) (told : Bool) (old new : List ℕ) (room : ℕ) → Passed taken lines tells first left told old new room → tells ≡ true → told ≡ true → StopsShort (whole_text lines ending) first old new
+stops taken lines ending tells first left told old new room p x y = record { read = p.read; unread = left; split = p.split x; written = lines p.read; missing = ending p.read; now = p.written y; front = refl }
+
+pub stops_within : (taken : List ℕ → Type 0) (lines ending : List ℕ → List ℕ) (tells : Bool) (first left left' : List ℕ) (told : Bool) (old new new' : List ℕ) (room : ℕ) (piece added : List ℕ) → Passed taken lines tells first left told old new room →
+    ((read : List ℕ) → taken read → lines (read ++ piece) ≡ lines read ++ added) → (tells ≡ true → left ≡ piece ++ left') → GainsBytes new new' added → tells ≡ true → told ≡ true → StopsShort (whole_text lines ending) first old new'
+stops_within taken lines ending tells first left left' told old new new' room piece added p t l g x y = record {
   read = p.read ++ piece;
   unread = left';
   split = p.split x ∙ ap (λ xs. p.read ++ xs) (l x) ∙ sym (append_assoc p.read piece left');
-  written = lines_of line p.read ++ g.gained;
-  missing = g.missing ++ b.more (p.read ++ piece);
-  now = g.now ∙ ap (λ xs. xs ++ g.gained) (p.written x y) ∙ append_assoc old (lines_of line p.read) g.gained;
-  front = b.same (p.read ++ piece)
-      ∙ ap (λ xs. xs ++ b.more (p.read ++ piece)) (lines-more line p.read piece ∙ ap (λ xs. lines_of line p.read ++ xs) (sym (t ∙ ap (λ r. lines_of line (r ++ piece)) p.matters) ∙ g.split) ∙ sym (append_assoc (lines_of line p.read) g.gained g.missing))
-      ∙ append_assoc (lines_of line p.read ++ g.gained) g.missing (b.more (p.read ++ piece));
+  written = lines p.read ++ g.gained;
+  missing = g.missing ++ ending (p.read ++ piece);
+  now = g.now ∙ ap (λ xs. xs ++ g.gained) (p.written y) ∙ append_assoc old (lines p.read) g.gained;
+  front = ap (λ xs. xs ++ ending (p.read ++ piece)) (t p.read p.has ∙ ap (λ xs. lines p.read ++ xs) g.split ∙ sym (append_assoc (lines p.read) g.gained g.missing))
+      ∙ append_assoc (lines p.read ++ g.gained) g.missing (ending (p.read ++ piece));
 }
+
+pub stops_at_end : (taken : List ℕ → Type 0) (lines ending : List ℕ → List ℕ) (tells : Bool) (first left : List ℕ) (told : Bool) (old new new' : List ℕ) (room : ℕ) (added : List ℕ) → Passed taken lines tells first left told old new room →
+    ((read : List ℕ) → taken read → added ≡ ending read) → GainsBytes new new' added → tells ≡ true → told ≡ true → StopsShort (whole_text lines ending) first old new'
+stops_at_end taken lines ending tells first left told old new new' room added p h g x y = record {
+  read = p.read;
+  unread = left;
+  split = p.split x;
+  written = lines p.read ++ g.gained;
+  missing = g.missing;
+  now = g.now ∙ ap (λ xs. xs ++ g.gained) (p.written y) ∙ append_assoc old (lines p.read) g.gained;
+  front = ap (λ xs. lines p.read ++ xs) (sym (h p.read p.has) ∙ g.split) ∙ sym (append_assoc (lines p.read) g.gained g.missing);
+}
+
+-- nothing was taken and nothing written
+pub stops_at_once : (text : List ℕ → List ℕ) (first old : List ℕ) → StopsShort text first old old
+stops_at_once text first old = record { read = []; unread = first; split = refl; written = []; missing = text []; now = sym (append-nil old); front = refl }
+
+-- a text by another name
+pub stops_same : (text text' : List ℕ → List ℕ) (bytes old new : List ℕ) → ((read : List ℕ) → text' read ≡ text read) → StopsShort text bytes old new → StopsShort text' bytes old new
+stops_same text text' bytes old new same s = record { read = s.read; unread = s.unread; split = s.split; written = s.written; missing = s.missing; now = s.now; front = same s.read ∙ s.front }
+
+-- ---- the lines of a piece
+
+-- the lines for a piece go on from what still matters
+pub lines_more : (line : List ℕ → List ℕ) (read piece stream text added : List ℕ) → stream ≡ rest read → text ≡ [] → added ≡ text ++ lines_of line (stream ++ piece) → lines_of line (read ++ piece) ≡ lines_of line read ++ added
+lines_more line read piece stream text added s e a =
+    ap (flat_map line) (reads-in-two read piece)
+    ∙ flat_map-append line (reading read) (reading (rest read ++ piece))
+    ∙ ap (λ xs. lines_of line read ++ xs) (sym (a ∙ ap (λ xs. xs ++ lines_of line (stream ++ piece)) e ∙ ap (λ r. lines_of line (r ++ piece)) s))
+
+-- ---- what a device answers
 
 pub nothing_left : (l : List ℕ) (w n : ℕ) → (0 < length l → 0 < w → 0 < n) → 0 < w → n ≡ 0 → l ≡ []
 nothing_left [] w n f hw e = refl
@@ -99,12 +137,6 @@ pub of_ok : {X E P : Type 0} (r : Result X E) → is_err r ≡ false → OnOk r 
 of_ok (Ok x) e p = p
 of_ok (Err x) e p = let no : false ≡ true = sym e in absurd (false≢true no)
 
--- what was read lies within the buffer that was lent
-pub in_buffer : (new old : List ℕ) (n : ℕ) → length new ≡ length old → n ≤ length old → n ≤ length new
-in_buffer new old n e l = omega arith
-
-pub within_buffer : (new old more : List ℕ) (n : ℕ) → length new ≡ length old → n ≤ length old → take n (new ++ more) ≡ take n new
-within_buffer new old more n e l = let h : n ≤ length new = omega arith in take-append-le n new more h
-
-pub after_clear : (cleared text : List ℕ) → cleared ≡ [] → cleared ++ text ≡ text
-after_clear cleared text e = ap (λ xs. xs ++ text) e
+pub of_three : {X E P Q R S : Type 0} (r : Result X E) → (P → Q → R → S) → OnOk r P → OnOk r Q → OnOk r R → OnOk r S
+of_three (Ok x) f p q s = f p q s
+of_three (Err x) f p q s = tt

@@ -1,5 +1,9 @@
+pub mod Limits
 pub mod Hex
+pub mod Stream
 pub mod Thru
 pub mod Wire
 pub mod Dump
 pub mod Faults
+pub mod Tools
+pub mod Program

@@ -1,9 +1,10 @@
 -- A stream as it is read and written back.
-use Rattle.std.specs.Prelude.{ℕ, List, [], ◌∷◌, ◌++◌, ◌/◌, ◌%◌, codes}
-use Rattle.std.specs.List.{flat_map}
-use Rattle.midi_wire.specs.Readings.{reading}
-use Rattle.midi_wire.specs.Writings.{written}
+use Rattle.std.specs.Prelude.{◌≡◌, ℕ, false, List, [], ◌∷◌, ◌++◌, ◌/◌, ◌%◌, codes, Option}
+use Rattle.midi_wire.specs.Parsing.{Parsing}
+use Rattle.midi_wire.specs.Readings.{reading, rest}
+use Rattle.midi_wire.specs.Writings.{written, status_in_force}
 use Rattle.tool_text.specs.Hex.{digit, spaced}
+use Rattle.tool_text.specs.Stream.{lines_of, whole_text}
 
 -- bytes with one space between
 abbrev pub in_hex : List ℕ → List ℕ
@@ -18,6 +19,16 @@ wire_line message = in_hex message ++ 10 ∷ []
 abbrev pub written_line : List ℕ → List ℕ
 written_line bytes = codes "written" ++ spaced bytes ++ 10 ∷ []
 
--- a line for each message of the stream, and then what they are written as in one stream
+-- what the messages of a stream are written as in one stream, on a line
+abbrev pub wire_ending : List ℕ → List ℕ
+wire_ending bytes = written_line (written (reading bytes))
+
+-- a line for each message of the stream, and then the last line
 abbrev pub wire_text : List ℕ → List ℕ
-wire_text bytes = flat_map wire_line (reading bytes) ++ written_line (written (reading bytes))
+wire_text bytes = whole_text (lines_of wire_line) wire_ending bytes
+
+-- the parser was fed these bytes, and their messages were written back
+pub record IsCopied (parsing : Parsing) (status : Option ℕ) (back read : List ℕ) : Type 0 where
+  pub parsed : parsing ≡ record { rest = rest read; failed = false }
+  pub in_force : status ≡ status_in_force (reading read)
+  pub written_back : back ≡ written (reading read)

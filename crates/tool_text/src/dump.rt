@@ -1,10 +1,11 @@
 //! What a Standard MIDI File says.
 
-ghost use Rattle.std.specs.Prelude.{◌≡◌, ◌≢◌, ◌++◌, ◌⊎◌, [], true, false, Err, IfErr, OnOk, OnErr, IsErrOf};
+ghost use Rattle.std.specs.Prelude.{◌≡◌, ◌≢◌, ◌≤◌, ◌++◌, ◌⊎◌, [], true, false, length, Err, IfErr, OnOk, OnErr, IsErrOf};
 ghost use Rattle.std.specs.List.{flat_map};
 ghost use Rattle.smf_grammar.specs.declared.fault.SmfFault.{SmfFault};
 ghost use Rattle.smf_grammar.specs.declared.fault.SmfFault.TheVariants as smf;
 ghost use Rattle.smf_grammar.specs.Files.{Fault};
+ghost use Rattle.tool_text.specs.Limits.{most_bytes};
 ghost use Rattle.tool_text.specs.Dump.{head_line, tempo_line, event_line, skipped_line, dump_of, IsDumped, StopsWithin, TellsFault, IsRefusedBy, IsOutput, Goes, Stops};
 
 #[cfg(test)]
@@ -38,6 +39,8 @@ pub fn dump_text<R: Source, W: Sink>(
     ensures text { R.tells input.old ≡ true → W.tells out.old ≡ true
         → OnOk result (IsDumped (R.left input.old) (W.taken out.old) (W.taken out.new)) }
     ensures all { R.tells input.old ≡ true → OnOk result (R.left input.new ≡ []) }
+    ensures bounded { R.tells input.old ≡ true
+        → OnOk result (length (R.left input.old) ≤ most_bytes) }
     ensures short { R.tells input.old ≡ true → W.tells out.old ≡ true
         → OnErr result (StopsWithin (R.left input.old) (W.taken out.old) (W.taken out.new)) }
 
@@ -51,6 +54,7 @@ pub fn dump_text<R: Source, W: Sink>(
     ensures unread { IsErrOf result ToolFault.OutOfMemory → R.failed input.new ≡ false }
     ensures write { IsErrOf result ToolFault.Write
         → (W.failed out.new ≡ true) ⊎ (W.takes_some out.old ≡ false) }
+    ensures unwritten { IsErrOf result ToolFault.OutOfMemory → W.failed out.new ≡ false }
 {
     let bytes = match read_to(alloc, input, MOST + 1) {
         Ok(bytes) => bytes,
@@ -78,6 +82,7 @@ fn print_file<W: Sink>(alloc: Global, file: &SmfFile<'_>, out: &mut W) -> Result
         (W.taken out.old ++ dump_of file.now)) }
     ensures write { IsErrOf result ToolFault.Write
         → (W.failed out.new ≡ true) ⊎ (W.takes_some out.old ≡ false) }
+    ensures unwritten { IsErrOf result ToolFault.OutOfMemory → W.failed out.new ≡ false }
     ensures only { IfErr result IsOutput }
 {
     let mut cursor = file.cursor()?;
@@ -156,6 +161,7 @@ fn print_tempos<W: Sink>(
     ensures eager { W.takes_some out.new ≡ W.takes_some out.old }
     ensures write { IsErrOf result ToolFault.Write
         → (W.failed out.new ≡ true) ⊎ (W.takes_some out.old ≡ false) }
+    ensures unwritten { IsErrOf result ToolFault.OutOfMemory → W.failed out.new ≡ false }
     ensures only { IfErr result IsOutput }
 {
     for entry in entries {
@@ -184,6 +190,7 @@ fn print_events<W: Sink>(
     ensures eager { W.takes_some out.new ≡ W.takes_some out.old }
     ensures write { IsErrOf result ToolFault.Write
         → (W.failed out.new ≡ true) ⊎ (W.takes_some out.old ≡ false) }
+    ensures unwritten { IsErrOf result ToolFault.OutOfMemory → W.failed out.new ≡ false }
     ensures only { IfErr result IsOutput }
 {
     let mut bytes = Vec::new(alloc);
@@ -209,6 +216,7 @@ fn spill<W: Sink>(text: &mut Vec<u8>, out: &mut W) -> Result<(), ToolFault>
     ensures eager { W.takes_some out.new ≡ W.takes_some out.old }
     ensures write { IsErrOf result ToolFault.Write
         → (W.failed out.new ≡ true) ⊎ (W.takes_some out.old ≡ false) }
+    ensures unwritten { IsErrOf result ToolFault.OutOfMemory → W.failed out.new ≡ false }
     ensures only { IfErr result IsOutput }
 {
     if text.len() < PIECE {
@@ -231,6 +239,7 @@ fn flush<W: Sink>(text: &mut Vec<u8>, out: &mut W) -> Result<(), ToolFault>
     ensures eager { W.takes_some out.new ≡ W.takes_some out.old }
     ensures write { IsErrOf result ToolFault.Write
         → (W.failed out.new ≡ true) ⊎ (W.takes_some out.old ≡ false) }
+    ensures unwritten { IsErrOf result ToolFault.OutOfMemory → W.failed out.new ≡ false }
     ensures only { IfErr result IsOutput }
 {
     if write_all(out, text.as_slice()).is_err() {

@@ -1,17 +1,28 @@
 //! What the program's tools print, from a source of bytes to a sink.
 #![tactic(auto)]
 
+mod address;
+mod choice;
 mod decimal;
 mod dump;
+mod escaped;
 mod fault;
 mod hex;
+mod laws;
 mod limits;
+mod printing;
+mod program_fault;
+#[cfg(test)]
+mod program_tests;
 #[cfg(test)]
 mod tests;
 mod thru;
 mod wire;
 
+pub use choice::{STANDARD, Stream, Task, Tool};
 pub use dump::dump_text;
 pub use fault::ToolFault;
+pub use laws::thru_prints_messages;
+pub use program_fault::ProgramFault;
 pub use thru::thru_text;
 pub use wire::wire_text;

@@ -1,24 +1,29 @@
 //! A stream passed from one client of a sequencer to another.
 
-ghost use Rattle.std.specs.Prelude.{◌≡◌, ◌≤◌, ◌<◌, ◌+◌, ◌++◌, ◌⊎◌, ◌^◌, [], true, false, length, IfOk, IfErr, OnOk, OnErr, IsErrOf};
+ghost use Rattle.std.specs.Prelude.{◌≡◌, ◌≤◌, ◌<◌, ◌+◌, ◌++◌, ◌⊎◌, ◌^◌, ℕ, List, [], true, false, length, IfOk, IfErr, OnOk, OnErr, IsErrOf};
 ghost use Rattle.std.specs.List.{flat_map};
 ghost use Rattle.midi_wire.specs.Readings.{rest};
 ghost use Rattle.seq_ports.specs.State.{start};
 ghost use Rattle.seq_ports.specs.Step.{port_addr, step, state_after};
 ghost use Rattle.seq_ports.specs.Rows.{at};
-ghost use Rattle.tool_text.specs.declared.limits.TheConstants.{MOST};
-ghost use Rattle.tool_text.specs.Thru.{thru_line, thru_text, stream_of, joining, IsJoined, StopsShort};
+ghost use Rattle.tool_text.specs.Faults.{IsOfStream};
+ghost use Rattle.tool_text.specs.Limits.{most_bytes};
+ghost use Rattle.tool_text.specs.Stream.{lines_of, HasRoom, StopsShort};
+ghost use Rattle.tool_text.specs.Thru.{delivery_line, thru_line, thru_text, stream_of, joining, IsJoined, IsFed};
 
+use crate::address::push_port_addr;
+use crate::decimal::push_decimal;
 use crate::fault::ToolFault;
 use crate::hex::push_spaced;
-use crate::limits::{CHUNK, MOST};
-use byte_io::{Sink, Source, write_all};
+use crate::printing::{Printer, print_stream};
+use byte_io::{Sink, Source};
 use memory::{Items, OutOfMemory};
 use node_table::{Addr, Caps, ClientId, Node, PortNo};
 use seq_engine::{Command, Delivery, Engine, Input, StepOut};
 use std::alloc::Global;
 
-/// Prints, for each message of the MIDI stream that `input` gives, how it came to the second of two clients.
+/// Passes the MIDI stream that `input` gives from the first of two clients of a sequencer to the second, and prints each
+/// message that comes there: its moment, the port that it came to, and its bytes.
 ///
 /// At a fault the sink has taken a front of the text.
 pub fn thru_text<R: Source, W: Sink>(
@@ -29,36 +34,68 @@ pub fn thru_text<R: Source, W: Sink>(
     requires input_sound { R.failed input.old ≡ false }
     requires out_sound { W.failed out.old ≡ false }
 
-    ensures text { R.tells input.old ≡ true → W.tells out.old ≡ true → OnOk result (W.taken out.new ≡ W.taken out.old ++ thru_text (R.left input.old)) }
+    ensures text { R.tells input.old ≡ true → W.tells out.old ≡ true
+        → OnOk result (W.taken out.new ≡ W.taken out.old ++ thru_text (R.left input.old)) }
     ensures all { R.tells input.old ≡ true → OnOk result (R.left input.new ≡ []) }
-    ensures short { R.tells input.old ≡ true → W.tells out.old ≡ true → OnErr result (StopsShort thru_text (R.left input.old) (W.taken out.old) (W.taken out.new)) }
+    ensures bounded { R.tells input.old ≡ true
+        → OnOk result (length (R.left input.old) ≤ most_bytes) }
+    ensures short { R.tells input.old ≡ true → W.tells out.old ≡ true
+        → OnErr result (StopsShort thru_text
+        (R.left input.old) (W.taken out.old) (W.taken out.new)) }
 
     // `Read` comes where a read failed or there were too many bytes, `Write` where the sink failed or is one that may
-    // take no byte.
-    ensures read { IsErrOf result ToolFault.Read → (R.failed input.new ≡ true) ⊎ (R.tells input.old ≡ true → MOST < length (R.left input.old)) }
-    ensures write { IsErrOf result ToolFault.Write → (W.failed out.new ≡ true) ⊎ (W.takes_some out.old ≡ false) }
+    // take no byte, and want of memory is told only where neither device failed.
+    ensures read { IsErrOf result ToolFault.Read → (R.failed input.new ≡ true)
+        ⊎ (R.tells input.old ≡ true → most_bytes < length (R.left input.old)) }
+    ensures unread { IsErrOf result ToolFault.OutOfMemory → R.failed input.new ≡ false }
+    ensures write { IsErrOf result ToolFault.Write
+        → (W.failed out.new ≡ true) ⊎ (W.takes_some out.old ≡ false) }
+    ensures unwritten { IsErrOf result ToolFault.OutOfMemory → W.failed out.new ≡ false }
+    ensures only { IfErr result IsOfStream }
 {
-    let mut engine = joined(alloc)?;
-    let mut text = Vec::new(alloc);
-    let mut chunk = [0u8; CHUNK];
-    let mut count = 0;
-    while count <= MOST {
-        let window = (MOST - count).min(CHUNK - 1) + 1;
-        let n = match input.read(&mut chunk[..window]) {
-            Ok(n) => n,
-            Err(_) => return Err(ToolFault::Read),
-        };
-        if n == 0 {
-            return Ok(());
-        }
-        count += n;
-        text.clear();
-        pass_on(alloc, &mut engine, &chunk[..n], &mut text)?;
-        if write_all(out, text.as_slice()).is_err() {
-            return Err(ToolFault::Write);
-        }
+    let mut passage = Passage::new(alloc)?;
+    print_stream(alloc, &mut passage, input, out)
+}
+
+/// A sequencer that a stream is passed through.
+#[derive(Drop)]
+struct Passage {
+    alloc: Global,
+    engine: Engine,
+    bytes: Vec<u8>,
+}
+
+impl Passage {
+    /// No byte has passed.
+    fn new(alloc: Global) -> Result<Passage, ToolFault>
+        ensures fed { IfOk result (λ p. IsFed p.engine []) }
+        ensures only { IfErr result (λ e. e ≡ ToolFault.OutOfMemory) }
+    {
+        Ok(Passage {
+            alloc,
+            engine: joined(alloc)?,
+            bytes: Vec::new(alloc),
+        })
     }
-    Err(ToolFault::Read)
+}
+
+impl Printer for Passage {
+    ghost use Rattle.tool_text.specs.Stream.{lines_of, no_ending};
+    ghost use Rattle.tool_text.specs.Thru.{thru_line, IsFed};
+
+    ghost HasTaken = { λ p read. IsFed p.engine read };
+
+    ghost lines = { lines_of thru_line };
+
+    ghost ending = { no_ending };
+
+    fn take(&mut self, piece: &[u8], text: &mut Vec<u8>) -> Result<(), ToolFault> {
+        pass_on(self.alloc, &mut self.engine, piece, &mut self.bytes, text)
+    }
+
+    fn end(&self, _text: &mut Vec<u8>) -> Result<(), ToolFault> {
+        Ok(())
+    }
 }
 
 /// A sequencer with two clients, the second of which has subscribed its port to the first's.
@@ -161,11 +198,13 @@ fn piece_of(alloc: Global, piece: &[u8]) -> Result<Command, OutOfMemory>
     })
 }
 
-/// Feeds the first client's port, and adds a line for each message that comes to the second's.
+/// Feeds the first client's port, and adds a line for each message that comes to the second's. What was in `bytes` is
+/// lost.
 fn pass_on(
     alloc: Global,
     engine: &mut Engine,
     piece: &[u8],
+    bytes: &mut Vec<u8>,
     text: &mut Vec<u8>,
 ) -> Result<(), ToolFault>
     requires joined { IsJoined engine.old.state }
@@ -173,7 +212,7 @@ fn pass_on(
     requires counted { engine.old.steps < 2 ^ 63 }
     requires sound { engine.old.failed ≡ false }
 
-    ensures text { OnOk result (text.new.items ≡ text.old.items ++ thru_text (stream_of engine.old.state ++ piece.now)) }
+    ensures text { OnOk result (text.new.items ≡ text.old.items ++ lines_of thru_line (stream_of engine.old.state ++ piece.now)) }
     ensures stream { OnOk result (stream_of engine.new.state ≡ rest (stream_of engine.old.state ++ piece.now)) }
     ensures joined { OnOk result (IsJoined engine.new.state) }
     ensures early { OnOk result ((engine.new.moment ≡ 0) × (engine.new.steps ≡ engine.old.steps + 1) × (engine.new.failed ≡ false)) }
@@ -181,21 +220,38 @@ fn pass_on(
 {
     let source = ClientId::new(128).unwrap();
     let delivered = take(engine, source, piece_of(alloc, piece)?)?;
-    add_lines(alloc, delivered.as_slice(), text)?;
+    add_lines(delivered.as_slice(), bytes, text)?;
     Ok(())
 }
 
-/// Adds a line for each delivery.
-fn add_lines(alloc: Global, delivered: &[Delivery], text: &mut Vec<u8>) -> Result<(), OutOfMemory>
-    ensures { OnOk result (text.new.items ≡ text.old.items ++ flat_map (λ d. thru_line d.message) delivered.now) }
+/// Adds a line for each delivery. What was in `bytes` is lost.
+fn add_lines(
+    delivered: &[Delivery],
+    bytes: &mut Vec<u8>,
+    text: &mut Vec<u8>,
+) -> Result<(), OutOfMemory>
+    ensures { OnOk result (text.new.items ≡ text.old.items ++ flat_map delivery_line delivered.now) }
 {
-    let mut bytes = Vec::new(alloc);
     for delivery in delivered {
-        bytes.clear();
-        delivery.message.append_to(&mut bytes)?;
-        text.extend_from_slice(b"0 129:p0")?;
-        push_spaced(text, bytes.as_slice())?;
-        text.push(b'\n')?;
+        push_delivery(delivery, bytes, text)?;
     }
+    Ok(())
+}
+
+/// Adds the line of a delivery. What was in `bytes` is lost.
+fn push_delivery(
+    delivery: &Delivery,
+    bytes: &mut Vec<u8>,
+    text: &mut Vec<u8>,
+) -> Result<(), OutOfMemory>
+    ensures { OnOk result (text.new.items ≡ text.old.items ++ delivery_line delivery.now) }
+{
+    push_decimal(text, delivery.moment)?;
+    text.push(b' ')?;
+    push_port_addr(text, &delivery.target)?;
+    bytes.clear();
+    delivery.message.append_to(bytes)?;
+    push_spaced(text, bytes.as_slice())?;
+    text.push(b'\n')?;
     Ok(())
 }

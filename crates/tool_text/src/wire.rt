@@ -1,17 +1,18 @@
 //! A stream read and written back.
 
-ghost use Rattle.std.specs.Prelude.{◌≡◌, ◌<◌, ◌++◌, ◌⊎◌, [], None, true, false, length, IfErr, OnOk, OnErr, IsErrOf};
+ghost use Rattle.std.specs.Prelude.{◌≡◌, ◌≤◌, ◌<◌, ◌++◌, ◌⊎◌, ℕ, List, [], None, true, false, length, IfErr, OnOk, OnErr, IsErrOf};
 ghost use Rattle.std.specs.List.{flat_map};
 ghost use Rattle.midi_wire.specs.Readings.{reading, rest};
 ghost use Rattle.midi_wire.specs.Writings.{written_after, status_after_all};
-ghost use Rattle.tool_text.specs.declared.limits.TheConstants.{MOST};
-ghost use Rattle.tool_text.specs.Thru.{StopsShort};
-ghost use Rattle.tool_text.specs.Wire.{wire_line, written_line, wire_text};
+ghost use Rattle.tool_text.specs.Faults.{IsOfStream};
+ghost use Rattle.tool_text.specs.Limits.{most_bytes};
+ghost use Rattle.tool_text.specs.Stream.{lines_of, HasRoom, StopsShort};
+ghost use Rattle.tool_text.specs.Wire.{wire_line, written_line, wire_text, IsCopied};
 
 use crate::fault::ToolFault;
 use crate::hex::{push_in_hex, push_spaced};
-use crate::limits::{CHUNK, MOST};
-use byte_io::{Sink, Source, write_all};
+use crate::printing::{Printer, print_stream};
+use byte_io::{Sink, Source};
 use memory::OutOfMemory;
 use midi_wire::{Message, StreamParser, StreamWriter};
 use std::alloc::Global;
@@ -28,40 +29,27 @@ pub fn wire_text<R: Source, W: Sink>(
     requires input_sound { R.failed input.old ≡ false }
     requires out_sound { W.failed out.old ≡ false }
 
-    ensures text { R.tells input.old ≡ true → W.tells out.old ≡ true → OnOk result (W.taken out.new ≡ W.taken out.old ++ wire_text (R.left input.old)) }
+    ensures text { R.tells input.old ≡ true → W.tells out.old ≡ true
+        → OnOk result (W.taken out.new ≡ W.taken out.old ++ wire_text (R.left input.old)) }
     ensures all { R.tells input.old ≡ true → OnOk result (R.left input.new ≡ []) }
-    ensures short { R.tells input.old ≡ true → W.tells out.old ≡ true → OnErr result (StopsShort wire_text (R.left input.old) (W.taken out.old) (W.taken out.new)) }
+    ensures bounded { R.tells input.old ≡ true
+        → OnOk result (length (R.left input.old) ≤ most_bytes) }
+    ensures short { R.tells input.old ≡ true → W.tells out.old ≡ true
+        → OnErr result (StopsShort wire_text
+        (R.left input.old) (W.taken out.old) (W.taken out.new)) }
 
     // `Read` comes where a read failed or there were too many bytes, `Write` where the sink failed or is one that may
-    // take no byte.
-    ensures read { IsErrOf result ToolFault.Read → (R.failed input.new ≡ true) ⊎ (R.tells input.old ≡ true → MOST < length (R.left input.old)) }
-    ensures write { IsErrOf result ToolFault.Write → (W.failed out.new ≡ true) ⊎ (W.takes_some out.old ≡ false) }
+    // take no byte, and want of memory is told only where neither device failed.
+    ensures read { IsErrOf result ToolFault.Read → (R.failed input.new ≡ true)
+        ⊎ (R.tells input.old ≡ true → most_bytes < length (R.left input.old)) }
+    ensures unread { IsErrOf result ToolFault.OutOfMemory → R.failed input.new ≡ false }
+    ensures write { IsErrOf result ToolFault.Write
+        → (W.failed out.new ≡ true) ⊎ (W.takes_some out.old ≡ false) }
+    ensures unwritten { IsErrOf result ToolFault.OutOfMemory → W.failed out.new ≡ false }
+    ensures only { IfErr result IsOfStream }
 {
     let mut copier = Copier::new(alloc);
-    let mut text = Vec::new(alloc);
-    let mut chunk = [0u8; CHUNK];
-    let mut count = 0;
-    while count <= MOST {
-        let window = (MOST - count).min(CHUNK - 1) + 1;
-        let n = match input.read(&mut chunk[..window]) {
-            Ok(n) => n,
-            Err(_) => return Err(ToolFault::Read),
-        };
-        text.clear();
-        if n == 0 {
-            add_written_line(copier.written.as_slice(), &mut text)?;
-            if write_all(out, text.as_slice()).is_err() {
-                return Err(ToolFault::Write);
-            }
-            return Ok(());
-        }
-        count += n;
-        copier.take(&chunk[..n], &mut text)?;
-        if write_all(out, text.as_slice()).is_err() {
-            return Err(ToolFault::Write);
-        }
-    }
-    Err(ToolFault::Read)
+    print_stream(alloc, &mut copier, input, out)
 }
 
 /// Reads a stream in pieces and writes it back.
@@ -75,10 +63,9 @@ struct Copier {
 }
 
 impl Copier {
+    /// No byte was read.
     fn new(alloc: Global) -> Copier
-        ensures parser { result.parser ≡ record { rest = []; failed = false } }
-        ensures writer { result.writer ≡ None }
-        ensures written { result.written.items ≡ [] }
+        ensures { IsCopied result.parser result.writer result.written.items [] }
     {
         Copier {
             parser: StreamParser::new(alloc),
@@ -90,10 +77,10 @@ impl Copier {
     }
 
     /// Takes the next piece of the stream, and adds a line for each message that is whole now.
-    fn take(&mut self, piece: &[u8], text: &mut Vec<u8>) -> Result<(), ToolFault>
+    fn copy(&mut self, piece: &[u8], text: &mut Vec<u8>) -> Result<(), ToolFault>
         requires sound { self.old.parser.failed ≡ false }
 
-        ensures text { OnOk result (text.new.items ≡ text.old.items ++ flat_map wire_line (reading (self.old.parser.rest ++ piece.now))) }
+        ensures text { OnOk result (text.new.items ≡ text.old.items ++ lines_of wire_line (self.old.parser.rest ++ piece.now)) }
         ensures parser { OnOk result (self.new.parser ≡ record { rest = rest (self.old.parser.rest ++ piece.now); failed = false }) }
         ensures written { OnOk result (self.new.written.items ≡ self.old.written.items ++ written_after self.old.writer (reading (self.old.parser.rest ++ piece.now))) }
         ensures writer { OnOk result (self.new.writer ≡ status_after_all self.old.writer (reading (self.old.parser.rest ++ piece.now))) }
@@ -104,6 +91,26 @@ impl Copier {
         let messages = self.messages.as_slice();
         add_lines(messages, &mut self.bytes, text)?;
         write_on(messages, &mut self.writer, &mut self.written)?;
+        Ok(())
+    }
+}
+
+impl Printer for Copier {
+    ghost use Rattle.tool_text.specs.Stream.{lines_of};
+    ghost use Rattle.tool_text.specs.Wire.{wire_line, wire_ending, IsCopied};
+
+    ghost HasTaken = { λ c read. IsCopied c.parser c.writer c.written.items read };
+
+    ghost lines = { lines_of wire_line };
+
+    ghost ending = { wire_ending };
+
+    fn take(&mut self, piece: &[u8], text: &mut Vec<u8>) -> Result<(), ToolFault> {
+        self.copy(piece, text)
+    }
+
+    fn end(&self, text: &mut Vec<u8>) -> Result<(), ToolFault> {
+        add_written_line(self.written.as_slice(), text)?;
         Ok(())
     }
 }

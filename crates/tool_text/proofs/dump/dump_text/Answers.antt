@@ -21,3 +21,6 @@ returns-clause-short g c = λ t u. on-err c.print_file.result (λ k. inr (c.in-O
 
 pub returns-clause-refused : goal.returns-clause-refused
 returns-clause-refused g c = λ t x h. absurd (not-both _ c.in-Ok-read.file x (accepted _ _ _ (c.as_slice.ensures.value ∙ c.in-Ok.ensures.bytes t) c.in-Ok-read.ensures.file).0 h)
+
+pub returns-clause-bounded : goal.returns-clause-bounded
+returns-clause-bounded g c = λ t. always-ok c.print_file.result (accepted _ _ _ (c.as_slice.ensures.value ∙ c.in-Ok.ensures.bytes t) c.in-Ok-read.ensures.file).2

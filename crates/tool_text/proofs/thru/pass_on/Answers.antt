@@ -6,7 +6,7 @@ use Rattle.seq_ports.specs.Rows.{at}
 use Rattle.seq_ports.specs.State.{State}
 use Rattle.seq_ports.specs.Step.{step}
 use Rattle.seq_engine.specs.Seen.{Seen}
-use Rattle.tool_text.specs.Thru.{thru_line, stream_of, IsJoined}
+use Rattle.tool_text.specs.Thru.{delivery_line, stream_of, IsJoined}
 use Rattle.tool_text.proofs.Fed.{fed_delivers, fed_joined, fed_stream}
 use Rattle.tool_text.proofs.Joined.{unwrapped}
 use Rattle.tool_text.proofs.thru.pass_on.Goals as goal
@@ -15,7 +15,7 @@ pub returns-clause-text : goal.returns-clause-text
 returns-clause-text c =
     let s : State = c.args.engine.now.state in
     let source : c.unwrap-source.result ≡ 128 = unwrapped _ _ _ c.unwrap-source.ensures c.new.ensures.value in
-    let text : List Delivery → List ℕ = λ ds. c.args.text.now.items ++ flat_map (λ d. thru_line d.message) ds in
+    let text : List Delivery → List ℕ = λ ds. c.args.text.now.items ++ flat_map delivery_line ds in
     c.in_ok-add_lines.ensures
     ∙ ap text (c.as_slice.ensures ∙ c.in_ok-delivered.ensures.delivered)
     ∙ ap (λ a. text (step s (at 0 a c.in_ok-piece_of.field-0)).delivered) source

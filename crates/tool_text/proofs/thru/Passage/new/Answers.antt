@@ -1,0 +1,5 @@
+use Rattle.tool_text.proofs.Fed.{fed_nothing}
+use Rattle.tool_text.proofs.thru.Passage.new.Goals as goal
+
+pub returns-clause-fed : goal.returns-clause-fed
+returns-clause-fed c = fed_nothing _ c.in_ok-joined.ensures.joined

@@ -1,0 +1,14 @@
+use Rattle.std.proofs.Common.{ap}
+use Rattle.midi_wire.specs.Parsing.{Parsing}
+use Rattle.tool_text.specs.Wire.{wire_line}
+use Rattle.tool_text.proofs.Copied.{one_more_copied}
+use Rattle.tool_text.proofs.Dumped.{on-ok}
+use Rattle.tool_text.proofs.Passed.{lines_more, of_three}
+use Rattle.tool_text.proofs.wire.CopierPrinter.take.Goals as goal
+
+pub returns-clause-taken : goal.returns-clause-taken
+returns-clause-taken c = λ read f.
+    of_three c.copy.result (λ p s b. one_more_copied _ _ _ _ _ _ read c.args.piece.now f p s b) c.copy.ensures.parser c.copy.ensures.writer c.copy.ensures.written
+
+pub returns-clause-text : goal.returns-clause-text
+returns-clause-text c = λ read f. on-ok c.copy.result (λ k. lines_more wire_line read c.args.piece.now _ _ _ (ap (λ (x : Parsing). x.rest) f.parsed) c.requires.empty k) c.copy.ensures.text

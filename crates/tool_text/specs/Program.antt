@@ -1,0 +1,68 @@
+-- What the program is asked to do, and what it prints where it stops.
+use Rattle.std.specs.Prelude.{◌≡◌, ◌≢◌, ℕ, if◌then◌else◌, List, ◌++◌, codes, encode_utf8, encode_utf8_all}
+use Rattle.std.specs.List.{flat_map}
+use Rattle.std.specs.Char.{is_control}
+use Rattle.std.specs.Char.Escape.{escape_default}
+use Rattle.std.specs.Str.{chars}
+use Rattle.smf_grammar.specs.Faults as smf
+use Rattle.tool_text.specs.declared.choice.Tool.{Tool}
+use Rattle.tool_text.specs.declared.choice.Tool.TheVariants.{Thru, Wire, Dump}
+use Rattle.tool_text.specs.declared.choice.Stream.{Stream}
+use Rattle.tool_text.specs.declared.choice.Stream.TheVariants.{Standard, Path}
+use Rattle.tool_text.specs.declared.fault.ToolFault.{ToolFault}
+use Rattle.tool_text.specs.declared.fault.ToolFault.TheVariants as tool
+use Rattle.tool_text.specs.declared.program_fault.ProgramFault.{ProgramFault}
+use Rattle.tool_text.specs.declared.program_fault.ProgramFault.TheVariants.{NotUtf8, NoSubcommand, CannotRead, CannotWrite, OutOfMemory, Smf}
+
+-- ---- the choice
+
+-- the word that names a tool
+abbrev pub tool_name : Tool → List ℕ
+tool_name Thru = codes "thru"
+tool_name Wire = codes "wire"
+tool_name Dump = codes "dump"
+
+-- the word that names a stream
+abbrev pub stream_name : Stream → List ℕ
+stream_name Standard = codes "-"
+stream_name (Path path) = path.now
+
+-- `-` names standard input, and each other word a path
+abbrev pub IsNamedBy : Stream → List ℕ → Type 0
+IsNamedBy Standard word = word ≡ codes "-"
+IsNamedBy (Path path) word = (path.now ≡ word) × (word ≢ codes "-")
+
+-- ---- the line of a fault
+
+-- a control character as it is written with a backslash, and each other as it is
+abbrev pub shown : ℕ → List ℕ
+shown c = if is_control c then encode_utf8_all (escape_default c) else encode_utf8 c
+
+-- a text without control characters
+abbrev pub escaped : List ℕ → List ℕ
+escaped text = flat_map shown (chars text)
+
+-- what stands in the line of a fault
+abbrev pub fault_text : ProgramFault → List ℕ
+fault_text NotUtf8 = codes "an argument is not UTF-8"
+fault_text NoSubcommand = codes "name a subcommand; see midiseq --help"
+fault_text (CannotRead path) = codes "cannot read " ++ escaped path.now
+fault_text (CannotWrite path) = codes "cannot write " ++ escaped path.now
+fault_text OutOfMemory = codes "out of memory"
+fault_text (Smf fault) = smf.fault_text fault
+
+-- what is printed for the fault of a tool that was given a stream
+abbrev pub told_text : Stream → ToolFault → List ℕ
+told_text stream tool.Read = codes "cannot read " ++ escaped (stream_name stream)
+told_text stream tool.Write = codes "cannot write " ++ escaped (codes "-")
+told_text stream tool.OutOfMemory = codes "out of memory"
+told_text stream (tool.Smf fault) = smf.fault_text fault
+
+-- 2 for a fault in the words, 1 for any other
+abbrev pub status_of : ProgramFault → ℕ
+status_of NotUtf8 = 2
+status_of NoSubcommand = 2
+status_of (CannotRead path) = 1
+status_of (CannotWrite path) = 1
+status_of OutOfMemory = 1
+status_of (Smf fault) = 1

@@ -1,0 +1,133 @@
+//! What the program is asked to do.
+
+ghost use Rattle.std.specs.Prelude.{◌≡◌, ◌≢◌, ◌≤◌, ◌⊎◌, [], true, false, length, IfSome, IfNone, OnOk, IsErrOf};
+ghost use Rattle.tool_text.specs.declared.choice.Tool.{Tool};
+ghost use Rattle.tool_text.specs.Limits.{most_bytes};
+ghost use Rattle.tool_text.specs.Program.{tool_name, stream_name, IsNamedBy};
+ghost use Rattle.tool_text.specs.Tools.{IsPrinted};
+
+use crate::dump::dump_text;
+use crate::fault::ToolFault;
+use crate::thru::thru_text;
+use crate::wire::wire_text;
+use byte_io::{Sink, Source};
+use std::alloc::Global;
+
+/// The name of a standard stream.
+pub const STANDARD: &str = "-";
+
+/// What is done with a stream of bytes.
+#[derive(Clone, Copy, Debug, PartialEq, Eq)]
+pub enum Tool {
+    /// MIDI bytes are passed through a sequencer.
+    Thru,
+    /// MIDI bytes are read and written back.
+    Wire,
+    /// A Standard MIDI File is printed.
+    Dump,
+}
+
+/// Where the bytes come from.
+#[derive(Clone, Copy, Debug, PartialEq, Eq)]
+pub enum Stream<'a> {
+    /// Standard input.
+    Standard,
+    /// A file.
+    Path(&'a str),
+}
+
+/// A tool, and the stream that it is given.
+#[derive(Clone, Copy, Debug, PartialEq, Eq)]
+pub struct Task<'a> {
+    pub tool: Tool,
+    pub stream: Stream<'a>,
+}
+
+impl Tool {
+    /// The tool with this name.
+    pub fn named(command: &str) -> Option<Tool>
+        ensures named { IfSome result (λ t. tool_name t ≡ command.now) }
+        ensures unknown { IfNone result ((t : Tool) → tool_name t ≢ command.now) }
+    {
+        match command {
+            "thru" => Some(Tool::Thru),
+            "wire" => Some(Tool::Wire),
+            "dump" => Some(Tool::Dump),
+            _ => None,
+        }
+    }
+
+    /// Prints what the tool makes of the bytes that `input` gives, as `thru_text`, `wire_text` and `dump_text` do.
+    pub fn print<R: Source, W: Sink>(
+        self,
+        alloc: Global,
+        input: &mut R,
+        out: &mut W,
+    ) -> Result<(), ToolFault>
+        requires input_sound { R.failed input.old ≡ false }
+        requires out_sound { W.failed out.old ≡ false }
+        ensures text { R.tells input.old ≡ true → W.tells out.old ≡ true
+            → OnOk result (IsPrinted self (R.left input.old) (W.taken out.old) (W.taken out.new)) }
+        ensures all { R.tells input.old ≡ true → OnOk result (R.left input.new ≡ []) }
+        ensures bounded { R.tells input.old ≡ true
+            → OnOk result (length (R.left input.old) ≤ most_bytes) }
+        ensures unread { IsErrOf result ToolFault.OutOfMemory → R.failed input.new ≡ false }
+        ensures write { IsErrOf result ToolFault.Write
+            → (W.failed out.new ≡ true) ⊎ (W.takes_some out.old ≡ false) }
+        ensures unwritten { IsErrOf result ToolFault.OutOfMemory → W.failed out.new ≡ false }
+    {
+        match self {
+            Tool::Thru => thru_text(alloc, input, out),
+            Tool::Wire => wire_text(alloc, input, out),
+            Tool::Dump => dump_text(alloc, input, out),
+        }
+    }
+}
+
+impl<'a> Stream<'a> {
+    /// The stream that a word names.
+    pub fn named(word: &'a str) -> Stream<'a>
+        ensures { IsNamedBy result word.now }
+    {
+        if word == STANDARD {
+            return Stream::Standard;
+        }
+        Stream::Path(word)
+    }
+
+    /// The word that names it.
+    pub fn name(self) -> &'a str
+        ensures { result.now ≡ stream_name self.entry }
+    {
+        match self {
+            Stream::Standard => STANDARD,
+            Stream::Path(path) => path,
+        }
+    }
+}
+
+impl<'a> Task<'a> {
+    /// What is done without words.
+    pub fn without_words() -> Task<'a>
+        ensures tool { result.tool ≡ Tool.Thru }
+        ensures stream { result.stream ≡ Stream.Standard }
+    {
+        Task {
+            tool: Tool::Thru,
+            stream: Stream::Standard,
+        }
+    }
+
+    /// What a command says to do with a FILE, if there is such a command.
+    pub fn of_words(command: &str, file: &'a str) -> Option<Task<'a>>
+        ensures tool { IfSome result (λ c. tool_name c.tool ≡ command.now) }
+        ensures stream { IfSome result (λ c. IsNamedBy c.stream file.now) }
+        ensures unknown { IfNone result ((t : Tool) → tool_name t ≢ command.now) }
+    {
+        let tool = Tool::named(command)?;
+        Some(Task {
+            tool,
+            stream: Stream::named(file),
+        })
+    }
+}

@@ -1,0 +1,117 @@
+//! A stream that is read in pieces and printed as it comes.
+
+ghost use Rattle.std.specs.Prelude.{◌≡◌, ◌≤◌, ◌<◌, ◌++◌, ◌⊎◌, ℕ, List, [], true, false, length, IfErr, OnOk, OnErr, IsErrOf};
+ghost use Rattle.byte_io.specs.Moved.{GainsBytes};
+ghost use Rattle.tool_text.specs.Limits.{most_bytes};
+ghost use Rattle.tool_text.specs.Stream.{whole_text, HasRoom, StopsShort};
+ghost use Rattle.tool_text.specs.Faults.{IsOfStream};
+
+use crate::fault::ToolFault;
+use crate::limits::{CHUNK, MOST};
+use byte_io::{Sink, Source, write_all};
+use std::alloc::Global;
+
+/// What prints a stream that it is given in pieces.
+pub(crate) trait Printer {
+    ghost use Rattle.std.specs.Prelude.{ℕ, List};
+
+    /// These bytes were taken, and no others.
+    ghost HasTaken: { Self → List ℕ → Type 0 };
+
+    /// The lines for a stream.
+    ghost lines: { List ℕ → List ℕ };
+
+    /// What stands behind the lines at the end of a stream.
+    ghost ending: { List ℕ → List ℕ };
+
+    /// Takes the next piece of the stream, and adds the lines that it makes whole to an empty text.
+    fn take(&mut self, piece: &[u8], text: &mut Vec<u8>) -> Result<(), ToolFault>
+        requires some { 0 < length piece.now }
+        requires room { HasRoom (HasTaken self.old) piece.now }
+        requires empty { text.old.items ≡ [] }
+        ensures taken { (read : List ℕ) → HasTaken self.old read
+            → OnOk result (HasTaken self.new (read ++ piece.now)) }
+        ensures text { (read : List ℕ) → HasTaken self.old read
+            → OnOk result (lines (read ++ piece.now) ≡ lines read ++ text.new.items) }
+        ensures only { IfErr result (λ e. e ≡ ToolFault.OutOfMemory) };
+
+    /// Adds what stands behind the lines to an empty text.
+    fn end(&self, text: &mut Vec<u8>) -> Result<(), ToolFault>
+        requires { text.old.items ≡ [] }
+        ensures text { (read : List ℕ) → HasTaken self.now read
+            → OnOk result (text.new.items ≡ ending read) }
+        ensures only { IfErr result (λ e. e ≡ ToolFault.OutOfMemory) };
+}
+
+/// Prints the stream that `input` gives, with one write for each piece that was read.
+///
+/// At a fault the sink has taken a front of the text.
+pub(crate) fn print_stream<R: Source, W: Sink, P: Printer>(
+    alloc: Global,
+    printer: &mut P,
+    input: &mut R,
+    out: &mut W,
+) -> Result<(), ToolFault>
+    requires fresh { P.HasTaken printer.old [] }
+    requires empty { P.lines [] ≡ [] }
+    requires input_sound { R.failed input.old ≡ false }
+    requires out_sound { W.failed out.old ≡ false }
+
+    ensures text { R.tells input.old ≡ true → W.tells out.old ≡ true
+        → OnOk result (W.taken out.new
+        ≡ W.taken out.old ++ whole_text P.lines P.ending (R.left input.old)) }
+    ensures all { R.tells input.old ≡ true → OnOk result (R.left input.new ≡ []) }
+    ensures bounded { R.tells input.old ≡ true
+        → OnOk result (length (R.left input.old) ≤ most_bytes) }
+    ensures short { R.tells input.old ≡ true → W.tells out.old ≡ true
+        → OnErr result (StopsShort (whole_text P.lines P.ending)
+        (R.left input.old) (W.taken out.old) (W.taken out.new)) }
+
+    ensures read { IsErrOf result ToolFault.Read → (R.failed input.new ≡ true)
+        ⊎ (R.tells input.old ≡ true → most_bytes < length (R.left input.old)) }
+    ensures unread { IsErrOf result ToolFault.OutOfMemory → R.failed input.new ≡ false }
+    ensures write { IsErrOf result ToolFault.Write
+        → (W.failed out.new ≡ true) ⊎ (W.takes_some out.old ≡ false) }
+    ensures unwritten { IsErrOf result ToolFault.OutOfMemory → W.failed out.new ≡ false }
+    ensures only { IfErr result IsOfStream }
+{
+    let mut text = Vec::new(alloc);
+    let mut chunk = [0u8; CHUNK];
+    let mut room = MOST;
+    'pieces: loop {
+        let n = match input.read(&mut chunk) {
+            Ok(n) => n,
+            Err(_) => return Err(ToolFault::Read),
+        };
+        text.clear();
+        if n == 0 {
+            printer.end(&mut text)?;
+            return send(out, text.as_slice());
+        }
+        if n > room {
+            return Err(ToolFault::Read);
+        }
+        room -= n;
+        printer.take(&chunk[..n], &mut text)?;
+        send(out, text.as_slice())?;
+    }
+}
+
+/// Writes a text.
+pub(crate) fn send<W: Sink>(out: &mut W, text: &[u8]) -> Result<(), ToolFault>
+    requires { W.failed out.old ≡ false }
+    ensures written { W.tells out.old ≡ true
+        → OnOk result (W.taken out.new ≡ W.taken out.old ++ text.now) }
+    ensures part { W.tells out.old ≡ true
+        → OnErr result (GainsBytes (W.taken out.old) (W.taken out.new) text.now) }
+    ensures telling { W.tells out.new ≡ W.tells out.old }
+    ensures eager { W.takes_some out.new ≡ W.takes_some out.old }
+    ensures unmarked { OnOk result (W.failed out.new ≡ false) }
+    ensures write { OnErr result ((W.failed out.new ≡ true) ⊎ (W.takes_some out.old ≡ false)) }
+    ensures only { IfErr result (λ e. e ≡ ToolFault.Write) }
+{
+    if write_all(out, text).is_err() {
+        return Err(ToolFault::Write);
+    }
+    Ok(())
+}

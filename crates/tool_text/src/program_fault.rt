@@ -1,0 +1,109 @@
+//! Why the program stops.
+
+ghost use Rattle.std.specs.Prelude.{◌≡◌, ◌≢◌};
+ghost use Rattle.tool_text.specs.Program.{fault_text, told_text, status_of};
+
+use crate::choice::{STANDARD, Stream};
+use crate::escaped::Escaped;
+use crate::fault::ToolFault;
+use smf_files::SmfFault;
+use std::alloc::{AllocError, AllocFailed};
+use std::fmt;
+use std::io::ErrorKind;
+
+/// Why the program stops. It is printed in one line, with the control characters of a path escaped.
+#[derive(Clone, Copy, Debug, PartialEq, Eq)]
+pub enum ProgramFault<'a> {
+    NotUtf8,
+    NoSubcommand,
+    CannotRead(&'a str),
+    CannotWrite(&'a str),
+    OutOfMemory,
+    /// What is wrong with a Standard MIDI File: its number, its name, and the place or the track.
+    Smf(SmfFault),
+}
+
+impl<'a> ProgramFault<'a> {
+    /// Why the words could not be read: without want of memory some word is not UTF-8.
+    pub fn of_words(kind: ErrorKind) -> ProgramFault<'a>
+        ensures memory { kind ≡ ErrorKind.OutOfMemory → result ≡ ProgramFault.OutOfMemory }
+        ensures text { kind ≢ ErrorKind.OutOfMemory → result ≡ ProgramFault.NotUtf8 }
+    {
+        match kind {
+            ErrorKind::OutOfMemory => ProgramFault::OutOfMemory,
+            _ => ProgramFault::NotUtf8,
+        }
+    }
+
+    /// The fault of a tool that was given a stream. The tools print on standard output.
+    pub fn of_tool(stream: Stream<'a>, fault: ToolFault) -> ProgramFault<'a>
+        ensures text { fault_text result ≡ told_text stream.entry fault }
+        ensures status { status_of result ≡ 1 }
+    {
+        match fault {
+            ToolFault::OutOfMemory => ProgramFault::OutOfMemory,
+            ToolFault::Read => ProgramFault::CannotRead(stream.name()),
+            ToolFault::Write => ProgramFault::CannotWrite(STANDARD),
+            ToolFault::Smf(fault) => ProgramFault::Smf(fault),
+        }
+    }
+
+    /// The status that the program ends with: 2 for a fault in the words, 1 for any other.
+    pub fn status(&self) -> u8
+        ensures { result ≡ status_of self.now }
+    {
+        match self {
+            ProgramFault::NotUtf8 | ProgramFault::NoSubcommand => 2,
+            ProgramFault::CannotRead(_)
+            | ProgramFault::CannotWrite(_)
+            | ProgramFault::OutOfMemory
+            | ProgramFault::Smf(_) => 1,
+        }
+    }
+}
+
+impl fmt::Display for ProgramFault<'_> {
+    ghost use Rattle.std.specs.Prelude.{Some};
+    ghost use Rattle.tool_text.specs.Program.{fault_text};
+
+    ghost output = { λ e. Some (fault_text e) };
+
+    fn fmt<W: fmt::Write>(&self, f: &mut fmt::Formatter<W>) -> fmt::Result {
+        match *self {
+            ProgramFault::NotUtf8 => f.write_str("an argument is not UTF-8"),
+            ProgramFault::NoSubcommand => f.write_str("name a subcommand; see midiseq --help"),
+            ProgramFault::CannotRead(path) => {
+                let path = Escaped(path);
+                write!(f, "cannot read {path}")
+            }
+            ProgramFault::CannotWrite(path) => {
+                let path = Escaped(path);
+                write!(f, "cannot write {path}")
+            }
+            ProgramFault::OutOfMemory => f.write_str("out of memory"),
+            ProgramFault::Smf(fault) => write!(f, "{fault}"),
+        }
+    }
+}
+
+impl From<AllocError> for ProgramFault<'_> {
+    ghost use Rattle.std.specs.Prelude.{◌≡◌};
+    ghost use Rattle.tool_text.specs.declared.program_fault.ProgramFault.TheVariants.{OutOfMemory};
+
+    ghost from_gives = { λ _ e. e ≡ OutOfMemory };
+
+    fn from(_error: AllocError) -> Self {
+        ProgramFault::OutOfMemory
+    }
+}
+
+impl<T: Drop> From<AllocFailed<T>> for ProgramFault<'_> {
+    ghost use Rattle.std.specs.Prelude.{◌≡◌};
+    ghost use Rattle.tool_text.specs.declared.program_fault.ProgramFault.TheVariants.{OutOfMemory};
+
+    ghost from_gives = { λ _ e. e ≡ OutOfMemory };
+
+    fn from(_error: AllocFailed<T>) -> Self {
+        ProgramFault::OutOfMemory
+    }
+}

@@ -1,0 +1,98 @@
+//! What the program is asked to do, and the lines and statuses of its faults.
+
+use crate::{ProgramFault, STANDARD, Stream, Task, Tool, ToolFault};
+use smf_files::SmfFault;
+use std::alloc::Global;
+use std::io::ErrorKind;
+use std::process::Abort;
+use std::test::Fail;
+
+/// A fault prints as this text, and ends the program with this status.
+fn check_fault(
+    rt: &impl Abort,
+    alloc: Global,
+    fault: ProgramFault<'_>,
+    text: &str,
+    status: u8,
+) -> Result<(), Fail> {
+    let line = format!(in alloc; "{fault}")?;
+    assert_eq!(rt; line.as_str(), text);
+    assert_eq!(rt; fault.status(), status);
+    Ok(())
+}
+
+#[test]
+fn tells_of_words(rt: HostRuntime) -> Result<(), Fail> {
+    let not_text = ProgramFault::of_words(ErrorKind::InvalidData);
+    check_fault(&rt, rt.alloc(), not_text, "an argument is not UTF-8", 2)?;
+    let no_memory = ProgramFault::of_words(ErrorKind::OutOfMemory);
+    check_fault(&rt, rt.alloc(), no_memory, "out of memory", 1)?;
+    let none = ProgramFault::NoSubcommand;
+    check_fault(
+        &rt,
+        rt.alloc(),
+        none,
+        "name a subcommand; see midiseq --help",
+        2,
+    )
+}
+
+#[test]
+fn tells_of_streams(rt: HostRuntime) -> Result<(), Fail> {
+    let song = Stream::named("song.mid");
+    let read = ProgramFault::of_tool(song, ToolFault::Read);
+    check_fault(&rt, rt.alloc(), read, "cannot read song.mid", 1)?;
+    let standard = ProgramFault::of_tool(Stream::Standard, ToolFault::Read);
+    check_fault(&rt, rt.alloc(), standard, "cannot read -", 1)?;
+    let write = ProgramFault::of_tool(song, ToolFault::Write);
+    check_fault(&rt, rt.alloc(), write, "cannot write -", 1)?;
+    let memory = ProgramFault::of_tool(song, ToolFault::OutOfMemory);
+    check_fault(&rt, rt.alloc(), memory, "out of memory", 1)?;
+    let fault = ToolFault::Smf(SmfFault::NoStatus { at: 30 });
+    check_fault(
+        &rt,
+        rt.alloc(),
+        ProgramFault::of_tool(song, fault),
+        "12 NoStatus 30",
+        1,
+    )
+}
+
+#[test]
+fn keeps_a_path_in_one_line(rt: HostRuntime) -> Result<(), Fail> {
+    let path = "a\nb\t\u{1b}[1mé\u{7f}\u{85}\\ ~";
+    let text = "cannot read a\\nb\\t\\u{1b}[1mé\\u{7f}\\u{85}\\ ~";
+    check_fault(&rt, rt.alloc(), ProgramFault::CannotRead(path), text, 1)
+}
+
+#[test]
+fn chooses_by_words(rt: HostRuntime) {
+    let thru = Task::of_words("thru", STANDARD);
+    assert_eq!(rt; thru, Some(Task::without_words()));
+    let wire = Task {
+        tool: Tool::Wire,
+        stream: Stream::Path("keys.raw"),
+    };
+    assert_eq!(rt; Task::of_words("wire", "keys.raw"), Some(wire));
+    let dump = Task {
+        tool: Tool::Dump,
+        stream: Stream::Standard,
+    };
+    assert_eq!(rt; Task::of_words("dump", "-"), Some(dump));
+    assert_eq!(rt; Task::of_words("play", "-"), None);
+}
+
+#[test]
+fn shows_each_fault_of_a_tool(rt: HostRuntime) -> Result<(), Fail> {
+    let faults = [
+        (ToolFault::OutOfMemory, "out of memory"),
+        (ToolFault::Read, "a read failed"),
+        (ToolFault::Write, "a write failed"),
+        (ToolFault::Smf(SmfFault::NotMidi), "1 NotMidi"),
+    ];
+    for (fault, text) in &faults {
+        let line = format!(in rt.alloc(); "{fault}")?;
+        assert_eq!(rt; line.as_str(), *text);
+    }
+    Ok(())
+}
