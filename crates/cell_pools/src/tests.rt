@@ -259,3 +259,16 @@ fn counts_follow_the_cells(rt: HostRuntime) {
         twins.agree(&rt, 129);
     }
 }
+
+#[test]
+fn faults_print(rt: HostRuntime) -> Result<(), Fail> {
+    assert_eq!(rt;
+        format!(in rt.alloc(); "{}", PoolFault::BadSize)?.as_str(),
+        "a pool's size is 1 to 2000"
+    );
+    assert_eq!(rt;
+        format!(in rt.alloc(); "{}", PoolFault::OutOfMemory)?.as_str(),
+        "out of memory"
+    );
+    Ok(())
+}

@@ -218,6 +218,19 @@ fn many_messages_in_one_piece(rt: HostRuntime) -> Result<(), Fail> {
     assert_eq!(rt; parser.feed(stream.as_slice(), &mut messages)?, 10_000);
     assert_eq!(rt; messages.len(), 10_000);
     let last = full_bytes(rt.alloc(), &messages.as_slice()[9_999..])?;
-    assert_eq!(rt; last.as_slice(), b"\x90\x3C\x40");
+    assert_eq!(rt; last.as_slice(), [0x90, 0x3C, 0x40].as_slice());
+    Ok(())
+}
+
+#[test]
+fn faults_print(rt: HostRuntime) -> Result<(), Fail> {
+    assert_eq!(rt;
+        format!(in rt.alloc(); "{}", WireFault::OutOfMemory)?.as_str(),
+        "out of memory"
+    );
+    assert_eq!(rt;
+        format!(in rt.alloc(); "{}", WireFault::Failed)?.as_str(),
+        "an earlier call found no memory"
+    );
     Ok(())
 }

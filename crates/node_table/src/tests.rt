@@ -351,3 +351,20 @@ fn a_full_house_has_room_for_all(rt: HostRuntime) -> Result<(), Fail> {
     assert_eq!(rt; body(&table, &port(&rt, 161, 0)), Some(1056));
     Ok(())
 }
+
+#[test]
+fn faults_print(rt: HostRuntime) -> Result<(), Fail> {
+    assert_eq!(rt;
+        format!(in rt.alloc(); "{}", OpenFault::AlreadyOpen)?.as_str(),
+        "the client is open already"
+    );
+    assert_eq!(rt;
+        format!(in rt.alloc(); "{}", OpenFault::BadName)?.as_str(),
+        "this is no name"
+    );
+    assert_eq!(rt;
+        format!(in rt.alloc(); "{}", OpenFault::OutOfMemory)?.as_str(),
+        "out of memory"
+    );
+    Ok(())
+}

@@ -273,3 +273,24 @@ fn a_full_house_of_ports_has_32_sources_at_each(rt: HostRuntime) -> Result<(), F
     assert!(rt; routes.next().is_none());
     Ok(())
 }
+
+#[test]
+fn faults_print(rt: HostRuntime) -> Result<(), Fail> {
+    assert_eq!(rt;
+        format!(in rt.alloc(); "{}", EdgeFault::AlreadyConnected)?.as_str(),
+        "already connected"
+    );
+    assert_eq!(rt;
+        format!(in rt.alloc(); "{}", EdgeFault::SourcesFull)?.as_str(),
+        "too many sources"
+    );
+    assert_eq!(rt;
+        format!(in rt.alloc(); "{}", EdgeFault::Cycle)?.as_str(),
+        "a cycle of filters"
+    );
+    assert_eq!(rt;
+        format!(in rt.alloc(); "{}", EdgeFault::OutOfMemory)?.as_str(),
+        "out of memory"
+    );
+    Ok(())
+}

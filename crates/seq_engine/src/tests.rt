@@ -256,3 +256,16 @@ fn a_hundred_thousand_inputs(rt: HostRuntime) -> Result<(), Fail> {
     assert_reply(&rt, &entries[200_004], 100_004, 99_999, 128, Reply::Done);
     Ok(())
 }
+
+#[test]
+fn faults_print(rt: HostRuntime) -> Result<(), Fail> {
+    assert_eq!(rt;
+        format!(in rt.alloc(); "{}", EngineFault::OutOfMemory)?.as_str(),
+        "out of memory"
+    );
+    assert_eq!(rt;
+        format!(in rt.alloc(); "{}", EngineFault::Failed)?.as_str(),
+        "an earlier call found no memory"
+    );
+    Ok(())
+}

@@ -5,6 +5,7 @@ use crate::{
     write_format0,
 };
 use midi_wire::{Kind, Message};
+use smf_grammar::{ChunkFault, PairFault};
 use std::alloc::Global;
 use std::process::Abort;
 use std::test::Fail;
@@ -310,5 +311,70 @@ fn refuses_real_time(rt: HostRuntime) -> Result<(), Fail> {
     assert_eq!(rt; refused, Some(WriteFault::BadPpq));
     let refused = write_format0(rt.alloc(), 32_767, 16_777_216, &events).err();
     assert_eq!(rt; refused, Some(WriteFault::BadTempo));
+    Ok(())
+}
+
+#[test]
+fn faults_print(rt: HostRuntime) -> Result<(), Fail> {
+    assert_eq!(rt;
+        format!(in rt.alloc(); "{}", WriteFault::BadPpq)?.as_str(),
+        "the ticks per quarter note are out of range"
+    );
+    assert_eq!(rt;
+        format!(in rt.alloc(); "{}", WriteFault::BadTempo)?.as_str(),
+        "the tempo is out of range"
+    );
+    assert_eq!(rt;
+        format!(in rt.alloc(); "{}", WriteFault::BadEvent { index: 3 })?.as_str(),
+        "event 3 can't be written"
+    );
+    assert_eq!(rt;
+        format!(in rt.alloc(); "{}", WriteFault::TooLarge)?.as_str(),
+        "the file is too large"
+    );
+    assert_eq!(rt;
+        format!(in rt.alloc(); "{}", WriteFault::OutOfMemory)?.as_str(),
+        "out of memory"
+    );
+    assert_eq!(rt;
+        format!(in rt.alloc(); "{}", QuantityFault::Short)?.as_str(),
+        "the quantity is cut"
+    );
+    assert_eq!(rt;
+        format!(in rt.alloc(); "{}", QuantityFault::Long)?.as_str(),
+        "the quantity has more than four bytes"
+    );
+    assert_eq!(rt;
+        format!(in rt.alloc(); "{}", PairFault::NoPair)?.as_str(),
+        "no end of track"
+    );
+    assert_eq!(rt;
+        format!(in rt.alloc(); "{}", PairFault::Truncated)?.as_str(),
+        "the event is cut"
+    );
+    assert_eq!(rt;
+        format!(in rt.alloc(); "{}", PairFault::LongQuantity)?.as_str(),
+        "a quantity has more than four bytes"
+    );
+    assert_eq!(rt;
+        format!(in rt.alloc(); "{}", PairFault::NoStatus)?.as_str(),
+        "no running status"
+    );
+    assert_eq!(rt;
+        format!(in rt.alloc(); "{}", PairFault::BadStatus)?.as_str(),
+        "no status of a file"
+    );
+    assert_eq!(rt;
+        format!(in rt.alloc(); "{}", PairFault::BadData)?.as_str(),
+        "no data byte"
+    );
+    assert_eq!(rt;
+        format!(in rt.alloc(); "{}", ChunkFault::Missing)?.as_str(),
+        "no chunk"
+    );
+    assert_eq!(rt;
+        format!(in rt.alloc(); "{}", ChunkFault::Cut)?.as_str(),
+        "the chunk is cut"
+    );
     Ok(())
 }

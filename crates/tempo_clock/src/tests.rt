@@ -3,6 +3,7 @@
 ghost use Rattle.std.specs.Prelude.{◌≡◌, IfOk};
 
 use crate::{Due, MapFault, QueueClock, TempoEntry, TempoMap};
+use std::test::Fail;
 
 /// 480 ticks per quarter note, two quarter notes a second.
 fn two_a_second(rt: &HostRuntime) -> Result<TempoMap, MapFault>
@@ -132,5 +133,18 @@ fn clock_of_a_queue(rt: HostRuntime) -> Result<(), MapFault> {
     assert_eq!(rt; clock.due_moment(Due::Nanos(u64::MAX), 0), None);
     assert_eq!(rt; clock.tick(1_562_800), 2);
     assert_eq!(rt; clock.tick(1_562_799), 1);
+    Ok(())
+}
+
+#[test]
+fn faults_print(rt: HostRuntime) -> Result<(), Fail> {
+    assert_eq!(rt;
+        format!(in rt.alloc(); "{}", MapFault::BadMap)?.as_str(),
+        "no tempo map"
+    );
+    assert_eq!(rt;
+        format!(in rt.alloc(); "{}", MapFault::OutOfMemory)?.as_str(),
+        "out of memory"
+    );
     Ok(())
 }
