@@ -17,7 +17,7 @@ pub use laws::{
     ticks_are_found, ticks_come_back, ticks_come_in_order, worked_ticks,
 };
 pub use memory::OutOfMemory;
-pub use tempo_map::TempoMap;
+pub use tempo_map::{MOST_PPQ, MOST_TEMPO, TempoMap, is_ppq, is_tempo};
 
 #[cfg(test)]
 mod tests;

@@ -46,22 +46,28 @@ struct Segment {
     step: u128,
 }
 
+/// The most ticks per quarter note: a division has 15 bits for them (Standard MIDI Files 1.0, "Header Chunks").
+pub const MOST_PPQ: u32 = 32_767;
+
+/// The slowest tempo, in microseconds per quarter note: an event has 24 bits for it (Standard MIDI Files 1.0, "Set Tempo").
+pub const MOST_TEMPO: u32 = 16_777_215;
+
 /// Whether a number of ticks per quarter note fits a division.
-fn is_metrical(ppq: u32) -> bool
+pub fn is_ppq(ppq: u32) -> bool
     ensures { result ≡ is_ppq ppq }
 {
-    (1..=32_767).contains(&ppq)
+    (1..=MOST_PPQ).contains(&ppq)
 }
 
 /// Whether a tempo is in range.
-fn is_in_range(tempo: u32) -> bool
+pub fn is_tempo(tempo: u32) -> bool
     ensures { result ≡ is_tempo tempo }
 {
-    (1..=16_777_215).contains(&tempo)
+    (1..=MOST_TEMPO).contains(&tempo)
 }
 
 /// Whether a division by frames is one that a file can name, without drop-frame.
-fn is_whole_rate(frames: u8, per_frame: u8) -> bool
+fn is_smpte_rate(frames: u8, per_frame: u8) -> bool
     ensures { result ≡ is_smpte_rate frames per_frame }
 {
     matches!(frames, 24 | 25 | 30) && per_frame > 0
@@ -81,18 +87,18 @@ fn make_room<T>(items: &mut Vec<T>, kept: usize) -> Result<(), OutOfMemory>
 }
 
 /// Whether entries make a map.
-fn are_valid(entries: &[TempoEntry]) -> bool
+fn are_entries(entries: &[TempoEntry]) -> bool
     ensures { result ≡ are_entries entries.now }
 {
     let Some(first) = entries.first() else {
         return false;
     };
-    if first.tick != 0 || !is_in_range(first.tempo) {
+    if first.tick != 0 || !is_tempo(first.tempo) {
         return false;
     }
     let mut before = 0;
     for entry in &entries[1..] {
-        if entry.tick <= before || !is_in_range(entry.tempo) {
+        if entry.tick <= before || !is_tempo(entry.tempo) {
             return false;
         }
         before = entry.tick;
@@ -123,7 +129,7 @@ impl TempoMap {
         ensures ok { IfOk result (λ m. m ≡ record { division = ppq; entries = entries.now }) }
         ensures bad { IsErrOf result MapFault.BadMap ↔ ((is_ppq ppq && are_entries entries.now) ≡ false) }
     {
-        if !is_metrical(ppq) || !are_valid(entries) {
+        if !is_ppq(ppq) || !are_entries(entries) {
             return Err(MapFault::BadMap);
         }
         let starts = starts_of(alloc, entries)?;
@@ -142,7 +148,7 @@ impl TempoMap {
         ensures taken { IsOk result ↔ (is_smpte_rate frames per_frame ≡ true) }
         ensures bad { IsErrOf result MapFault.BadMap ↔ (is_smpte_rate frames per_frame ≡ false) }
     {
-        if !is_whole_rate(frames, per_frame) {
+        if !is_smpte_rate(frames, per_frame) {
             return Err(MapFault::BadMap);
         }
         Ok(TempoMap {
