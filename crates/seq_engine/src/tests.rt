@@ -249,7 +249,9 @@ fn a_hundred_thousand_inputs(rt: HostRuntime) -> Result<(), Fail> {
         let port = port(0)?;
         inputs.push(said(moment, 128, Command::Send { port, message })?)?;
     }
-    let log = run(alloc, inputs.as_slice(), 100_000)?;
+    let inputs = inputs.as_slice();
+    assert!(rt; is_timed(inputs, 100_000));
+    let log = run(alloc, inputs, 100_000)?;
     let entries = log.entries.as_slice();
     assert_eq!(rt; entries.len(), 200_005);
     assert_delivery(&rt, alloc, &entries[200_003], 99_999, b"\x90\x3C\x40")?;

@@ -1,0 +1,29 @@
+use Rattle.std.proofs.Common.{◌≡◌, ◌++◌, ℕ, List, subst}
+use Rattle.std.specs.Prelude.{length, OnOk, IfOk}
+use Rattle.std.proofs.lemmas.Result.{on_ok_weaker}
+use Rattle.midi_wire.specs.Readings.{reading}
+use Rattle.seq_clients.proofs.Bodies.{stream-there, fed-there, fed-kept, port-is-fed, port-missed}
+use Rattle.seq_clients.proofs.clients.Clients.feed.Goals as goal
+
+pub feed-requires : goal.feed-requires
+feed-requires c = stream-there c.self.inside.nodes c.self.inside.rows _ c.self.invariant c.self.view_is c.args.client c.args.port _ c.port_addr.ensures _ c.in-Some.ensures.value
+
+pub invariant_of-self : goal.invariant_of-self
+invariant_of-self c = fed-kept c.self.inside.nodes c.self.inside.rows _ c.self.invariant c.self.view_is c.args.client c.args.port _ c.port_addr.ensures _ c.in-Some.ensures.value _ c.feed.ensures.stays
+
+pub returns-in-Some-clause-fed : goal.returns-in-Some-clause-fed
+returns-in-Some-clause-fed c =
+    on_ok_weaker c.feed.result (λ e. port-is-fed c.self.inside.nodes c.self.inside.rows _ c.self.invariant c.self.view_is c.args.client c.args.port _ c.port_addr.ensures _ c.in-Some.ensures.value _ c.args.bytes.now e) c.feed.ensures.fed
+
+pub returns-in-Some-clause-told : goal.returns-in-Some-clause-told
+returns-in-Some-clause-told c =
+    subst (λ (b : List ℕ). OnOk c.feed.result (c.feed.new.out.items ≡ c.args.out.now.items ++ reading (b ++ c.args.bytes.now)))
+    (fed-there c.self.inside.nodes c.self.inside.rows _ c.self.invariant c.self.view_is c.args.client c.args.port _ c.port_addr.ensures _ c.in-Some.ensures.value) c.feed.ensures.told
+
+pub returns-in-Some-clause-number : goal.returns-in-Some-clause-number
+returns-in-Some-clause-number c =
+    subst (λ (b : List ℕ). IfOk c.feed.result (λ n. n ≡ length (reading (b ++ c.args.bytes.now))))
+    (fed-there c.self.inside.nodes c.self.inside.rows _ c.self.invariant c.self.view_is c.args.client c.args.port _ c.port_addr.ensures _ c.in-Some.ensures.value) c.feed.ensures.number
+
+pub unreachable-requires : goal.unreachable-requires
+unreachable-requires c = port-missed c.self.inside.nodes c.self.inside.rows _ c.self.invariant c.self.view_is c.args.client c.args.port _ c.port_addr.ensures c.requires c.in_default.ensures.value

@@ -1,0 +1,5 @@
+pub mod Mapped
+pub mod Rows
+pub mod Bodies
+pub mod Roster
+pub mod Kept

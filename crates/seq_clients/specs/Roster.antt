@@ -1,0 +1,54 @@
+-- Who is open, and what waits for each client: what the calls of `Clients` change.
+use Rattle.std.specs.Prelude.{ℕ, length, Option, Some, None, refl}
+use Rattle.std.specs.Ordering.{nat_cmp}
+use Rattle.std.specs.Coded.{Coded, code_by, coded×, coded_ℕ}
+use Rattle.std.specs.FinMap
+use Rattle.std.specs.FinMap.{FinMap}
+use Rattle.cell_pools.specs.Pools.{coded_pool}
+use Rattle.node_table.specs.declared.number.Addr.{Addr}
+use Rattle.node_table.specs.declared.number.Node.TheVariants.{Filter}
+use Rattle.seq_state.specs.State.{Client, Pool, coded_client, coded_arrival, put}
+
+-- the open clients, and their input pools
+pub record Roster : Type 0 where
+  pub clients : FinMap nat_cmp Client
+  pub pools : FinMap nat_cmp Pool
+
+-- nobody is open
+abbrev pub nobody : Roster
+nobody = record { clients = FinMap.empty; pools = FinMap.empty }
+
+-- with this under the client's number, or with no such client
+abbrev pub with_client : Roster → ℕ → Option Client → Roster
+with_client r n c = record r { clients = put r.clients n c }
+
+-- the same of its input pool
+abbrev pub with_pool : Roster → ℕ → Option Pool → Roster
+with_pool r n p = record r { pools = put r.pools n p }
+
+abbrev pub coded_roster : Coded Roster
+coded_roster =
+    code_by (FinMap nat_cmp Client × FinMap nat_cmp Pool)
+    (coded× (FinMap.code coded_ℕ coded_client) (FinMap.code coded_ℕ (coded_pool coded_arrival)))
+    (λ r. (r.clients, r.pools)) (λ p. record { clients = p.0; pools = p.1 }) (λ _. refl)
+
+-- ---- what is told of a client that may be open, 0 where it is not
+
+abbrev pub in_size : Option Client → ℕ
+in_size None = 0
+in_size (Some c) = c.in_size
+
+-- how many messages wait in its input pool
+abbrev pub waiting : Option Pool → ℕ
+waiting None = 0
+waiting (Some p) = length p.waiting
+
+-- how many found no room there
+abbrev pub lost : Option Pool → ℕ
+lost None = 0
+lost (Some p) = p.lost
+
+-- ---- addresses
+
+abbrev pub filter_addr : ℕ → ℕ → Addr
+filter_addr client filter = record { client = client; node = Filter filter }

@@ -1,0 +1,62 @@
+//! The queues of one client, by their numbers.
+
+ghost use Rattle.std.specs.Prelude.{◌≡◌};
+ghost use Rattle.std.specs.Option.{option_copied};
+ghost use Rattle.std.specs.FinMap as map;
+
+use crate::queue::Queue;
+use crate::slots::nothing;
+use node_table::QueueNo;
+use std::marker::Model;
+
+/// The queues of one client.
+#[derive(Drop)]
+pub(crate) struct QueueTable {
+    // By the number of the queue.
+    queues: [Option<Queue>; 8],
+}
+
+impl Model for QueueTable {
+    ghost use Rattle.std.specs.Prelude.{◌≡◌, None, length, slice_index_or};
+    ghost use Rattle.std.specs.Ordering.{nat_cmp};
+    ghost use Rattle.std.specs.Coded.{coded_ℕ};
+    ghost use Rattle.std.specs.FinMap as map;
+    ghost use Rattle.node_table.specs.Kept.{numbered};
+    ghost use Rattle.seq_state.specs.State as state;
+
+    ghost Value = { map.FinMap nat_cmp state.Queue };
+
+    ghost coded = { map.code coded_ℕ state.coded_queue };
+
+    ghost view = { λ t. numbered 0 8 (λ number. slice_index_or t.queues number None) };
+
+    ghost invariant = { λ t. length t.queues ≡ 8 };
+}
+
+impl QueueTable {
+    pub(crate) fn new() -> QueueTable
+        ensures { result ≡ map.empty }
+    {
+        QueueTable { queues: nothing() }
+    }
+
+    pub(crate) fn get(&self, queue: QueueNo) -> Option<&Queue>
+        ensures { option_copied result ≡ map.get self.now queue }
+    {
+        self.queues[queue.number() as usize].as_ref()
+    }
+
+    /// Puts a queue in the place of one that may be there.
+    pub(crate) fn insert(&mut self, queue: QueueNo, held: Queue)
+        ensures { self.new ≡ map.insert self.old queue held }
+    {
+        self.queues[queue.number() as usize] = Some(held);
+    }
+
+    pub(crate) fn remove(&mut self, queue: QueueNo) -> Option<Queue>
+        ensures value { result ≡ map.get self.old queue }
+        ensures left { self.new ≡ map.remove self.old queue }
+    {
+        self.queues[queue.number() as usize].take()
+    }
+}

@@ -1,0 +1,76 @@
+//! The rows of the clients, by their numbers.
+
+ghost use Rattle.std.specs.Prelude.{◌≡◌, ◌+◌, ◌<◌, OnOk, OnErr};
+ghost use Rattle.std.specs.Option.{option_copied, option_map};
+ghost use Rattle.std.specs.FinMap as map;
+
+use crate::row::ClientRow;
+use crate::slots::nothing;
+use node_table::ClientId;
+use std::marker::Model;
+
+/// What each client that is open has beside its name and its nodes.
+#[derive(Drop)]
+pub(crate) struct RowTable {
+    // By the number of the client, from 128 on.
+    rows: [Option<Box<ClientRow>>; 64],
+}
+
+impl Model for RowTable {
+    ghost use Rattle.std.specs.Prelude.{◌≡◌, None, length, slice_index_or};
+    ghost use Rattle.std.specs.Option.{option_map};
+    ghost use Rattle.std.specs.Ordering.{nat_cmp};
+    ghost use Rattle.std.specs.Coded.{coded_ℕ};
+    ghost use Rattle.std.specs.FinMap as map;
+    ghost use Rattle.node_table.specs.Kept.{numbered};
+    ghost use Rattle.seq_clients.specs.Rows.{coded_row};
+    ghost use Rattle.seq_clients.specs.declared.row.ClientRow.{ClientRow};
+
+    ghost Value = { map.FinMap nat_cmp ClientRow };
+
+    ghost coded = { map.code coded_ℕ coded_row };
+
+    ghost view = { λ t.
+        numbered 128 64 (λ row. option_map (λ b. b.value) (slice_index_or t.rows row None)) };
+
+    ghost invariant = { λ t. length t.rows ≡ 64 };
+}
+
+/// The place of a client among all that may be open.
+fn row_of(client: ClientId) -> usize
+    ensures start { client ≡ 128 + result }
+    ensures small { result < 64 }
+{
+    (client.number() - 128) as usize
+}
+
+impl RowTable {
+    pub(crate) fn new() -> RowTable
+        ensures { result ≡ map.empty }
+    {
+        RowTable { rows: nothing() }
+    }
+
+    pub(crate) fn get(&self, client: ClientId) -> Option<&ClientRow>
+        ensures { option_copied result ≡ map.get self.now client }
+    {
+        match &self.rows[row_of(client)] {
+            Some(row) => Some(&**row),
+            None => None,
+        }
+    }
+
+    /// Puts a row in the place of one that may be there.
+    pub(crate) fn insert(&mut self, client: ClientId, row: Box<ClientRow>)
+        ensures { self.new ≡ map.insert self.old client row.value }
+    {
+        self.rows[row_of(client)] = Some(row);
+    }
+
+    pub(crate) fn remove(&mut self, client: ClientId) -> Option<Box<ClientRow>>
+        ensures value { option_map (λ b. b.value) result ≡ map.get self.old client }
+        ensures left { self.new ≡ map.remove self.old client }
+    {
+        self.rows[row_of(client)].take()
+    }
+}
