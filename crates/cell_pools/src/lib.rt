@@ -13,5 +13,5 @@ mod tests;
 pub use fault::{PoolFault, PutFault};
 pub use key::CellKey;
 pub use laws::take_all;
-pub use pool::{InPool, MOST_WAITING};
+pub use pool::{InPool, MOST_WAITING, is_size};
 pub use store::CellStore;

@@ -12,6 +12,13 @@ use std::marker::Model;
 /// How many items a pool may hold at most.
 pub const MOST_WAITING: u32 = 2000;
 
+/// Whether a pool may have this size.
+pub fn is_size(size: u32) -> bool
+    ensures { result ≡ is_size size }
+{
+    (1..=MOST_WAITING).contains(&size)
+}
+
 /// What waits to be read, the oldest first. What finds no room is dropped and counted.
 ///
 /// `new` takes all the memory that the items need, so a full pool costs what an empty one does.
@@ -42,7 +49,7 @@ impl<T> InPool<T> {
         ensures ok { IfOk result (λ p. p ≡ empty_pool size) }
         ensures bad_size { IsErrOf result PoolFault.BadSize ↔ (is_size size ≡ false) }
     {
-        if size < 1 || size > MOST_WAITING {
+        if !is_size(size) {
             return Err(PoolFault::BadSize);
         }
         let items = HeapCircularBuffer::with_capacity(alloc, size as usize)?;

@@ -238,7 +238,8 @@ impl PatchGraph {
         Ok(())
     }
 
-    fn add(&mut self, source: Addr, target: Addr) -> Result<(), OutOfMemory>
+    /// Adds an edge, the youngest of all, for a caller that has made the tests of `connect`. `Err` leaves all as it was.
+    pub fn add(&mut self, source: Addr, target: Addr) -> Result<(), OutOfMemory>
         requires fresh { has_edge self.old source target ≡ false }
         requires room { sources_of self.old target < most_sources }
         requires clear { makes_cycle self.old source target ≡ false }

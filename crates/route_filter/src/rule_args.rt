@@ -25,7 +25,7 @@ pub struct RuleArgs {
 
 impl RuleArgs {
     /// Whether they make a rule.
-    pub(crate) fn is_rule(&self) -> bool
+    pub fn is_rule(&self) -> bool
         ensures { result ≡ is_rule self.now }
     {
         self.kinds <= 1023

@@ -1,6 +1,7 @@
 //! Sending all that is due.
 
-ghost use Rattle.std.specs.Prelude.{◌≡◌, ℕ, ◌++◌, IfOk, OnOk};
+ghost use Rattle.std.specs.Prelude.{◌≡◌, ℕ, ◌++◌, IsOk, IfOk, OnOk};
+ghost use Rattle.agenda_heap.specs.Due.{NoneDue};
 ghost use Rattle.cell_pools.specs.Cells.{size_of};
 ghost use Rattle.seq_state.specs.Step.{offered, delivered, settle};
 ghost use Rattle.seq_settle.specs.Cells.{AreCells, AreKeys, seen};
@@ -38,6 +39,9 @@ pub fn settle_all<D: Desk, A: Agenda>(
     ensures keys { OnOk result (AreKeys (D.clients desk.new) cells.new.cells (A.content agenda.new)) }
     ensures sizes { OnOk result ((client : ℕ) →
         size_of cells.new client ≡ size_of cells.old client) }
+
+    // Where nothing is due no memory is asked for.
+    ensures idle { NoneDue (A.content agenda.old) moment → IsOk result }
 {
     while let Some(due) = agenda.pop_due(moment) {
         let Some(popped) = pop_first(cells, due.0)? else {

@@ -367,7 +367,7 @@ bounded-unless : (s : State) → Bounded s → (o : Option Refusal) (effect : St
 bounded-unless s b None effect h = h refl
 bounded-unless s b (Some n) effect h = b
 
-bounded-command : (files : List File) (s : State) (m actor : ℕ) (command : Command) → Bounded s → Bounded (command_step files s m actor command).state
+pub bounded-command : (files : List File) (s : State) (m actor : ℕ) (command : Command) → Bounded s → Bounded (command_step files s m actor command).state
 bounded-command files s m actor command b =
     let q : Option QueueAddr = queue_named command in
     let a : Asked = asked files s m actor command in

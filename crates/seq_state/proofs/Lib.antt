@@ -16,5 +16,4 @@ pub mod Lowest
 pub mod Ends
 pub mod Changes
 pub mod Circles
-pub mod Routes
 pub mod Done

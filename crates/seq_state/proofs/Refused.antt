@@ -20,7 +20,7 @@ tells_pool : (used : ℕ) (pool : Option Pool) → IsRefusal (pool_status used p
 tells_pool used None h = h
 tells_pool used (Some p) h = h
 
-row_tells : (a : Asked) (command : Command) (pool : Option Pool) → IsRefusal ((command_row a command).own.reply pool) → ⊥
+pub row_tells : (a : Asked) (command : Command) (pool : Option Pool) → IsRefusal ((command_row a command).own.reply pool) → ⊥
 unfolding command_row
 row_tells a (QueueStatus q) pool h = tells_queue a.moment a.queue h
 row_tells a PoolStatus pool h = tells_pool a.used pool h

@@ -14,7 +14,8 @@ use Rattle.smf_grammar.specs.Contents.{tempos_from, skipped_in, skipped_in_all, 
 use Rattle.smf_grammar.proofs.Whole.{track-content}
 use Rattle.midi_wire.proofs.MessageTests.{and_both}
 use Rattle.smf_files.specs.Taken.{with_tempos, TrackTaken}
-use Rattle.smf_files.specs.Kept.{pairs_or_none, pairs_seen, file_seen, is_track, IsKept}
+use Rattle.smf_files.specs.Kept.{pairs_or_none, pairs_seen, file_seen, is_track, is_division, are_tempos, IsKept}
+use Rattle.smf_files.proofs.Increasing.{kept-in-range}
 
 -- the tempos of all tracks, where tempo counts
 abbrev pub all_tempos : Bool → List (List Pair) → List TempoEntry
@@ -156,11 +157,13 @@ entries-kept false metrical f tempos entries is m t e =
     ∙ ap (λ (ts : List TempoEntry). last_at_each (default_entry ∷ in_order (λ e. e.tick) ts)) (t ∙ ap (λ (k : Bool). all_tempos k f.tracks) m))
 
 pub chunks-kept : (metrical : Bool) (after left : List ℕ) (format division : ℕ) (contents : List (List ℕ)) (tempos entries : List TempoEntry) (skipped : ℕ) →
-    ChunksTaken metrical after left contents tempos skipped → metrical ≡ not (counts_frames division) → length contents < 2 ^ 16 →
+    ChunksTaken metrical after left contents tempos skipped → metrical ≡ not (counts_frames division) → length contents < 2 ^ 16 → IsTrue (is_division division) → IsTrue (are_tempos tempos) →
     entries ≡ (if metrical then last_at_each (default_entry ∷ in_order (λ e. e.tick) tempos) else []) → IsKept (file_seen format division contents) contents entries skipped
-chunks-kept metrical after left format division contents tempos entries skipped w m few e = record {
+chunks-kept metrical after left format division contents tempos entries skipped w m few whole range e = record {
   tracks = w.whole;
   few = few;
+  division = whole;
+  tempos = rw e (kept-in-range metrical tempos range);
   entries_are = entries-kept (counts_frames division) metrical (file_seen format division contents) tempos entries refl m (w.tempos_are ∙ ap (all_tempos metrical) w.tracks) e;
   skipped_are = w.skipped_are ∙ ap (skipped_in_all metrical) w.tracks ∙ ap (λ (k : Bool). skipped_in_all k (map pairs_seen contents)) m;
 }

@@ -6,3 +6,5 @@ pub mod Exclusives
 pub mod Merging
 pub mod Writing
 pub mod Heaps
+pub mod Divisions
+pub mod Increasing

@@ -1,18 +1,21 @@
 //! A file that was read.
 
-ghost use Rattle.std.specs.Prelude.{◌≡◌, ◌∷◌, [], ◌++◌, length, IfOk, IfErr, OnOk};
+ghost use Rattle.std.specs.Prelude.{◌≡◌, ◌<◌, ◌∷◌, [], ◌++◌, length, true, IfOk, IfErr, OnOk};
+ghost use Rattle.tempo_clock.specs.Ticks.{resolution};
 ghost use Rattle.smf_grammar.specs.Files.{File, Fault};
 ghost use Rattle.smf_grammar.specs.Contents.{events_of, entries_of, skipped_of};
+ghost use Rattle.smf_files.specs.Rising.{ticks_rise};
 ghost use Rattle.smf_files.specs.Taken.{Faulty};
 
 use crate::cursor::{Cursor, play};
 use crate::entries::entries_from;
+use crate::playable::map_of;
 use crate::track::read_track;
 use memory::OutOfMemory;
 use smf_grammar::{ChunkFault, SmfFault, chunk_at, counts_frames, header_at};
 use std::alloc::Global;
 use std::marker::Model;
-use tempo_clock::TempoEntry;
+use tempo_clock::{TempoEntry, TempoMap};
 
 /// Appends a content.
 fn keep<'b>(contents: &mut Vec<&'b [u8]>, content: &'b [u8]) -> Result<(), SmfFault>
@@ -128,5 +131,24 @@ impl<'b> SmfFile<'b> {
         ensures { result ≡ skipped_of self.now }
     {
         self.skipped
+    }
+
+    /// The tempo map by which it plays: of its division, with its tempo entries. It fails only where memory is refused, and
+    /// takes none where the division counts frames.
+    pub fn tempo_map(&self) -> Result<TempoMap, OutOfMemory>
+        ensures { IfOk result (λ m. m
+            ≡ record { division = self.now.division; entries = entries_of self.now }) }
+    {
+        map_of(self.alloc, self.division, self.entries.as_slice())
+    }
+
+    /// Its division has ticks, and the ticks of its events never fall. It does nothing.
+    pub fn plays_in_order(&self)
+        ensures ticks { 0 < resolution
+            (record { division = self.now.division; entries = entries_of self.now }) }
+        ensures rising { ticks_rise (events_of self.now) ≡ true }
+    {
+        // The invariant is known only once a field is read.
+        let _alloc = self.alloc;
     }
 }

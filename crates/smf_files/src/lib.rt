@@ -7,6 +7,7 @@ mod fault;
 mod file;
 mod heads;
 mod place;
+mod playable;
 #[cfg(test)]
 mod tests;
 mod track;
@@ -17,5 +18,5 @@ pub use fault::WriteFault;
 pub use file::SmfFile;
 pub use memory::OutOfMemory;
 pub use smf_grammar::{Event, QuantityFault, SmfFault, quantity};
-pub use tempo_clock::TempoEntry;
+pub use tempo_clock::{TempoEntry, TempoMap};
 pub use write::write_format0;

@@ -206,6 +206,53 @@ fn tells_missing_tracks(rt: HostRuntime) -> Result<(), Fail> {
     Ok(())
 }
 
+/// 96 ticks per quarter note: a quarter of a second each up to tick 96, then half a second.
+#[test]
+fn plays_by_tempos(rt: HostRuntime) -> Result<(), Fail> {
+    let map = SmfFile::read(rt.alloc(), &TWO_TRACKS)?.tempo_map()?;
+    assert_eq!(rt; map.ppq(), 96);
+    for (tick, nanos) in [
+        (0, 0),
+        (1, 2_604_167),
+        (96, 250_000_000),
+        (97, 255_208_334),
+        (192, 750_000_000),
+    ] {
+        assert_eq!(rt; map.nanos_at(tick), nanos, "at {tick}");
+    }
+    Ok(())
+}
+
+#[test]
+fn plays_by_one_tempo(rt: HostRuntime) -> Result<(), Fail> {
+    let file = SmfFile::read(rt.alloc(), &SMALL)?;
+    file.plays_in_order();
+    let map = file.tempo_map()?;
+    assert_eq!(rt; map.entries(), [entry(0, 500_000)].as_slice());
+    assert_eq!(rt; map.nanos_at(480), 500_000_000);
+    Ok(())
+}
+
+/// A division by frames, and when its ticks 1 and 480 come: no tempo counts.
+#[test]
+fn plays_by_frames(rt: HostRuntime) -> Result<(), Fail> {
+    for (minus_frames, per_frame, first, last) in [
+        (0xE8, 4, 10_416_667, 5_000_000_000),
+        (0xE7, 40, 1_000_000, 480_000_000),
+        (0xE2, 80, 416_667, 200_000_000),
+    ] {
+        let mut bytes = damaged(rt.alloc(), 12, minus_frames)?;
+        if let Some(place) = bytes.get_mut(13) {
+            *place = per_frame;
+        }
+        let map = SmfFile::read(rt.alloc(), bytes.as_slice())?.tempo_map()?;
+        assert!(rt; map.entries().is_empty());
+        assert_eq!(rt; map.nanos_at(1), first, "at {minus_frames}");
+        assert_eq!(rt; map.nanos_at(480), last, "at {minus_frames}");
+    }
+    Ok(())
+}
+
 /// A refused request leaves the cursor at its event. `rt try --fail-alloc` refuses it.
 #[test]
 fn plays_exclusive_messages(rt: HostRuntime) -> Result<(), Fail> {

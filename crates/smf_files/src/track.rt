@@ -1,13 +1,36 @@
 //! One track, read through.
 
-ghost use Rattle.std.specs.Prelude.{◌≡◌, ◌≤◌, ◌^◌, ◌++◌, ◌∷◌, [], length, if◌then◌else◌, IfOk, IfErr, OnOk};
+ghost use Rattle.std.specs.Prelude.{◌≡◌, ◌≤◌, ◌^◌, ◌++◌, ◌∷◌, [], length, if◌then◌else◌, IfOk, IfErr, IfSome, IsTrue, OnOk};
+ghost use Rattle.tempo_clock.specs.Entries.{is_tempo};
 ghost use Rattle.smf_grammar.specs.Files.{TrackFault};
-ghost use Rattle.smf_grammar.specs.Contents.{entry_if, tempo_of, is_skipped};
+ghost use Rattle.smf_grammar.specs.Contents.{entry_if, tempo_in, tempo_of, is_skipped};
 ghost use Rattle.smf_grammar.specs.Seen.{event_seen};
+ghost use Rattle.smf_files.specs.Kept.{are_tempos};
 ghost use Rattle.smf_files.specs.Taken.{TrackTaken, Faulty};
 
-use smf_grammar::{EventBytes, SmfFault, fault_of_pair, pair_at};
+use smf_grammar::{EventBytes, SmfFault, fault_of_pair, pair_at, tempo_in};
 use tempo_clock::TempoEntry;
+
+/// The tempo that these bytes of FF 51 set.
+#[inline]
+fn tempo_from(payload: &[u8]) -> Option<u32>
+    ensures value { result ≡ tempo_in payload.now }
+    ensures in_range { IfSome result (λ tempo. IsTrue (is_tempo tempo)) }
+{
+    tempo_in(payload)
+}
+
+/// The tempo that an event sets.
+#[inline]
+fn tempo_of(event: &EventBytes<'_>) -> Option<u32>
+    ensures value { result ≡ tempo_of (event_seen event.now) }
+    ensures in_range { IfSome result (λ tempo. IsTrue (is_tempo tempo)) }
+{
+    match event {
+        EventBytes::Meta { kind, payload } if *kind == 0x51 => tempo_from(payload),
+        _ => None,
+    }
+}
 
 /// Appends the tempo that an event sets at a tick, where tempo counts.
 #[inline]
@@ -17,13 +40,15 @@ fn note_tempo(
     tick: u64,
     tempos: &mut Vec<TempoEntry>,
 ) -> Result<(), SmfFault>
+    requires in_range { IsTrue (are_tempos tempos.old.items) }
+    ensures in_range { OnOk result (IsTrue (are_tempos tempos.new.items)) }
     ensures ok { OnOk result (tempos.new.items
         ≡ (if metrical then (tempos.old.items ++ entry_if tick (tempo_of (event_seen event.now)))
         else tempos.old.items)) }
     ensures err { IfErr result (λ x. x ≡ SmfFault.OutOfMemory) }
 {
     if metrical {
-        if let Some(tempo) = event.tempo() {
+        if let Some(tempo) = tempo_of(event) {
             if tempos.push(TempoEntry { tick, tempo }).is_err() {
                 return Err(SmfFault::OutOfMemory);
             }
@@ -53,6 +78,8 @@ pub(crate) fn read_track(
 ) -> Result<u64, SmfFault>
     requires small { length content.now ≤ 2 ^ 24 }
     requires near { place ≤ 2 ^ 24 }
+    requires in_range { IsTrue (are_tempos tempos.old.items) }
+    ensures in_range { OnOk result (IsTrue (are_tempos tempos.new.items)) }
     ensures ok { IfOk result
         (λ skipped. TrackTaken metrical content.now tempos.old.items tempos.new.items skipped) }
     ensures few { IfOk result (λ skipped. skipped ≤ 2 ^ 24) }

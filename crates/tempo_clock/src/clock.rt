@@ -2,7 +2,7 @@
 
 ghost use Rattle.std.specs.Prelude.{◌≡◌, ◌≤◌, ◌<◌, true, OnOk, OnErr, None, is_some, IsSome, IsNone};
 ghost use Rattle.tempo_clock.specs.Entries.{is_tempo};
-ghost use Rattle.tempo_clock.specs.Ticks.{tick_at, first_tick_from};
+ghost use Rattle.tempo_clock.specs.Ticks.{is_smpte, tick_at, first_tick_from};
 ghost use Rattle.tempo_clock.specs.Clocks.{elapsed, started, stopped, resumed, with_tempo, moment_of};
 
 use crate::due::Due;
@@ -78,6 +78,20 @@ impl QueueClock {
         ensures { result ≡ is_some self.now.since }
     {
         self.since.is_some()
+    }
+
+    /// The division word of its tempo map.
+    pub fn division(&self) -> u16
+        ensures { result ≡ self.now.map.division }
+    {
+        self.map.division()
+    }
+
+    /// Whether it counts frames per second, and so has no tempo.
+    pub fn counts_frames(&self) -> bool
+        ensures { result ≡ is_smpte self.now.map }
+    {
+        self.division() >= 32768
     }
 
     /// What it shows at a moment that is not before the last `start` or `resume`.

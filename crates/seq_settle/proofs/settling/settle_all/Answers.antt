@@ -3,7 +3,7 @@ use Rattle.std.specs.FinMap.{get}
 use Rattle.seq_settle.specs.Cells.{seen}
 use Rattle.seq_settle.specs.Sends.{key_of_head}
 use Rattle.seq_settle.proofs.Stores.{get-put_here}
-use Rattle.seq_settle.proofs.Loop.{turn_from, turn_fewer, fresh_next, loop_end, has_event}
+use Rattle.seq_settle.proofs.Loop.{turn_from, turn_fewer, fresh_next, loop_end, has_event, none_is_due}
 use Rattle.seq_settle.proofs.settling.settle_all.Goals as goal
 
 pub unreachable-requires : goal.unreachable-requires
@@ -38,6 +38,7 @@ loop-due-preserved g c =
           _ _ _ i.clients i.edges c.in_ok-head.ensures.clients c.in_ok-head.ensures.pools c.in_ok-head.ensures.sent
           (c.key_of-key.ensures ∙ ap (key_of_head (g.D.Desk.clients c.send_popped.new.desk)) c.in_ok-head.ensures.head) c.in-Some.ensures.popped c.in_ok-add_key.ensures;
       sizes = λ client. c.in_ok-popped.ensures.sizes client ∙ i.sizes client;
+      idle = λ none. absurd (none_is_due _ _ c.in-Some.due.0 c.in-Some.due.1 c.args.moment c.in-Some.ensures.due none i.idle);
     }
 
 pub returns-clause-state : goal.returns-clause-state

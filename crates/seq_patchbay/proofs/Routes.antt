@@ -8,22 +8,9 @@ use Rattle.node_table.specs.declared.number.PortAddr.{PortAddr}
 use Rattle.patch_graph.specs.declared.edge.Edge.{Edge}
 use Rattle.patch_graph.specs.Cursor.{at_port}
 use Rattle.patch_graph.specs.Paths.{paths, end_of, nodes_of, routes}
-use Rattle.seq_state.specs.declared.log.Delivery.{Delivery}
 use Rattle.seq_state.specs.State.{Client, State}
 use Rattle.seq_state.specs.Copies.{filter_at, passed_by, and_then, carried, copy, copies}
-
--- what nodes, one after another, let through
-abbrev pub carried_by : FinMap nat_cmp Client → List Addr → List ℕ → Option (List ℕ)
-carried_by clients [] message = Some message
-carried_by clients (a ∷ rest) message = and_then (passed_by (filter_at clients a.client a.node) message) (carried_by clients rest)
-
-abbrev pub last_of : Addr → List Addr → Addr
-last_of a [] = a
-last_of a (b ∷ bs) = last_of b bs
-
--- what comes of a message at the end of a route
-abbrev pub copy_along : FinMap nat_cmp Client → ℕ → Addr → List ℕ → List Addr → Option Delivery
-copy_along clients moment source message route = copy moment (last_of source route) (carried_by clients route message)
+use Rattle.seq_patchbay.specs.Carrying.{carried_by, last_of, copy_along}
 
 and-then : (o : Option (List ℕ)) (f g : List ℕ → Option (List ℕ)) → ((m : List ℕ) → f m ≡ g m) → and_then o f ≡ and_then o g
 and-then None f g same = refl
