@@ -1,11 +1,12 @@
 -- A map that is kept as an array of what stands at each number.
-use Rattle.std.proofs.Common.{◌≡◌, ◌≢◌, ◌<◌, ◌+◌, ◌∙◌, ℕ, List, length, get_or, set, Option, Some, None, ap, sym, arith}
+use Rattle.std.proofs.Common.{◌≡◌, ◌≢◌, ◌<◌, ◌+◌, ◌∙◌, ℕ, Bool, true, false, nat_lt, refl, List, length, get_or, set, Option, Some, None, ap, sym, arith}
 use Rattle.std.proofs.lemmas.List.{get_or_default, get_or-set_same, get_or-set_other}
+use Rattle.std.proofs.lemmas.Bool.Decides.{nat_tests}
 use Rattle.std.specs.Ordering.{nat_cmp}
 use Rattle.std.specs.FinMap
 use Rattle.std.specs.FinMap.{FinMap, get}
 use Rattle.node_table.specs.Kept.{numbered}
-use Rattle.node_table.proofs.Numbered.{get-numbered, numbered_none, numbered_insert, numbered_remove}
+use Rattle.node_table.proofs.Numbered.{get-numbered, get-above, numbered_none, numbered_insert, numbered_remove}
 
 module _ {A X : Type 0} (g : Option A → Option X) (base n : ℕ) where
   -- what is seen of what stands there
@@ -36,3 +37,14 @@ module _ {A X : Type 0} (g : Option A → Option X) (base n : ℕ) where
     removed h e =
         numbered_remove base n i (λ r. g (get_or slots r None)) (λ r. g (get_or (set slots i h) r None)) below (here h ∙ e) (apart h)
         ∙ ap (λ (t : FinMap nat_cmp X). FinMap.remove t (base + i)) view ∙ ap (λ (k : ℕ). FinMap.remove m k) (sym at)
+
+-- what is there has a number of the array
+pub under : {X : Type 0} (n : ℕ) (slots : List (Option X)) (m : FinMap nat_cmp X) → numbered 0 n (λ r. get_or slots r None) ≡ m → (key : ℕ) (x : X) → get m key ≡ Some x → key < n
+under {X = X} n slots m view key x at = go (nat_lt key n) refl
+  where
+    some_none : None ≡ Some x → key < n
+    some_none e = cc
+
+    go : (b : Bool) → nat_lt key n ≡ b → key < n
+    go true t = grind (arith, nat_tests, t)
+    go false t = some_none (sym (get-above 0 n key (λ r. get_or slots r None) (grind (arith, nat_tests, t))) ∙ ap (λ (k : FinMap nat_cmp X). get k key) view ∙ at)

@@ -1,5 +1,5 @@
 -- Who is open, and what waits for each client: what the calls of `Clients` change.
-use Rattle.std.specs.Prelude.{ℕ, length, Option, Some, None, refl}
+use Rattle.std.specs.Prelude.{◌≡◌, ℕ, true, false, length, Option, Some, None, refl}
 use Rattle.std.specs.Ordering.{nat_cmp}
 use Rattle.std.specs.Coded.{Coded, code_by, coded×, coded_ℕ}
 use Rattle.std.specs.FinMap
@@ -7,7 +7,7 @@ use Rattle.std.specs.FinMap.{FinMap}
 use Rattle.cell_pools.specs.Pools.{coded_pool}
 use Rattle.node_table.specs.declared.number.Addr.{Addr}
 use Rattle.node_table.specs.declared.number.Node.TheVariants.{Filter}
-use Rattle.seq_state.specs.State.{Client, Pool, coded_client, coded_arrival, put}
+use Rattle.seq_state.specs.State.{Client, Pool, Queue, coded_client, coded_arrival, put}
 
 -- the open clients, and their input pools
 pub record Roster : Type 0 where
@@ -47,6 +47,16 @@ waiting (Some p) = length p.waiting
 abbrev pub lost : Option Pool → ℕ
 lost None = 0
 lost (Some p) = p.lost
+
+-- ---- queues that others may use
+
+-- none of these is shared
+abbrev pub NoneShared : FinMap nat_cmp Queue → Type 0
+NoneShared queues = (n : ℕ) (q : Queue) → FinMap.get queues n ≡ Some q → q.shared ≡ false
+
+-- one of these is shared
+abbrev pub SomeShared : FinMap nat_cmp Queue → Type 0
+SomeShared queues = (n : ℕ) × (q : Queue) × (FinMap.get queues n ≡ Some q) × (q.shared ≡ true)
 
 -- ---- addresses
 

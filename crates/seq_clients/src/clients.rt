@@ -1,11 +1,12 @@
 //! The open clients: what is asked of them.
 
-ghost use Rattle.std.specs.Prelude.{◌≡◌, is_some};
+ghost use Rattle.std.specs.Prelude.{◌≡◌, true, false, is_some};
 ghost use Rattle.std.specs.FinMap.{get};
 ghost use Rattle.std.specs.Option.{option_copied, option_map};
 ghost use Rattle.seq_state.specs.Own.{has_port, has_filter, has_queue, node_caps, port_of, filter_of, queue_of, out_size};
+ghost use Rattle.seq_state.specs.State.{queues_of};
 ghost use Rattle.seq_state.specs.Step.{port_addr};
-ghost use Rattle.seq_clients.specs.Roster.{nobody, filter_addr, in_size, waiting, lost};
+ghost use Rattle.seq_clients.specs.Roster.{nobody, filter_addr, in_size, waiting, lost, NoneShared, SomeShared};
 
 use crate::body::NodeBody;
 use crate::queue::Queue;
@@ -169,6 +170,17 @@ impl Clients {
         match self.rows.get(client) {
             Some(row) => row.queues.get(queue),
             None => None,
+        }
+    }
+
+    /// Whether other clients may use one of the client's queues.
+    pub fn shares_queue(&self, client: ClientId) -> bool
+        ensures none { result ≡ false → NoneShared (queues_of (get self.now.clients client)) }
+        ensures some { result ≡ true → SomeShared (queues_of (get self.now.clients client)) }
+    {
+        match self.rows.get(client) {
+            Some(row) => row.queues.has_shared(),
+            None => false,
         }
     }
 

@@ -1,8 +1,9 @@
 //! The queues of one client, by their numbers.
 
-ghost use Rattle.std.specs.Prelude.{◌≡◌};
+ghost use Rattle.std.specs.Prelude.{◌≡◌, true, false};
 ghost use Rattle.std.specs.Option.{option_copied};
 ghost use Rattle.std.specs.FinMap as map;
+ghost use Rattle.seq_clients.specs.Roster.{NoneShared, SomeShared};
 
 use crate::queue::Queue;
 use crate::slots::nothing;
@@ -58,5 +59,20 @@ impl QueueTable {
         ensures left { self.new ≡ map.remove self.old queue }
     {
         self.queues[queue.number() as usize].take()
+    }
+
+    /// Whether clients other than its own may use one of them.
+    pub(crate) fn has_shared(&self) -> bool
+        ensures none { result ≡ false → NoneShared self.now }
+        ensures some { result ≡ true → SomeShared self.now }
+    {
+        for number in 0..8usize {
+            if let Some(queue) = &self.queues[number] {
+                if queue.is_shared() {
+                    return true;
+                }
+            }
+        }
+        false
     }
 }

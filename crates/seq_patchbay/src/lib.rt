@@ -1,7 +1,10 @@
-//! The open clients with the subscriptions between their nodes, and what goes along these.
+//! The open clients with the subscriptions between their nodes, what goes along these, and who is there as text.
 #![tactic(auto)]
 
+mod listing;
 mod patchbay;
 mod sending;
+#[cfg(test)]
+mod tests;
 
 pub use patchbay::Patchbay;

@@ -1,0 +1,80 @@
+-- What commands come to that leave the agenda alone.
+use Rattle.std.proofs.Common.{◌≡◌, ◌<◌, ℕ, zero, suc, Bool, false, List, [], ◌∷◌, ◌++◌, None, refl, sym, ap, subst, ◌∙◌, arith}
+use Rattle.std.specs.Prelude.{nat_le}
+use Rattle.std.proofs.lemmas.Bool.Decides.{nat_tests}
+use Rattle.node_table.specs.declared.number.Addr.{Addr}
+use Rattle.patch_graph.specs.Chains.{makes_cycle}
+use Rattle.patch_graph.specs.Edges.{edge, has_edge, without_edge, sources_of, most_sources}
+use Rattle.patch_graph.specs.declared.edge.Edge.{Edge}
+use Rattle.seq_patchbay.specs.declared.patchbay.Patchbay.{Patchbay}
+use Rattle.seq_state.specs.declared.input.Command.TheVariants.{Connect, Disconnect}
+use Rattle.seq_state.specs.declared.log.Reply.{Reply}
+use Rattle.seq_state.specs.declared.log.Reply.TheVariants.{Done}
+use Rattle.seq_state.specs.Files.{File}
+use Rattle.seq_state.specs.State.{State}
+use Rattle.seq_state.specs.Table.{Condition, first_refusal, command_row, connected, disconnected}
+use Rattle.seq_state.specs.Step.{Stepped, row_of, refusal_of}
+use Rattle.seq_state.proofs.Done.{done}
+use Rattle.seq_state.proofs.Effects.{patched, step-connects, step-parts}
+use Rattle.seq_settle.specs.Cells.{AreKeys}
+use Rattle.seq_commands.specs.declared.sequencer.Sequencer.{Sequencer}
+use Rattle.seq_commands.specs.declared.sequencer.Turn.{Turn}
+use Rattle.seq_commands.specs.Whole.{clients_of, state_of, refusal_in, step_in, GivesKept}
+use Rattle.seq_commands.proofs.Accepted.{none-holds, unless-none}
+
+-- a step that changes the pools and the subscriptions alone
+pub kept-gives : (old : Sequencer) (p : Patchbay) (step : Stepped) (reply : Reply) → p.clients.clients ≡ clients_of old → step ≡ done (state_of (record old { patchbay = p })) reply → GivesKept old (record old { patchbay = p }) step reply []
+kept-gives old p step reply same is agenda now whole = record {
+  state = sym (ap (λ (x : Stepped). x.state) is);
+  reply_is = sym (ap (λ (x : Stepped). x.reply) is);
+  sent_is = sym (ap (λ (x : Stepped). x.delivered) is);
+  cells = whole.cells;
+  keys = subst (λ m. AreKeys m old.cells.cells agenda) (sym same) whole.keys;
+  files = refl;
+  steps = refl;
+}
+
+-- ---- what is known of an accepted command
+
+-- whether the condition at a place holds
+abbrev pub holds_at : List Condition → ℕ → Bool
+holds_at [] i = false
+holds_at (c ∷ cs) zero = c.1
+holds_at (c ∷ cs) (suc i) = holds_at cs i
+
+-- where no refusal stands, none of the conditions holds
+pub none-at : (cs : List Condition) → first_refusal cs ≡ None → (i : ℕ) → holds_at cs i ≡ false
+none-at [] e i = refl
+none-at (c ∷ cs) e zero = (none-holds c.0 c.1 cs e).0
+none-at (c ∷ cs) e (suc i) = none-at cs (none-holds c.0 c.1 cs e).1 i
+
+below : (most n : ℕ) → nat_le most n ≡ false → n < most
+below most n e = grind (arith, nat_tests, e)
+
+pub connects-fresh : (files : List File) (s : State) (moment actor : ℕ) (source target : Addr) → refusal_of files s moment actor (Connect source target) ≡ None → has_edge s.edges source target ≡ false
+unfolding command_row
+connects-fresh files s moment actor source target e = none-at (row_of files s moment actor (Connect source target)).conditions e 4
+
+pub connects-room : (files : List File) (s : State) (moment actor : ℕ) (source target : Addr) → refusal_of files s moment actor (Connect source target) ≡ None → sources_of s.edges target < most_sources
+unfolding command_row
+connects-room files s moment actor source target e = below most_sources (sources_of s.edges target) (none-at (row_of files s moment actor (Connect source target)).conditions e 5)
+
+pub connects-clear : (files : List File) (s : State) (moment actor : ℕ) (source target : Addr) → refusal_of files s moment actor (Connect source target) ≡ None → makes_cycle s.edges source target ≡ false
+unfolding command_row
+connects-clear files s moment actor source target e = none-at (row_of files s moment actor (Connect source target)).conditions e 6
+
+-- ---- subscriptions
+
+pub connect-gives : (old : Sequencer) (turn : Turn) (source target : Addr) (graph : List Edge) → refusal_in old turn (Connect source target) ≡ None → graph ≡ old.patchbay.graph ++ edge source target ∷ [] →
+    GivesKept old (record old { patchbay = record old.patchbay { graph = graph } }) (step_in old turn (Connect source target)) Done []
+connect-gives old turn source target graph e is =
+    kept-gives old (record old.patchbay { graph = graph }) _ Done refl
+    (step-connects old.files (state_of old) turn.moment turn.actor source target ∙ unless-none _ (state_of old) (patched (state_of old) (connected source target)) e
+    ∙ ap (λ x. done (record (state_of old) { edges = x }) Done) (sym is))
+
+pub disconnect-gives : (old : Sequencer) (turn : Turn) (source target : Addr) (graph : List Edge) → refusal_in old turn (Disconnect source target) ≡ None → graph ≡ without_edge old.patchbay.graph source target →
+    GivesKept old (record old { patchbay = record old.patchbay { graph = graph } }) (step_in old turn (Disconnect source target)) Done []
+disconnect-gives old turn source target graph e is =
+    kept-gives old (record old.patchbay { graph = graph }) _ Done refl
+    (step-parts old.files (state_of old) turn.moment turn.actor source target ∙ unless-none _ (state_of old) (patched (state_of old) (disconnected source target)) e
+    ∙ ap (λ x. done (record (state_of old) { edges = x }) Done) (sym is))

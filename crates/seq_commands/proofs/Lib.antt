@@ -1,0 +1,16 @@
+pub mod Accepted
+pub mod Outcomes
+pub mod Each
+pub mod Ticks
+pub mod Starting
+pub mod ClientsAccepted
+pub mod ClientsGiven
+pub mod QueuesAccepted
+pub mod QueuesGiven
+pub mod EdgesStep
+pub mod PoolsStep
+pub mod PlaybacksGone
+pub mod PlaybacksAdded
+pub mod SentNow
+pub mod Sound
+pub mod Commanded

@@ -1,0 +1,14 @@
+use Rattle.seq_commands.specs.Whole.{clients_of}
+use Rattle.seq_commands.proofs.PlaybacksGone.{close-alone, close-gives}
+use Rattle.seq_commands.proofs.sequencer.Sequencer.close.Goals as goal
+
+pub drop_playbacks-requires-clause-alone : goal.drop_playbacks-requires-clause-alone
+drop_playbacks-requires-clause-alone g c = λ private.
+    let s = c.args.self.now in
+    close-alone (clients_of s) s.cells.cells s.steps c.args.turn.actor c.requires.whole.cells c.requires.whole.sound.usable (c.shares_queue-shares.ensures.none private)
+
+pub returns : goal.returns
+returns g c =
+    let d = c.drop_playbacks.ensures in
+    close-gives c.args.self.now c.args.turn c.drop_playbacks.new.cells _ d.cells c.close.new.self c.remove_client.new.self c.requires.accepted d.playbacks
+    (d.keys (clients_of c.args.self.now) c.requires.whole.keys) d.left c.remove_client.ensures c.close.ensures

@@ -1,0 +1,64 @@
+//! The files of a run.
+
+ghost use Rattle.std.specs.Prelude.{◌≡◌, true, Some, is_some, map};
+ghost use Rattle.std.specs.List.{list_all};
+ghost use Rattle.std.specs.Option.{option_copied, option_map};
+ghost use Rattle.smf_grammar.specs.Played.{played};
+ghost use Rattle.seq_state.specs.Laws.{has_ticks};
+ghost use Rattle.seq_state.specs.Own.{file_at, has_division};
+
+use seq_clients::Queue;
+use smf_files::SmfFile;
+use std::marker::Model;
+
+/// The files that clients may play, by number from 0.
+#[derive(Drop)]
+pub struct Files<'b> {
+    files: &'b [SmfFile<'b>],
+}
+
+impl<'b> Model for Files<'b> {
+    ghost use Rattle.std.specs.Prelude.{List, map};
+    ghost use Rattle.smf_grammar.specs.Played.{PlayedFile, played};
+
+    ghost Value = { List PlayedFile };
+
+    ghost view = { λ f. map played f.files.now };
+}
+
+impl<'b> Files<'b> {
+    pub fn new(files: &'b [SmfFile<'b>]) -> Files<'b>
+        ensures files { result ≡ map played files.now }
+        ensures ticks { list_all has_ticks result ≡ true }
+    {
+        // Tells the prover that each division has ticks.
+        for file in files {
+            file.plays_in_order();
+        }
+        Files { files }
+    }
+
+    /// The file with this number, if there is one.
+    pub fn get(&self, number: u32) -> Option<&'b SmfFile<'b>>
+        ensures { option_map played (option_copied result) ≡ file_at self.now number }
+    {
+        self.files.get(number as usize)
+    }
+
+    /// Whether there is a file with this number.
+    pub(crate) fn has(&self, number: u32) -> bool
+        ensures { result ≡ is_some (file_at self.now number) }
+    {
+        self.get(number).is_some()
+    }
+
+    /// Whether the file with this number, if there is one, has the division of a queue.
+    pub(crate) fn has_division_of(&self, queue: &Queue, number: u32) -> bool
+        ensures { result ≡ has_division (Some queue.now) (file_at self.now number) }
+    {
+        match self.get(number) {
+            Some(file) => file.division() == queue.clock().division(),
+            None => false,
+        }
+    }
+}

@@ -1,0 +1,37 @@
+//! What clients ask of their pools.
+
+ghost use Rattle.std.specs.Prelude.{◌≡◌, [], None, IfOk};
+ghost use Rattle.seq_state.specs.declared.input.Command.{Command};
+ghost use Rattle.seq_state.specs.declared.log.Reply.{Reply};
+ghost use Rattle.seq_settle.specs.Cells.{AreCells};
+ghost use Rattle.seq_commands.specs.Whole.{refusal_in, step_in, GivesKept};
+
+use crate::sequencer::{Sequencer, Turn};
+use memory::{Items, OutOfMemory};
+use seq_state::{Arrival, Reply};
+
+impl Sequencer<'_> {
+    /// Takes the oldest of what waits in the actor's input pool. Memory is for the answer alone.
+    pub(crate) fn receive(&mut self, turn: Turn, max: u32) -> Result<Items<Arrival>, OutOfMemory>
+        requires accepted { refusal_in self.old turn (Command.Receive max) ≡ None }
+        ensures { let step = step_in self.old turn (Command.Receive max) in
+            IfOk result (λ items. GivesKept self.old self.new step (Reply.Received items) []) }
+    {
+        let items = self.patchbay.clients.receive(turn.actor, max)?;
+        Ok(Items::new(items))
+    }
+
+    /// How full the actor's pools are.
+    pub(crate) fn pool_status(&self, turn: Turn) -> Reply
+        requires cells { AreCells self.now.cells.cells self.now.steps }
+        requires accepted { refusal_in self.now turn Command.PoolStatus ≡ None }
+        ensures { let step = step_in self.now turn Command.PoolStatus in
+            GivesKept self.now self.now step result [] }
+    {
+        Reply::Pools {
+            waiting: self.patchbay.clients.waiting(turn.actor),
+            lost: self.patchbay.clients.lost(turn.actor),
+            used: self.cells.used(turn.actor),
+        }
+    }
+}

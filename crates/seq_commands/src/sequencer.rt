@@ -1,0 +1,96 @@
+//! What a sequencer has.
+
+ghost use Rattle.std.specs.Prelude.{◌≡◌, ◌++◌, IsOk, OnOk};
+ghost use Rattle.agenda_heap.specs.Due.{NoneDue};
+ghost use Rattle.seq_state.specs.State.{start};
+ghost use Rattle.seq_state.specs.Step.{settle};
+ghost use Rattle.seq_settle.specs.Cells.{AreCells, AreKeys};
+ghost use Rattle.seq_commands.specs.Whole.{state_of, clients_of};
+
+use crate::files::Files;
+use agenda_heap::Agenda;
+use memory::OutOfMemory;
+use node_table::ClientId;
+use seq_patchbay::Patchbay;
+use seq_settle::{Cells, settle_all};
+use seq_state::Delivery;
+use std::alloc::Global;
+
+/// Who says a command, and when.
+#[derive(Clone, Copy, Debug, Drop)]
+pub struct Turn {
+    /// In nanoseconds from the beginning of the run.
+    pub moment: u64,
+    pub actor: ClientId,
+}
+
+/// The clients with their subscriptions, what is still to be sent, and the files that may be played.
+///
+/// When what is to be sent is due stands in an agenda beside it, which each call that needs it is given.
+#[derive(Drop)]
+pub struct Sequencer<'b> {
+    pub(crate) alloc: Global,
+    pub(crate) patchbay: Patchbay,
+    pub(crate) cells: Cells<'b>,
+    pub(crate) files: Files<'b>,
+    /// How many inputs it has taken.
+    pub(crate) steps: u64,
+}
+
+impl<'b> Sequencer<'b> {
+    /// Nobody is open. It takes no memory yet.
+    pub fn new(alloc: Global, files: Files<'b>) -> Sequencer<'b>
+        ensures state { state_of result ≡ start }
+        ensures files { result.files ≡ files.entry }
+        ensures steps { result.steps ≡ 0 }
+        ensures cells { AreCells result.cells.cells 0 }
+    {
+        Sequencer {
+            alloc,
+            patchbay: Patchbay::new(alloc),
+            cells: Cells::new(alloc),
+            files,
+            steps: 0,
+        }
+    }
+
+    /// How many inputs it has taken.
+    pub fn steps(&self) -> u64
+        ensures { result ≡ self.now.steps }
+    {
+        self.steps
+    }
+
+    /// Sends all that is due by a moment, in nanoseconds, and adds what came to ports to `out`.
+    ///
+    /// Want of memory may leave the agenda without some of what is still to be sent.
+    pub fn settle<A: Agenda>(
+        &mut self,
+        agenda: &mut A,
+        moment: u64,
+        out: &mut Vec<Delivery>,
+    ) -> Result<(), OutOfMemory>
+        requires cells { AreCells self.old.cells.cells self.old.steps }
+        requires keys { AreKeys (clients_of self.old) self.old.cells.cells (A.content agenda.old) }
+        ensures state { OnOk result (state_of self.new ≡ (settle (state_of self.old) moment).state) }
+        ensures sent { OnOk result (out.new.items
+            ≡ out.old.items ++ (settle (state_of self.old) moment).delivered) }
+        ensures cells { OnOk result (AreCells self.new.cells.cells self.new.steps) }
+        ensures keys { OnOk result
+            (AreKeys (clients_of self.new) self.new.cells.cells (A.content agenda.new)) }
+        ensures files { self.new.files ≡ self.old.files }
+        ensures steps { self.new.steps ≡ self.old.steps }
+
+        // Where nothing is due no memory is asked for.
+        ensures idle { NoneDue (A.content agenda.old) moment → IsOk result }
+    {
+        settle_all(
+            &mut self.patchbay,
+            &mut self.cells,
+            agenda,
+            self.steps,
+            moment,
+            out,
+        )
+    }
+}

@@ -1,0 +1,304 @@
+//! Who is there, as text.
+
+ghost use Rattle.std.specs.Prelude.{◌≡◌, ◌++◌, OnOk, IfOk, slice_get};
+ghost use Rattle.std.specs.FinMap as map;
+ghost use Rattle.seq_state.specs.Own.{port_of, filter_of, queue_of};
+ghost use Rattle.seq_patchbay.specs.Listing.{client_line, port_line, rule_text, channel_text, filter_line, queue_line, edge_line, client_lines, port_lines, filter_lines, queue_lines, edge_lines, client_texts, port_texts, filter_texts, queue_texts, edge_texts, listing};
+
+use crate::patchbay::Patchbay;
+use bitflags::Flags;
+use memory::OutOfMemory;
+use node_table::{Addr, Caps, ClientId, FilterNo, Node, PortNo, QueueAddr, QueueNo};
+use patch_graph::PatchGraph;
+use route_filter::RuleArgs;
+use seq_clients::{Clients, Queue};
+use std::alloc::Global;
+
+impl Patchbay {
+    /// Who is there, as text: a line for each open client by number, with its ports, its filters and its queues by number,
+    /// and then one for each subscription, the oldest first.
+    pub fn listing(&self, alloc: Global) -> Result<Vec<u8>, OutOfMemory>
+        ensures { IfOk result (λ text.
+            text.items ≡ listing self.now.clients.clients self.now.graph) }
+    {
+        let mut text = Vec::new(alloc);
+        list_clients(alloc, &self.clients, &mut text)?;
+        list_edges(alloc, &self.graph, &mut text)?;
+        Ok(text)
+    }
+}
+
+/// Adds the lines of every open client, by number.
+fn list_clients(alloc: Global, clients: &Clients, out: &mut Vec<u8>) -> Result<(), OutOfMemory>
+    ensures { OnOk result (out.new.items ≡ out.old.items ++ client_texts clients.now.clients) }
+{
+    for number in 128..192 {
+        list_client_at(alloc, clients, ClientId::new(number).unwrap(), out)?;
+    }
+    Ok(())
+}
+
+/// Adds the lines of a client, if it is open.
+fn list_client_at(
+    alloc: Global,
+    clients: &Clients,
+    client: ClientId,
+    out: &mut Vec<u8>,
+) -> Result<(), OutOfMemory>
+    ensures { let c = map.get clients.now.clients client in
+        OnOk result (out.new.items ≡ out.old.items ++ client_lines client c) }
+{
+    if let Some(name) = clients.name(client) {
+        let in_size = clients.in_size(client);
+        let out_size = clients.out_size(client);
+        list_client(alloc, client, name, in_size, out_size, out)?;
+        list_ports(alloc, clients, client, out)?;
+        list_filters(alloc, clients, client, out)?;
+        list_queues(alloc, clients, client, out)?;
+    }
+    Ok(())
+}
+
+fn list_client(
+    alloc: Global,
+    client: ClientId,
+    name: &[u8],
+    in_size: u32,
+    out_size: u32,
+    out: &mut Vec<u8>,
+) -> Result<(), OutOfMemory>
+    ensures { let line = client_line client name.now in_size out_size in
+        OnOk result (out.new.items ≡ out.old.items ++ line) }
+{
+    out.extend_from_slice(format!(in alloc; "client {client} ")?.as_bytes())?;
+    out.extend_from_slice(name)?;
+    out.extend_from_slice(format!(in alloc; " in {in_size} out {out_size}\n")?.as_bytes())?;
+    Ok(())
+}
+
+fn list_ports(
+    alloc: Global,
+    clients: &Clients,
+    client: ClientId,
+    out: &mut Vec<u8>,
+) -> Result<(), OutOfMemory>
+    ensures { let c = map.get clients.now.clients client in
+        OnOk result (out.new.items ≡ out.old.items ++ port_texts client c) }
+{
+    for number in 0..16 {
+        list_port_at(alloc, clients, client, PortNo::new(number).unwrap(), out)?;
+    }
+    Ok(())
+}
+
+/// Adds the line of a port, if it is there.
+fn list_port_at(
+    alloc: Global,
+    clients: &Clients,
+    client: ClientId,
+    port: PortNo,
+    out: &mut Vec<u8>,
+) -> Result<(), OutOfMemory>
+    ensures { let p = port_of (map.get clients.now.clients client) port in
+        OnOk result (out.new.items ≡ out.old.items ++ port_lines client port p) }
+{
+    let node = Node::Port(port);
+    if let Some(caps) = clients.caps(&Addr { client, node }) {
+        if let Some(name) = clients.port_name(client, port) {
+            list_port(alloc, client, port, name, caps, out)?;
+        }
+    }
+    Ok(())
+}
+
+fn list_port(
+    alloc: Global,
+    client: ClientId,
+    port: PortNo,
+    name: &[u8],
+    caps: Caps,
+    out: &mut Vec<u8>,
+) -> Result<(), OutOfMemory>
+    ensures { let line = port_line client port name.now caps.0 in
+        OnOk result (out.new.items ≡ out.old.items ++ line) }
+{
+    out.extend_from_slice(format!(in alloc; "port {client}:p{port} ")?.as_bytes())?;
+    out.extend_from_slice(name)?;
+    let bits = caps.bits();
+    out.extend_from_slice(format!(in alloc; " {bits}\n")?.as_bytes())?;
+    Ok(())
+}
+
+fn list_filters(
+    alloc: Global,
+    clients: &Clients,
+    client: ClientId,
+    out: &mut Vec<u8>,
+) -> Result<(), OutOfMemory>
+    ensures { let c = map.get clients.now.clients client in
+        OnOk result (out.new.items ≡ out.old.items ++ filter_texts client c) }
+{
+    for number in 0..16 {
+        list_filter_at(alloc, clients, client, FilterNo::new(number).unwrap(), out)?;
+    }
+    Ok(())
+}
+
+/// Adds the line of a filter, if it is there.
+fn list_filter_at(
+    alloc: Global,
+    clients: &Clients,
+    client: ClientId,
+    filter: FilterNo,
+    out: &mut Vec<u8>,
+) -> Result<(), OutOfMemory>
+    ensures { let f = filter_of (map.get clients.now.clients client) filter in
+        OnOk result (out.new.items ≡ out.old.items ++ filter_lines client filter f) }
+{
+    let node = Node::Filter(filter);
+    if let Some(caps) = clients.caps(&Addr { client, node }) {
+        if let Some(rule) = clients.rule(client, filter) {
+            list_filter(alloc, client, filter, caps, &rule.args(), out)?;
+        }
+    }
+    Ok(())
+}
+
+fn list_filter(
+    alloc: Global,
+    client: ClientId,
+    filter: FilterNo,
+    caps: Caps,
+    rule: &RuleArgs,
+    out: &mut Vec<u8>,
+) -> Result<(), OutOfMemory>
+    ensures { let line = filter_line client filter caps.0 rule.now in
+        OnOk result (out.new.items ≡ out.old.items ++ line) }
+{
+    let bits = caps.bits();
+    out.extend_from_slice(format!(in alloc; "filter {client}:f{filter} {bits}")?.as_bytes())?;
+    list_rule(alloc, rule, out)?;
+    list_channel(alloc, rule.channel, out)?;
+    out.extend_from_slice(b"\n")?;
+    Ok(())
+}
+
+fn list_rule(alloc: Global, rule: &RuleArgs, out: &mut Vec<u8>) -> Result<(), OutOfMemory>
+    ensures { OnOk result (out.new.items ≡ out.old.items ++ rule_text rule.now) }
+{
+    let RuleArgs {
+        channels,
+        kinds,
+        low,
+        high,
+        shift,
+        channel: _,
+    } = *rule;
+    out.extend_from_slice(format!(in alloc; " {channels} {kinds}")?.as_bytes())?;
+    out.extend_from_slice(format!(in alloc; " {low} {high} {shift}")?.as_bytes())?;
+    Ok(())
+}
+
+/// Adds the channel that a rule gives, if it gives one.
+fn list_channel(alloc: Global, channel: Option<u8>, out: &mut Vec<u8>) -> Result<(), OutOfMemory>
+    ensures { OnOk result (out.new.items ≡ out.old.items ++ channel_text channel) }
+{
+    if let Some(channel) = channel {
+        out.extend_from_slice(format!(in alloc; " {channel}")?.as_bytes())?;
+    }
+    Ok(())
+}
+
+fn list_queues(
+    alloc: Global,
+    clients: &Clients,
+    client: ClientId,
+    out: &mut Vec<u8>,
+) -> Result<(), OutOfMemory>
+    ensures { let c = map.get clients.now.clients client in
+        OnOk result (out.new.items ≡ out.old.items ++ queue_texts client c) }
+{
+    for number in 0..8 {
+        list_queue_at(alloc, clients, client, QueueNo::new(number).unwrap(), out)?;
+    }
+    Ok(())
+}
+
+/// Adds the line of a queue, if it is there.
+fn list_queue_at(
+    alloc: Global,
+    clients: &Clients,
+    client: ClientId,
+    queue: QueueNo,
+    out: &mut Vec<u8>,
+) -> Result<(), OutOfMemory>
+    ensures { let q = queue_of (map.get clients.now.clients client) queue in
+        OnOk result (out.new.items ≡ out.old.items ++ queue_lines client queue q) }
+{
+    if let Some(held) = clients.queue(&QueueAddr { client, queue }) {
+        list_queue(alloc, client, queue, held, out)?;
+    }
+    Ok(())
+}
+
+fn list_queue(
+    alloc: Global,
+    client: ClientId,
+    queue: QueueNo,
+    held: &Queue,
+    out: &mut Vec<u8>,
+) -> Result<(), OutOfMemory>
+    ensures { let line = queue_line client queue held.now in
+        OnOk result (out.new.items ≡ out.old.items ++ line) }
+{
+    out.extend_from_slice(format!(in alloc; "queue {client}:q{queue}")?.as_bytes())?;
+    let state = if held.clock().running() {
+        b" running"
+    } else {
+        b" stopped"
+    };
+    out.extend_from_slice(state)?;
+    if held.is_shared() {
+        out.extend_from_slice(b" shared")?;
+    }
+    out.extend_from_slice(b"\n")?;
+    Ok(())
+}
+
+/// Adds the lines of the subscriptions, oldest first.
+fn list_edges(alloc: Global, graph: &PatchGraph, out: &mut Vec<u8>) -> Result<(), OutOfMemory>
+    ensures { OnOk result (out.new.items ≡ out.old.items ++ edge_texts graph.now) }
+{
+    for index in 0..graph.len() {
+        list_edge_at(alloc, graph, index, out)?;
+    }
+    Ok(())
+}
+
+/// Adds the line of the subscription with this place in the order of age, if there is one.
+fn list_edge_at(
+    alloc: Global,
+    graph: &PatchGraph,
+    index: usize,
+    out: &mut Vec<u8>,
+) -> Result<(), OutOfMemory>
+    ensures { let e = slice_get graph.now index in
+        OnOk result (out.new.items ≡ out.old.items ++ edge_lines e) }
+{
+    if let Some((source, target)) = graph.edge(index) {
+        list_edge(alloc, &source, &target, out)?;
+    }
+    Ok(())
+}
+
+fn list_edge(
+    alloc: Global,
+    source: &Addr,
+    target: &Addr,
+    out: &mut Vec<u8>,
+) -> Result<(), OutOfMemory>
+    ensures { OnOk result (out.new.items ≡ out.old.items ++ edge_line source.now target.now) }
+{
+    out.extend_from_slice(format!(in alloc; "edge {source} {target}\n")?.as_bytes())?;
+    Ok(())
+}
