@@ -1,5 +1,6 @@
 -- From one input to the next.
-use Rattle.std.proofs.Common.{◌≡◌, ℕ, ◌+◌, ◌≤◌, List, [], ◌++◌, Option, Some, None, sym, ap, subst, ◌∙◌, append-nil}
+use Rattle.std.proofs.Common.{◌≡◌, ℕ, ◌+◌, ◌<◌, ◌≤◌, true, List, [], ◌++◌, Option, Some, None, refl, sym, ap, subst, ◌∙◌, append-nil, arith}
+use Rattle.std.specs.Ordering.{nat_cmp}
 use Rattle.std.specs.FinMap
 use Rattle.std.specs.List.{list_all}
 use Rattle.seq_state.specs.Laws.{has_ticks}
@@ -10,16 +11,16 @@ use Rattle.seq_state.specs.declared.log.Reply.{Reply}
 use Rattle.seq_state.specs.declared.log.Reply.TheVariants.{Refused}
 use Rattle.seq_state.specs.declared.refusal.Refusal.{Refusal}
 use Rattle.seq_state.specs.Refusals.{number_of}
-use Rattle.seq_state.specs.State.{State, Pending}
+use Rattle.seq_state.specs.State.{State, Pending, start}
 use Rattle.seq_state.specs.Step.{IsRefusal, Stepped, unless, asked, refusal_of, effect_of, command_step, settle, step}
 use Rattle.seq_state.proofs.Refused.{row_tells}
-use Rattle.seq_settle.specs.Cells.{AreCells, AreKeys}
+use Rattle.seq_settle.specs.Cells.{Cell, key_of, AreCells, AreKeys}
 use Rattle.seq_settle.proofs.Stores.{playbacks-later}
 use Rattle.seq_settle.proofs.Added.{later_cells}
 use Rattle.seq_commands.specs.declared.sequencer.Sequencer.{Sequencer}
 use Rattle.seq_commands.specs.declared.sequencer.Turn.{Turn}
 use Rattle.seq_commands.specs.Whole.{Keys, clients_of, state_of, IsSound, IsWhole, turn_of, refusal_in, step_in, GivesKept, Gives}
-use Rattle.seq_commands.proofs.Sound.{sound-settled, sound-done}
+use Rattle.seq_commands.proofs.Sound.{sound-start, sound-settled, sound-done}
 
 -- ---- an input is counted
 
@@ -108,3 +109,20 @@ module _ (old : Sequencer) (t : Turn) (keys : Keys) (command : Command) (out : L
   pub sent-given : (x : Command) (new : Sequencer) (reply : Reply) (now : List Delivery) → command ≡ x → IsWhole old keys t.moment → GivesKept old new (step_in old t x) reply (step_in old t x).delivered →
       now ≡ out ++ (step_in old t x).delivered → GivesAll old new keys (step_in old t command) reply out now
   sent-given x new reply now e w g s = ((step_in old t x).delivered, s, subst (λ c. Gives old new keys (step_in old t c) reply (step_in old t x).delivered) (sym e) (g keys t.moment w))
+
+-- ---- at first
+
+pub new-whole : (s : Sequencer) (agenda : Keys) → list_all has_ticks s.files ≡ true → state_of s ≡ start → s.steps ≡ 0 → AreCells s.cells.cells 0 → agenda ≡ FinMap.empty → IsWhole s agenda 0
+new-whole s agenda ticks state steps are none = record {
+  files = ticks;
+  cells = subst (λ n. AreCells s.cells.cells n) (sym steps) are;
+  keys = record { keyed = λ q. ap (λ m. FinMap.get m q) none ∙ FinMap.get-empty nat_cmp q ∙ sym (ap (key_of (clients_of s)) (absent q)) };
+  sound = subst (λ x. IsSound x 0) (sym state) sound-start;
+}
+  where
+    absent : (q : ℕ) → FinMap.get s.cells.cells q ≡ None
+    absent q = go (FinMap.get s.cells.cells q) refl
+      where
+        go : (o : Option Cell) → FinMap.get s.cells.cells q ≡ o → o ≡ None
+        go None e = refl
+        go (Some c) e = let l : c.1.rank < 0 = are.early q c e in absurd (omega arith)

@@ -17,7 +17,3 @@ on_ok-three (Err e) f p q s = p
 pub if_ok-both : {X E Q : Type 0} {P S : X → Type 0} (r : Result X E) → ((x : X) → P x → Q → S x) → IfOk r P → OnOk r Q → IfOk r S
 if_ok-both (Ok x) f p q = f x p q
 if_ok-both (Err e) f p q = p
-
-pub on_ok-of : {X E Q : Type 0} {P : X → Type 0} (r : Result X E) → ((x : X) → P x → Q) → IfOk r P → OnOk r Q
-on_ok-of (Ok x) f p = f x p
-on_ok-of (Err e) f p = p

@@ -1,6 +1,6 @@
 //! Which command does what.
 
-ghost use Rattle.std.specs.Prelude.{◌≡◌, ℕ, ◌≤◌, ◌<◌, ◌+◌, ◌-◌, ◌^◌, ◌++◌, true, IsOk, IfOk, OnOk};
+ghost use Rattle.std.specs.Prelude.{◌≡◌, ℕ, ◌≤◌, ◌<◌, ◌+◌, ◌-◌, ◌^◌, ◌++◌, true, IsOk, IfOk, OnOk, OnErr};
 ghost use Rattle.agenda_heap.specs.Due.{NoneDue};
 ghost use Rattle.seq_state.specs.Step.{IsRefusal};
 ghost use Rattle.seq_settle.specs.Cells.{AreCells};
@@ -33,6 +33,7 @@ impl Sequencer<'_> {
         ensures whole { OnOk result (IsWhole self.new (A.content agenda.new) input.now.moment) }
         ensures files { OnOk result (self.new.files ≡ self.old.files) }
         ensures steps { OnOk result (self.new.steps ≡ self.old.steps + 1) }
+        ensures same_steps { OnErr result (self.new.steps ≡ self.old.steps) }
 
         // Where nothing is due, a refused command asks for no memory, nor do these.
         ensures quiet { NoneDue (A.content agenda.old) input.now.moment →
@@ -62,6 +63,7 @@ impl Sequencer<'_> {
         ensures whole { OnOk result (IsWhole self.new (A.content agenda.new) input.now.moment) }
         ensures files { OnOk result (self.new.files ≡ self.old.files) }
         ensures steps { OnOk result (self.new.steps ≡ self.old.steps + 1) }
+        ensures same_steps { OnErr result (self.new.steps ≡ self.old.steps) }
 
         // A refused command asks for no memory, nor do these.
         ensures quiet { IsRefusal (command_step self.old input.now).reply → IsOk result }
@@ -72,7 +74,14 @@ impl Sequencer<'_> {
         if let Some(refusal) = self.refusal(turn_of(input), &input.command) {
             return Ok(Reply::Refused(refusal.number()));
         }
-        self.carry_out(agenda, turn_of(input), rank, &input.command, out)
+        match self.carry_out(agenda, turn_of(input), rank, &input.command, out) {
+            Ok(reply) => Ok(reply),
+            Err(failed) => {
+                // An input that found no memory does not count.
+                self.steps = rank;
+                Err(failed)
+            }
+        }
     }
 
     /// The refusal with the lowest number of those that stand.

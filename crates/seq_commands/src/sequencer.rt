@@ -1,10 +1,11 @@
 //! What a sequencer has.
 
-ghost use Rattle.std.specs.Prelude.{◌≡◌, ◌++◌, IsOk, OnOk};
+ghost use Rattle.std.specs.Prelude.{◌≡◌, ◌++◌, IsOk, IfOk, OnOk};
 ghost use Rattle.agenda_heap.specs.Due.{NoneDue};
 ghost use Rattle.seq_state.specs.State.{start};
 ghost use Rattle.seq_state.specs.Step.{settle};
 ghost use Rattle.seq_settle.specs.Cells.{AreCells, AreKeys};
+ghost use Rattle.seq_patchbay.specs.Listing.{listing};
 ghost use Rattle.seq_commands.specs.Whole.{state_of, clients_of};
 
 use crate::files::Files;
@@ -92,5 +93,14 @@ impl<'b> Sequencer<'b> {
             moment,
             out,
         )
+    }
+
+    /// Who is there, as text: a line for each open client by number, each with its ports, filters and queues by number, and
+    /// then one for each subscription, the oldest first.
+    pub fn listing(&self) -> Result<Vec<u8>, OutOfMemory>
+        ensures { IfOk result (λ text. text.items
+            ≡ listing (clients_of self.now) self.now.patchbay.graph) }
+    {
+        self.patchbay.listing(self.alloc)
     }
 }

@@ -1,0 +1,4 @@
+pub mod Logs
+pub mod Lasting
+pub mod Heard
+pub mod Idle
