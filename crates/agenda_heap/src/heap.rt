@@ -23,7 +23,7 @@ const SLACK: usize = 64;
 
 /// An agenda in logarithmic time, over a heap of entries: a cell that goes or gets another key leaves its entry behind.
 ///
-/// An entry is stale where its cell is gone or has another key by now, and of equal entries all but one are. A call
+/// An entry is stale once its cell went or got another key, and of equal entries all but one are. A call
 /// after which more than two entries for each cell and 64 would stand drops the stale ones, more than half of all, in
 /// linear time and in place: each entry is dropped once, so this adds a constant to the call that left it.
 ///

@@ -1,9 +1,9 @@
 //! Sources and sinks of bytes.
 //!
-//! A device is seen as its bytes left or taken, where it tells them, and as a mark that
-//! `has_failed` answers, which is not set at first. `Ok(n)` moves the first `n` bytes, and at least
-//! one where a source has bytes left and the buffer has room. `Err` moves none and alone sets the
-//! mark, after which each read or write answers `Err`.
+//! A device is seen as what it has still to give or has taken, where it tells that, and as a mark
+//! that `has_failed` answers, which is not set at first. `Ok(n)` moves the first `n` bytes; a source
+//! that is not empty gives a buffer with room one byte or more. `Err` moves no byte and sets the
+//! mark, which nothing else does, and a marked device answers nothing but `Err`.
 //!
 //! The devices over memory say exactly what each call does, and can be told to fail at one call.
 //! The devices over a reader or a writer of the standard library keep the one that they were given,

@@ -13,6 +13,18 @@ fn items_give_back_their_vector(rt: HostRuntime) -> Result<(), Fail> {
 }
 
 #[test]
+fn items_are_equal_by_their_elements(rt: HostRuntime) -> Result<(), Fail> {
+    let mut with_room = Vec::with_capacity(rt.alloc(), 8)?;
+    with_room.extend_from_slice(&[1u8, 2])?;
+    let one = Items::new(with_room);
+    let same = Items::new([1u8, 2].to_vec(rt.alloc())?);
+    let other = Items::new([1u8, 3].to_vec(rt.alloc())?);
+    assert!(rt; one == same);
+    assert!(rt; one != other);
+    Ok(())
+}
+
+#[test]
 fn a_refused_growth_has_its_words(rt: HostRuntime) -> Result<(), Fail> {
     let text = OutOfMemory.to_string(rt.alloc())?;
     assert_eq!(rt; text.as_str(), "out of memory");

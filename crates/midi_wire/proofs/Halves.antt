@@ -3,7 +3,7 @@ use Rattle.std.proofs.Common.{◌≡◌, ℕ, ◌+◌, ◌≤◌, ◌<◌, Bool,
 use Rattle.std.specs.Prelude.{if◌then◌else◌, ◌==◌}
 use Rattle.std.proofs.lemmas.Bool.{cases_Bool, ne_eqb}
 use Rattle.midi_wire.specs.Messages.{StatusClass, Channel, Common, TuneRequest, Exclusive, RealTime, Nothing, begins, is_real_time}
-use Rattle.midi_wire.specs.Readings.{Placed, PlacedMessage, placed_from, real_times, without_real_times, blocks, all_given, stream_blocks, placed_messages, at, by_place, reading, rest, last_matters, real_time}
+use Rattle.midi_wire.specs.Readings.{Placed, PlacedMessage, placed_from, real_times, without_real_times, blocks, all_given, stream_blocks, placed_messages, messages_at, by_place, reading, rest, last_matters, real_time}
 use Rattle.midi_wire.proofs.Blocks.{placed, placed_from-snoc, real_times-append, without-append, add, blocks-snoc}
 use Rattle.midi_wire.proofs.Table.{below_real}
 use Rattle.midi_wire.proofs.Steps.{all_at, gained, left, real_of, step_gives, step_leaves, all_given-add, last_matters-add}
@@ -120,30 +120,30 @@ messages_below s = messages_below-on [] s tt
 
 -- ---- the messages of one place
 
-at-append : (p : ℕ) (a b : List PlacedMessage) → at p (a ++ b) ≡ at p a ++ at p b
+at-append : (p : ℕ) (a b : List PlacedMessage) → messages_at p (a ++ b) ≡ messages_at p a ++ messages_at p b
 at-append p [] b = refl
 at-append p (t ∷ a) b =
     go (t.place == p) (at-append p a b)
   where
-    go : (k : Bool) → at p (a ++ b) ≡ at p a ++ at p b → (if k then (t.message ∷ at p (a ++ b)) else at p (a ++ b)) ≡ (if k then (t.message ∷ at p a) else at p a) ++ at p b
+    go : (k : Bool) → messages_at p (a ++ b) ≡ messages_at p a ++ messages_at p b → (if k then (t.message ∷ messages_at p (a ++ b)) else messages_at p (a ++ b)) ≡ (if k then (t.message ∷ messages_at p a) else messages_at p a) ++ messages_at p b
     go true ih = ap (λ ms. t.message ∷ ms) ih
     go false ih = ih
 
-at-same : (n : ℕ) (ms : List (List ℕ)) → at n (all_at n ms) ≡ ms
+at-same : (n : ℕ) (ms : List (List ℕ)) → messages_at n (all_at n ms) ≡ ms
 at-same n [] = refl
-at-same n (m ∷ ms) = ap (λ k. if k then (m ∷ at n (all_at n ms)) else at n (all_at n ms)) (eq-eqb n n refl) ∙ ap (λ xs. m ∷ xs) (at-same n ms)
+at-same n (m ∷ ms) = ap (λ k. if k then (m ∷ messages_at n (all_at n ms)) else messages_at n (all_at n ms)) (eq-eqb n n refl) ∙ ap (λ xs. m ∷ xs) (at-same n ms)
 
-at-other : (p n : ℕ) (ms : List (List ℕ)) → p < n → at p (all_at n ms) ≡ []
+at-other : (p n : ℕ) (ms : List (List ℕ)) → p < n → messages_at p (all_at n ms) ≡ []
 at-other p n [] l = refl
-at-other p n (m ∷ ms) l = ap (λ k. if k then (m ∷ at p (all_at n ms)) else at p (all_at n ms)) (ne_eqb n p (λ e. absurd (omega (arith, e, l)))) ∙ at-other p n ms l
+at-other p n (m ∷ ms) l = ap (λ k. if k then (m ∷ messages_at p (all_at n ms)) else messages_at p (all_at n ms)) (ne_eqb n p (λ e. absurd (omega (arith, e, l)))) ∙ at-other p n ms l
 
-at-below : (n : ℕ) (ts : List PlacedMessage) → AllBelow n ts → at n ts ≡ []
+at-below : (n : ℕ) (ts : List PlacedMessage) → AllBelow n ts → messages_at n ts ≡ []
 at-below n [] p = refl
-at-below n (t ∷ ts) p = ap (λ k. if k then (t.message ∷ at n ts) else at n ts) (ne_eqb t.place n (λ e. absurd (omega (arith, e, p.0)))) ∙ at-below n ts p.1
+at-below n (t ∷ ts) p = ap (λ k. if k then (t.message ∷ messages_at n ts) else messages_at n ts) (ne_eqb t.place n (λ e. absurd (omega (arith, e, p.0)))) ∙ at-below n ts p.1
 
 by_place-append : (xs ys : List Placed) (ts : List PlacedMessage) → by_place (xs ++ ys) ts ≡ by_place xs ts ++ by_place ys ts
 by_place-append [] ys ts = refl
-by_place-append (x ∷ xs) ys ts = ap (λ ms. at x.place ts ++ ms) (by_place-append xs ys ts) ∙ sym (append_assoc (at x.place ts) (by_place xs ts) (by_place ys ts))
+by_place-append (x ∷ xs) ys ts = ap (λ ms. messages_at x.place ts ++ ms) (by_place-append xs ys ts) ∙ sym (append_assoc (messages_at x.place ts) (by_place xs ts) (by_place ys ts))
 
 -- what stands at a later place changes no earlier one
 by_place-later : (k : ℕ) (s : List ℕ) (a b : List PlacedMessage) (n : ℕ) (f g : List (List ℕ)) → k + length s ≤ n → by_place (placed_from k s) ((a ++ all_at n f) ++ (b ++ all_at n g)) ≡ by_place (placed_from k s) (a ++ b)
@@ -151,19 +151,19 @@ by_place-later k [] a b n f g l = refl
 by_place-later k (c ∷ s) a b n f g l =
     let before : k < n = omega arith in
     let later : (k + 1) + length s ≤ n = omega arith in
-    let here : at k ((a ++ all_at n f) ++ (b ++ all_at n g)) ≡ at k (a ++ b) =
+    let here : messages_at k ((a ++ all_at n f) ++ (b ++ all_at n g)) ≡ messages_at k (a ++ b) =
     at-append k (a ++ all_at n f) (b ++ all_at n g)
-    ∙ ap (λ ms. ms ++ at k (b ++ all_at n g)) (at-append k a (all_at n f) ∙ ap (λ ms. at k a ++ ms) (at-other k n f before) ∙ append-nil (at k a))
-    ∙ ap (λ ms. at k a ++ ms) (at-append k b (all_at n g) ∙ ap (λ ms. at k b ++ ms) (at-other k n g before) ∙ append-nil (at k b))
+    ∙ ap (λ ms. ms ++ messages_at k (b ++ all_at n g)) (at-append k a (all_at n f) ∙ ap (λ ms. messages_at k a ++ ms) (at-other k n f before) ∙ append-nil (messages_at k a))
+    ∙ ap (λ ms. messages_at k a ++ ms) (at-append k b (all_at n g) ∙ ap (λ ms. messages_at k b ++ ms) (at-other k n g before) ∙ append-nil (messages_at k b))
     ∙ sym (at-append k a b) in
     ap (λ ms. ms ++ by_place (placed_from (k + 1) s) ((a ++ all_at n f) ++ (b ++ all_at n g))) here
-    ∙ ap (λ ms. at k (a ++ b) ++ ms) (by_place-later (k + 1) s a b n f g later)
+    ∙ ap (λ ms. messages_at k (a ++ b) ++ ms) (by_place-later (k + 1) s a b n f g later)
 
-at-last : (n : ℕ) (a b : List PlacedMessage) (f g : List (List ℕ)) → AllBelow n a → AllBelow n b → at n ((a ++ all_at n f) ++ (b ++ all_at n g)) ≡ f ++ g
+at-last : (n : ℕ) (a b : List PlacedMessage) (f g : List (List ℕ)) → AllBelow n a → AllBelow n b → messages_at n ((a ++ all_at n f) ++ (b ++ all_at n g)) ≡ f ++ g
 at-last n a b f g p q =
     at-append n (a ++ all_at n f) (b ++ all_at n g)
-    ∙ ap (λ ms. ms ++ at n (b ++ all_at n g)) (at-append n a (all_at n f) ∙ ap (λ ms. ms ++ at n (all_at n f)) (at-below n a p) ∙ at-same n f)
-    ∙ ap (λ ms. f ++ ms) (at-append n b (all_at n g) ∙ ap (λ ms. ms ++ at n (all_at n g)) (at-below n b q) ∙ at-same n g)
+    ∙ ap (λ ms. ms ++ messages_at n (b ++ all_at n g)) (at-append n a (all_at n f) ∙ ap (λ ms. ms ++ messages_at n (all_at n f)) (at-below n a p) ∙ at-same n f)
+    ∙ ap (λ ms. f ++ ms) (at-append n b (all_at n g) ∙ ap (λ ms. ms ++ messages_at n (all_at n g)) (at-below n b q) ∙ at-same n g)
 
 -- ---- reading one more byte
 
@@ -177,7 +177,7 @@ reading-snoc s b =
     ∙ ap (λ xs. by_place xs (all_messages s b)) (placed_from-snoc 0 s b ∙ ap (λ (k : ℕ). placed_from 0 s ++ placed k b ∷ []) zero_plus)
     ∙ by_place-append (placed_from 0 s) (placed (length s) b ∷ []) (all_messages s b)
     ∙ ap (λ ms. ms ++ by_place (placed (length s) b ∷ []) (all_messages s b)) (by_place-later 0 s (all_given (stream_blocks s)) (real_times (placed_from 0 s)) (length s) (gives_by_blocks (is_real_time b) (rest s) b) (gives_in_real_time (is_real_time b) b) within)
-    ∙ ap (λ ms. by_place (placed_from 0 s) (placed_messages s) ++ ms) (append-nil (at (length s) (all_messages s b)) ∙ at-last (length s) (all_given (stream_blocks s)) (real_times (placed_from 0 s)) (gives_by_blocks (is_real_time b) (rest s) b) (gives_in_real_time (is_real_time b) b) (below-first _ (all_given (stream_blocks s)) (real_times (placed_from 0 s)) (messages_below s)) (below-second _ (all_given (stream_blocks s)) (real_times (placed_from 0 s)) (messages_below s)) ∙ go (is_real_time b))
+    ∙ ap (λ ms. by_place (placed_from 0 s) (placed_messages s) ++ ms) (append-nil (messages_at (length s) (all_messages s b)) ∙ at-last (length s) (all_given (stream_blocks s)) (real_times (placed_from 0 s)) (gives_by_blocks (is_real_time b) (rest s) b) (gives_in_real_time (is_real_time b) b) (below-first _ (all_given (stream_blocks s)) (real_times (placed_from 0 s)) (messages_below s)) (below-second _ (all_given (stream_blocks s)) (real_times (placed_from 0 s)) (messages_below s)) ∙ go (is_real_time b))
   where
     zero_plus : 0 + length s ≡ length s
     zero_plus = omega arith

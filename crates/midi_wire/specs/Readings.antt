@@ -1,7 +1,7 @@
 -- The messages of a stream, and what of its end still matters.
 --
--- F8 to FF are taken out, and F8, FA, FB, FC, FE and FF are messages at their places. What is left is cut into
--- blocks, each a status with the data up to the next status, and a block gives messages by what its status begins:
+-- F8 to FF are taken out, and F8, FA, FB, FC, FE and FF are messages at their places. A
+-- block is a status and the data that follows it in what is left, and gives messages by what its status begins:
 -- of a channel, one for each whole group of data bytes; F1, F2, F3 and F6, one for their first group; F0, one with its
 -- data and F7, where a later status ends it and the data is not too long; F4, F5 and F7, none. A message stands at the
 -- place of its last byte, an exclusive one at that of the status that ends it and before what stands there too.
@@ -104,14 +104,14 @@ abbrev pub placed_messages : List ℕ → List PlacedMessage
 placed_messages s = all_given (stream_blocks s) ++ real_times (placed_from 0 s)
 
 -- those at one place, in their order
-abbrev pub at : ℕ → List PlacedMessage → List (List ℕ)
-at place [] = []
-at place (t ∷ ts) = if t.place == place then (t.message ∷ at place ts) else at place ts
+abbrev pub messages_at : ℕ → List PlacedMessage → List (List ℕ)
+messages_at place [] = []
+messages_at place (t ∷ ts) = if t.place == place then (t.message ∷ messages_at place ts) else messages_at place ts
 
 -- at each place in turn, the messages of that place
 abbrev pub by_place : List Placed → List PlacedMessage → List (List ℕ)
 by_place [] ts = []
-by_place (x ∷ xs) ts = at x.place ts ++ by_place xs ts
+by_place (x ∷ xs) ts = messages_at x.place ts ++ by_place xs ts
 
 -- the messages of a stream, in the order of their places
 unfoldable pub reading : List ℕ → List (List ℕ)

@@ -3,7 +3,7 @@ use Rattle.std.proofs.Common.{◌≡◌, ◌≢◌, ◌<◌, ◌≤◌, ◌+◌,
 use Rattle.std.proofs.lemmas.Bool.{cases_eq}
 use Rattle.std.proofs.lemmas.List.{get_or-set_same, get_or-set_other}
 use Rattle.node_table.specs.Kept.{at_place, IsKept}
-use Rattle.node_table.proofs.Places.{drop-elsewhere, drop-kept}
+use Rattle.node_table.proofs.Places.{key_within, drop-elsewhere, drop-kept}
 
 pub none_if_not : {A : Type 0} (o : Option A) → ((x : A) → o ≡ Some x → ⊥) → o ≡ None
 none_if_not None h = refl
@@ -36,10 +36,10 @@ module _ {V X : Type 0} (names : List (Option V)) (keys : List (Option ℕ)) (sl
       }
 
   -- a node at the place went
-  pub cleared-some : (place : ℕ) (names' : List (Option V)) (keys' : List (Option ℕ)) (slots' slots'' : List (Option X)) (key : ℕ) → IsCleared place names' keys' slots' → first ≤ place → place < 2048 → get_or keys' place None ≡ Some key → get_or slots'' key None ≡ None → ((k : ℕ) → k ≢ key → get_or slots'' k None ≡ get_or slots' k None) →
+  pub cleared-some : (place : ℕ) (names' : List (Option V)) (keys' : List (Option ℕ)) (slots' slots'' : List (Option X)) (key : ℕ) → IsCleared place names' keys' slots' → first ≤ place → get_or keys' place None ≡ Some key → get_or slots'' key None ≡ None → ((k : ℕ) → k ≢ key → get_or slots'' k None ≡ get_or slots' k None) →
       IsCleared (place + 1) names' (set keys' place None) slots''
-  cleared-some place names' keys' slots' slots'' key h after below was gone others =
-      let inside : place < length keys' = omega (arith, h.kept.places) in
+  cleared-some place names' keys' slots' slots'' key h after was gone others =
+      let inside : place < length keys' = key_within keys' place key was in
       record {
         same = h.same;
         kept = drop-kept names' keys' slots' slots'' h.kept place key inside was others gone;

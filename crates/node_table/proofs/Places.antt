@@ -1,9 +1,11 @@
 -- What stands at the places after a change.
-use Rattle.std.proofs.Common.{◌≡◌, ◌≢◌, ◌<◌, ◌+◌, ◌*◌, ◌⊎◌, ◌∙◌, ℕ, zero, suc, List, [], ◌∷◌, length, get_or, set, Option, Some, None, is_some, false, refl, ap, sym, subst, inl, inr, arith}
+use Rattle.std.proofs.Common.{◌≡◌, ◌≢◌, ◌<◌, ◌≤◌, ◌+◌, ◌-◌, ◌*◌, ◌⊎◌, ◌++◌, ◌∙◌, ℕ, zero, suc, Bool, true, List, [], ◌∷◌, length, take, replicate, if◌then◌else◌, get_or, set, Option, Some, None, is_some, false, refl, ap, sym, subst, inl, inr, arith}
 use Rattle.std.specs.Prelude.{IsSome}
 use Rattle.std.proofs.lemmas.Bool.{cases_eq}
-use Rattle.std.proofs.lemmas.List.{get_or-set_same, get_or-set_other, length-set}
-use Rattle.node_table.specs.Kept.{under, at_place, IsKept}
+use Rattle.std.proofs.lemmas.Bool.Decides.{leb_tells}
+use Rattle.std.proofs.lemmas.List.{get_or-set_same, get_or-set_other, get_or_past, get_or_append_left, get_or-replicate, length-replicate, length-set, take_all}
+use Rattle.std.proofs.Math.Seq.{get_or-append_right}
+use Rattle.node_table.specs.Kept.{under, at_place, IsTable, ReadsAs, IsKept}
 
 -- within a list the value for what is past it is never taken
 pub get_within : {A : Type 0} (xs : List A) (i : ℕ) (d e : A) → i < length xs → get_or xs i d ≡ get_or xs i e
@@ -23,6 +25,41 @@ module _ {X : Type 0} where
 
   pub some_same : (x y : X) → ◌≡◌ {A = Option X} (Some x) (Some y) → x ≡ y
   some_same x y e = cc
+
+-- a list reads as before after an end that has this value alone
+pub read-append : {X : Type 0} (xs ys : List X) (x : X) → ((i : ℕ) → get_or ys i x ≡ x) → ReadsAs x (xs ++ ys) xs
+read-append xs ys x h i = elim (leb_tells (length xs) i) [
+  | inl past ↦ get_or-append_right xs ys i x past.1 ∙ h (i - length xs) ∙ sym (get_or_past xs i x past.1)
+  | inr within ↦ get_or_append_left xs ys x i within.1
+]
+
+read-replicate : {X : Type 0} (n : ℕ) (x : X) (i : ℕ) → get_or (replicate n x) i x ≡ x
+read-replicate n x i = elim (leb_tells n i) [
+  | inl past ↦ get_or_past (replicate n x) i x (omega (arith, past.1, length-replicate n x))
+  | inr within ↦ get_or-replicate n i x x within.1
+]
+
+pub filled_up : {X : Type 0} (old new : List X) (x : X) (n m : ℕ) (b : Bool) → length old ≤ n → new ≡ (if b then take n old ++ replicate m x else old) → ReadsAs x new old
+filled_up old new x n m false h e i = ap (λ xs. get_or xs i x) e
+filled_up old new x n m true h e i =
+    ap (λ xs. get_or xs i x) (e ∙ ap (λ xs. xs ++ replicate m x) (take_all n old h)) ∙ read-append old (replicate m x) x (read-replicate m x) i
+
+pub table_length : {X : Type 0} (xs : List X) → IsTable xs → length xs ≤ 2048
+table_length xs h = by (length xs) h
+  where
+    by : (n : ℕ) → (0 < n → n ≡ 2048) → n ≤ 2048
+    by zero h = omega arith
+    by (suc n) h = let e : suc n ≡ 2048 = h (omega arith) in omega arith
+
+pub table-set : {X : Type 0} (xs : List X) (i : ℕ) (x : X) → IsTable xs → IsTable (set xs i x)
+table-set xs i x h = subst (λ n. 0 < n → n ≡ 2048) (sym (length-set xs i x)) h
+
+-- where a key stands there is a place
+pub key_within : (keys : List (Option ℕ)) (i k : ℕ) → get_or keys i None ≡ Some k → i < length keys
+key_within keys i k e = elim (leb_tells (length keys) i) [
+  | inl past ↦ absurd (no_some k (sym e ∙ get_or_past keys i None past.1))
+  | inr within ↦ within.1
+]
 
 module _ {V X : Type 0} (names : List (Option V)) (keys : List (Option ℕ)) (slots slots' : List (Option X)) (kept : IsKept names keys slots) where
   -- what the keys of a list find stays, where each of these keys finds what it found
@@ -55,7 +92,7 @@ module _ {V X : Type 0} (names : List (Option V)) (keys : List (Option ℕ)) (sl
     put-kept row p is l opens free =
         record {
           rows = kept.rows;
-          places = length-set keys place (Some key) ∙ kept.places;
+          places = table-set keys place (Some key) kept.places;
           full = λ i k e. elim (put-cases i k e) [
             | inl h ↦ some_is _ x (ap (λ q. get_or slots' q None) h.1 ∙ changed)
             | inr h ↦ subst IsSome (sym (others k (other_key i k h.1))) (kept.full i k h.1)
@@ -98,7 +135,7 @@ module _ {V X : Type 0} (names : List (Option V)) (keys : List (Option ℕ)) (sl
     drop-kept gone =
         record {
           rows = kept.rows;
-          places = length-set keys place None ∙ kept.places;
+          places = table-set keys place None kept.places;
           full = λ i k e. let h : (i ≢ place) × (get_or keys i None ≡ Some k) = drop-was i k e in
               subst IsSome (sym (others k (λ same. h.0 (kept.apart i place k h.1 (was ∙ ap Some (sym same)))))) (kept.full i k h.1);
           no_leak = λ k s. let differs : k ≢ key = λ same. not_both _ s (ap (λ q. get_or slots' q None) same ∙ gone) in
@@ -134,6 +171,18 @@ module _ {V X : Type 0} (names : List (Option V)) (keys : List (Option ℕ)) (sl
           apart = kept.apart;
           closed = kept.closed;
         }
+
+-- a table with places reads as one without, and all else is kept
+pub read-kept : {V X : Type 0} (names : List (Option V)) (keys keys' : List (Option ℕ)) (slots : List (Option X)) → IsKept names keys slots → IsTable keys' → ReadsAs None keys' keys → IsKept names keys' slots
+read-kept names keys keys' slots kept table same =
+    record {
+      rows = kept.rows;
+      places = table;
+      full = λ i k e. kept.full i k (sym (same i) ∙ e);
+      no_leak = λ k s. let at = kept.no_leak k s in (at.0, same at.0 ∙ at.1);
+      apart = λ i j k e f. kept.apart i j k (sym (same i) ∙ e) (sym (same j) ∙ f);
+      closed = λ r p s e. same (r * 32 + p) ∙ kept.closed r p s e;
+    }
 
 -- a client that was opened keeps no keys, and one that was closed has none left
 module _ {V X : Type 0} (names : List (Option V)) (keys : List (Option ℕ)) (slots : List (Option X)) (kept : IsKept names keys slots) where

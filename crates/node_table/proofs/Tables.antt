@@ -12,10 +12,10 @@ use Rattle.node_table.specs.declared.number.Addr.{Addr}
 use Rattle.node_table.specs.declared.number.Node.TheVariants.{Port, Filter}
 use Rattle.node_table.specs.Listing.{IsNext, NoneFrom}
 use Rattle.node_table.proofs.Numbered.{get-above, numbered_none}
-use Rattle.node_table.specs.Nodes.{NodeSeen, ClientNodes, ports_in, filters_in, opened, name_of, is_open, node_in, node_at, put_node, drop_node, put_client, with_node, without_node, with_body, with_its_body, put_seen}
-use Rattle.node_table.specs.Kept.{under, at_place, place_in, IsPlace, IsKept, client_kept, clients_kept}
-use Rattle.node_table.proofs.Clients.{get-clients, is_some-client, name_of-client, found, small_place, put_kept, drop_kept, without_none, open_kept, close_kept}
-use Rattle.node_table.proofs.Places.{get_within, some_is, no_some, not_both, put-here, put-elsewhere, put-kept, drop-here, drop-elsewhere, write-here, write-elsewhere}
+use Rattle.node_table.specs.Nodes.{NodeSeen, ClientNodes, ports_in, filters_in, new_client, name_of, is_open, node_in, node_at, put_node, drop_node, put_client, with_node, without_node, with_body, with_its_body, put_seen}
+use Rattle.node_table.specs.Kept.{under, at_place, place_in, IsPlace, IsTable, ReadsAs, IsKept, client_kept, clients_kept}
+use Rattle.node_table.proofs.Clients.{get-clients, is_some-client, name_of-client, found, small_place, put_kept, drop_kept, without_none, open_kept, close_kept, same_clients}
+use Rattle.node_table.proofs.Places.{get_within, some_is, no_some, not_both, key_within, put-here, put-elsewhere, put-kept, drop-here, drop-elsewhere, write-here, write-elsewhere}
 use Rattle.node_table.proofs.Clearing.{none_if_not}
 
 pub is_some-map : {A B : Type 0} (f : A → B) (o : Option A) → is_some (option_map f o) ≡ is_some o
@@ -76,8 +76,8 @@ module _ {V P : Type 0} (items : V → List ℕ) (names : List (Option V)) (keys
   within_slots : (key : ℕ) (x : NodeSeen P) → get_or slots key None ≡ Some x → key < length slots
   within_slots key x e = ContainsKey-within (record { slots = slots; vacant_key = 0; capacity = 0 }) key (some_is _ x e)
 
-  place_in_range : (addr : Addr) (row place : ℕ) → IsPlace addr row place → place < length keys
-  place_in_range addr row place at = let small : place_in addr.node < 32 = small_place addr.node at.small in omega (arith, kept.places, at.below, at.is)
+  place_in_range : length keys ≡ 2048 → (addr : Addr) (row place : ℕ) → IsPlace addr row place → place < length keys
+  place_in_range whole addr row place at = let small : place_in addr.node < 32 = small_place addr.node at.small in omega (arith, whole, at.below, at.is)
 
   -- where there is a key the client is open
   pub opens : (addr : Addr) (row place key : ℕ) → IsPlace addr row place → get_or keys place None ≡ Some key → get_or names row None ≢ None
@@ -93,14 +93,14 @@ module _ {V P : Type 0} (items : V → List ℕ) (names : List (Option V)) (keys
         ∙ ap (λ n. put_client n addr.client (option_map (put_node addr.node x) (get n addr.client))) view
 
     -- a new node
-    pub created : (key : ℕ) (x : NodeSeen P) (slots' : List (Option (NodeSeen P))) → get_or names row None ≢ None → get_or slots key None ≡ None → get_or slots' key None ≡ Some x → ((k : ℕ) → k ≢ key → get_or slots' k None ≡ get_or slots k None) → shown items names (set keys place (Some key)) slots' ≡ with_node m addr x
-    created key x slots' open_now vacant changed others =
-        let inside : place < length keys = place_in_range addr row place at in
+    pub created : length keys ≡ 2048 → (key : ℕ) (x : NodeSeen P) (slots' : List (Option (NodeSeen P))) → get_or names row None ≢ None → get_or slots key None ≡ None → get_or slots' key None ≡ Some x → ((k : ℕ) → k ≢ key → get_or slots' k None ≡ get_or slots k None) → shown items names (set keys place (Some key)) slots' ≡ with_node m addr x
+    created whole key x slots' open_now vacant changed others =
+        let inside : place < length keys = place_in_range whole addr row place at in
         put_is x _ slots' open_now (put-here names keys slots slots' kept place key x inside vacant changed others) (put-elsewhere names keys slots slots' kept place key x inside vacant changed others)
 
-    pub created-kept : (key : ℕ) (x : NodeSeen P) (slots' : List (Option (NodeSeen P))) → get_or names row None ≢ None → get_or keys place None ≡ None → get_or slots key None ≡ None → get_or slots' key None ≡ Some x → ((k : ℕ) → k ≢ key → get_or slots' k None ≡ get_or slots k None) → IsKept names (set keys place (Some key)) slots'
-    created-kept key x slots' open_now free vacant changed others =
-        put-kept names keys slots slots' kept place key x (place_in_range addr row place at) vacant changed others row (place_in addr.node) at.is (small_place addr.node at.small) open_now free
+    pub created-kept : length keys ≡ 2048 → (key : ℕ) (x : NodeSeen P) (slots' : List (Option (NodeSeen P))) → get_or names row None ≢ None → get_or keys place None ≡ None → get_or slots key None ≡ None → get_or slots' key None ≡ Some x → ((k : ℕ) → k ≢ key → get_or slots' k None ≡ get_or slots k None) → IsKept names (set keys place (Some key)) slots'
+    created-kept whole key x slots' open_now free vacant changed others =
+        put-kept names keys slots slots' kept place key x (place_in_range whole addr row place at) vacant changed others row (place_in addr.node) at.is (small_place addr.node at.small) open_now free
 
     -- a node that is there
     pub there : (key : ℕ) → get_or keys place None ≡ Some key → node_at m addr ≡ get_or slots key None
@@ -132,26 +132,30 @@ module _ {V P : Type 0} (items : V → List ℕ) (names : List (Option V)) (keys
     -- a node was deleted
     pub deleted : (key : ℕ) (slots' : List (Option (NodeSeen P))) → get_or keys place None ≡ Some key → ((k : ℕ) → k ≢ key → get_or slots' k None ≡ get_or slots k None) → shown items names (set keys place None) slots' ≡ without_node m addr
     deleted key slots' e others =
-        let inside : place < length keys = place_in_range addr row place at in
+        let inside : place < length keys = key_within keys place key e in
         drop_kept _ _ (at_place keys slots) (at_place (set keys place None) slots') row addr.node at.below at.small (λ o. opens addr row place key at e (map_none items _ o)) (λ r. refl)
         (ap (at_place (set keys place None) slots') (sym at.is) ∙ drop-here names keys slots slots' kept place key inside e others) (λ i ne. drop-elsewhere names keys slots slots' kept place key inside e others i (λ s. ne (s ∙ at.is)))
         ∙ ap (λ k. put_client (shown items names keys slots) k (option_map (drop_node addr.node) (get (shown items names keys slots) k))) (sym at.client)
         ∙ ap (λ n. put_client n addr.client (option_map (drop_node addr.node) (get n addr.client))) view
 
     -- there was no node to delete
-    pub no_node : (d : Option ℕ) → get_or keys place d ≡ None → node_at m addr ≡ None
-    no_node d e = node_is addr row place at ∙ ap (under slots) (get_within keys place None d (place_in_range addr row place at) ∙ e)
+    pub no_node : get_or keys place None ≡ None → node_at m addr ≡ None
+    no_node e = node_is addr row place at ∙ ap (under slots) e
 
     pub without_it : node_at m addr ≡ None → m ≡ without_node m addr
     without_it e = without_none m addr.client (get m addr.client) addr.node refl e
 
+  -- a table with places shows the same
+  pub read_is : (keys' : List (Option ℕ)) → ReadsAs None keys' keys → shown items names keys' slots ≡ m
+  read_is keys' same = same_clients _ _ (at_place keys slots) (at_place keys' slots) (λ row l. refl) (λ i. ap (under slots) (same i)) ∙ view
+
   -- a client was opened
-  pub opened_is : (client row : ℕ) (v : V) → client ≡ 128 + row → row < 64 → get_or names row None ≡ None → shown items (set names row (Some v)) keys slots ≡ map.insert m client (opened (items v))
+  pub opened_is : (client row : ℕ) (v : V) → client ≡ 128 + row → row < 64 → get_or names row None ≡ None → shown items (set names row (Some v)) keys slots ≡ map.insert m client (new_client (items v))
   opened_is client row v at l none =
       let inside : row < length names = omega (arith, kept.rows) in
       open_kept (λ r. option_map items (get_or names r None)) (λ r. option_map items (get_or (set names row (Some v)) r None)) (at_place keys slots) row (items v) l (ap (option_map items) (get_or-set_same names row (Some v) None inside))
       (λ r ne. ap (option_map items) (get_or-set_other names row r (Some v) None ne)) (λ p s. nothing row p s none)
-      ∙ ap (λ n. map.insert n (128 + row) (opened (items v))) view ∙ ap (λ k. map.insert m k (opened (items v))) (sym at)
+      ∙ ap (λ n. map.insert n (128 + row) (new_client (items v))) view ∙ ap (λ k. map.insert m k (new_client (items v))) (sym at)
 
   -- a client was closed
   pub closed_is : (client row : ℕ) (keys' : List (Option ℕ)) (slots' : List (Option (NodeSeen P))) → client ≡ 128 + row → row < 64 → ((i : ℕ) → i < row * 32 → at_place keys' slots' i ≡ at_place keys slots i) → ((i : ℕ) → row * 32 + 32 ≤ i → at_place keys' slots' i ≡ at_place keys slots i) → shown items (set names row None) keys' slots' ≡ map.remove m client
@@ -214,7 +218,7 @@ module _ {V P : Type 0} (items : V → List ℕ) (names : List (Option V)) (keys
 
 -- a table in which nothing is yet
 module _ {V P : Type 0} (items : V → List ℕ) (names : List (Option V)) (keys : List (Option ℕ)) (slots : List (Option (NodeSeen P))) (no_names : (i : ℕ) → get_or names i None ≡ None) (no_keys : (i : ℕ) → get_or keys i None ≡ None) where
-  pub new-kept : length names ≡ 64 → length keys ≡ 2048 → ((k : ℕ) → get_or slots k None ≡ None) → IsKept names keys slots
+  pub new-kept : length names ≡ 64 → IsTable keys → ((k : ℕ) → get_or slots k None ≡ None) → IsKept names keys slots
   new-kept l s vacant =
       record {
         rows = l;

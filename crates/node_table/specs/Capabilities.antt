@@ -7,7 +7,8 @@ use Rattle.node_table.specs.declared.number.Addr.{Addr}
 abbrev pub can : ℕ → ℕ → Bool
 can bit caps = bit_and caps bit == bit
 
--- The source needs READ, and SUBS_READ unless the actor owns it; the target needs WRITE, and SUBS_WRITE unless the actor owns it; who owns neither is refused where either has NO_EXPORT.
+-- READ at the source and WRITE at the target, SUBS_READ and SUBS_WRITE at a node of another
+-- client, and NO_EXPORT at neither where both are others'
 abbrev pub permits : ℕ → Addr → ℕ → Addr → ℕ → Bool
 permits actor source read target write =
     can 1 read && ((actor == source.client) || can 32 read)

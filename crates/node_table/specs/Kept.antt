@@ -52,6 +52,14 @@ module _ {P : Type 0} where
   abbrev pub clients_kept : (ℕ → Option (List ℕ)) → (ℕ → Option (NodeSeen P)) → FinMap nat_cmp (ClientNodes P)
   clients_kept name node = numbered 128 64 (λ row. option_map (client_kept node row) (name row))
 
+-- empty, or with each place
+abbrev pub IsTable : {X : Type 0} → List X → Type 0
+IsTable xs = 0 < length xs → length xs ≡ 2048
+
+-- the same at each place, where x stands for what is past a list
+abbrev pub ReadsAs : {X : Type 0} → X → List X → List X → Type 0
+ReadsAs x new old = (i : ℕ) → slice_index_or new i x ≡ slice_index_or old i x
+
 -- some place has the key
 abbrev pub IsSomewhere : List (Option ℕ) → ℕ → Type 0
 IsSomewhere keys key = (i : ℕ) × (slice_index_or keys i None ≡ Some key)
@@ -60,7 +68,7 @@ IsSomewhere keys key = (i : ℕ) × (slice_index_or keys i None ≡ Some key)
 -- stands at a place, and nothing under any other.
 pub record IsKept {V X : Type 0} (names : List (Option V)) (keys : List (Option ℕ)) (slots : List (Option X)) : Type 0 where
   pub rows : length names ≡ 64
-  pub places : length keys ≡ 2048
+  pub places : IsTable keys
   pub full : (i key : ℕ) → slice_index_or keys i None ≡ Some key → IsSome (slice_index_or slots key None)
   pub no_leak : (key : ℕ) → IsSome (slice_index_or slots key None) → IsSomewhere keys key
   pub apart : (i j key : ℕ) → slice_index_or keys i None ≡ Some key → slice_index_or keys j None ≡ Some key → i ≡ j

@@ -59,8 +59,8 @@ impl Caps {
 
 /// Whether an actor may join or part two nodes.
 ///
-/// The source needs READ, and SUBS_READ unless the actor owns it; the target needs WRITE, and SUBS_WRITE unless the
-/// actor owns it. An actor that owns neither is refused where either node has NO_EXPORT.
+/// READ at the source and WRITE at the target are needed always, SUBS_READ and SUBS_WRITE at a node of another client.
+/// Where both nodes are others', neither may have NO_EXPORT.
 pub fn permitted(actor: ClientId, source: &Addr, read: Caps, target: &Addr, write: Caps) -> bool
     ensures { result ≡ permits actor source.now read.0 target.now write.0 }
 {

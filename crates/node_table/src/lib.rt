@@ -19,5 +19,5 @@ pub use fault::{CreateFault, OpenFault};
 pub use info::NodeInfo;
 pub use name::is_name;
 pub use number::{Addr, ClientId, FilterNo, Node, PortAddr, PortNo, QueueAddr, QueueNo};
-pub use place::{PLACES, addr_at, place_of};
+pub use place::{PLACES, addr_at, make_places, place_of};
 pub use table::NodeTable;

@@ -1,9 +1,10 @@
-//! A place for each address, so that a table of nodes is an array.
+//! A place for each address, so that a table by address is one vector.
 
-ghost use Rattle.std.specs.Prelude.{◌≡◌, ℕ, ◌+◌, ◌<◌, ◌↔◌, IsSome, IfSome};
-ghost use Rattle.node_table.specs.Kept.{IsPlace};
+ghost use Rattle.std.specs.Prelude.{◌≡◌, ℕ, ◌+◌, ◌<◌, ◌↔◌, length, IsSome, IfSome, OnOk, OnErr};
+ghost use Rattle.node_table.specs.Kept.{IsPlace, IsTable, ReadsAs};
 
 use crate::number::{Addr, ClientId, FilterNo, Node, PortNo};
+use std::alloc::AllocError;
 
 /// How many addresses there are.
 pub const PLACES: usize = 2048;
@@ -44,4 +45,14 @@ pub fn addr_at(place: usize) -> Option<Addr>
         Node::Filter(FilterNo::new(number)?)
     };
     Some(Addr { client, node })
+}
+
+/// Makes the places of a table that has none yet, each with the value. One that has them stays as it is.
+pub fn make_places<T: Copy>(table: &mut Vec<T>, value: T) -> Result<(), AllocError>
+    requires { IsTable table.old.items }
+    ensures whole { OnOk result (length table.new.items ≡ 2048) }
+    ensures err { OnErr result (table.new.items ≡ table.old.items) }
+    ensures same { ReadsAs value table.new.items table.old.items }
+{
+    table.resize(PLACES, value)
 }

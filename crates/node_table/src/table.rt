@@ -6,7 +6,7 @@ ghost use Rattle.std.specs.Borrow.{sem};
 ghost use Rattle.std.specs.FinMap as map;
 ghost use Rattle.node_table.specs.Names.{is_name};
 ghost use Rattle.node_table.specs.Capabilities.{permits};
-ghost use Rattle.node_table.specs.Nodes.{opened, name_of, node_seen, is_name_for, is_open, ports_in, filters_in, node_at, with_node, without_node, bits_of};
+ghost use Rattle.node_table.specs.Nodes.{new_client, name_of, node_seen, is_name_for, is_open, ports_in, filters_in, node_at, with_node, without_node, bits_of};
 ghost use Rattle.node_table.specs.Listing.{IsNext, NoneFrom};
 ghost use Rattle.node_table.specs.Faults.{body_of};
 
@@ -15,7 +15,7 @@ use crate::fault::{CreateFault, OpenFault};
 use crate::info::NodeInfo;
 use crate::name::is_name;
 use crate::number::{Addr, ClientId, FilterNo, Node, PortNo};
-use crate::place::{place_of, row_of};
+use crate::place::{make_places, place_of, row_of};
 use memory::OutOfMemory;
 use slab::Slab;
 use std::alloc::{AllocFailed, Global};
@@ -31,8 +31,8 @@ pub struct NodeTable<P> {
     alloc: Global,
     // By the number of the client, from 128 on.
     names: [Option<Vec<u8>>; 64],
-    // By `place_of`: where the node is in `nodes`.
-    keys: [Option<usize>; 2048],
+    // By `place_of`: where the node is in `nodes`. It is empty until the first node is made.
+    keys: Vec<Option<usize>>,
     nodes: Slab<NodeInfo<P>>,
 }
 
@@ -49,9 +49,9 @@ impl<P> Model for NodeTable<P> {
 
     ghost coded = { map.code coded_ℕ (coded_client_nodes P.code) };
 
-    ghost view = { λ t. clients_kept (λ row. option_map (λ v. v.items) (slice_index_or t.names row None)) (at_place t.keys t.nodes.slots) };
+    ghost view = { λ t. clients_kept (λ row. option_map (λ v. v.items) (slice_index_or t.names row None)) (at_place t.keys.items t.nodes.slots) };
 
-    ghost invariant = { λ t. IsKept t.names t.keys t.nodes.slots };
+    ghost invariant = { λ t. IsKept t.names t.keys.items t.nodes.slots };
 }
 
 fn nothing<T, const N: usize>() -> [Option<T>; N]
@@ -59,6 +59,13 @@ fn nothing<T, const N: usize>() -> [Option<T>; N]
     ensures none { (i : ℕ) → slice_index_or result i None ≡ None }
 {
     array::from_fn(|_| None)
+}
+
+/// Where the node of a place is.
+fn key_at(keys: &[Option<usize>], place: usize) -> Option<usize>
+    ensures { result ≡ slice_index_or keys.now place None }
+{
+    *keys.get(place)?
 }
 
 fn is_name_for(node: Node, name: &[u8]) -> bool
@@ -80,14 +87,14 @@ impl<P> NodeTable<P> {
         NodeTable {
             alloc,
             names: nothing(),
-            keys: nothing(),
+            keys: Vec::new(alloc),
             nodes: Slab::new(alloc),
         }
     }
 
     /// Opens a client with no nodes. The refusals are tested in the order of `OpenFault`, and each leaves all as it was.
     pub fn open_client(&mut self, client: ClientId, name: &[u8]) -> Result<(), OpenFault>
-        ensures ok { OnOk result (self.new ≡ map.insert self.old client (opened name.now)) }
+        ensures ok { OnOk result (self.new ≡ map.insert self.old client (new_client name.now)) }
         ensures err { OnErr result (self.new ≡ self.old) }
         ensures already_open { IsErrOf result OpenFault.AlreadyOpen ↔ (is_open self.old client ≡ true) }
         ensures bad_name { IsErrOf result OpenFault.BadName ↔ ((is_open self.old client ≡ false) × (is_name name.now ≡ false)) }
@@ -107,7 +114,7 @@ impl<P> NodeTable<P> {
     pub fn add_client(&mut self, client: ClientId, name: &[u8]) -> Result<(), OutOfMemory>
         requires fresh { is_open self.old client ≡ false }
         requires named { is_name name.now ≡ true }
-        ensures ok { OnOk result (self.new ≡ map.insert self.old client (opened name.now)) }
+        ensures ok { OnOk result (self.new ≡ map.insert self.old client (new_client name.now)) }
         ensures err { OnErr result (self.new ≡ self.old) }
     {
         let name = Vec::from_slice(self.alloc, name)?;
@@ -127,7 +134,7 @@ impl<P> NodeTable<P> {
         }
         let row = row_of(client);
         for place in row * 32..row * 32 + 32 {
-            if let Some(key) = self.keys[place] {
+            if let Some(key) = key_at(&self.keys, place) {
                 self.keys[place] = None;
                 self.nodes.remove(key);
             }
@@ -199,6 +206,9 @@ impl<P> NodeTable<P> {
         ensures err { OnErr result (self.new ≡ self.old) }
         ensures body_back { IfErr result (λ failed. failed.value ≡ body) }
     {
+        let Ok(()) = make_places(&mut self.keys, None) else {
+            return Err(AllocFailed { value: body });
+        };
         let Ok(name) = Vec::from_slice(self.alloc, name) else {
             return Err(AllocFailed { value: body });
         };
@@ -219,7 +229,7 @@ impl<P> NodeTable<P> {
         ensures deleted { self.new ≡ without_node self.old addr }
     {
         let place = place_of(&addr);
-        let key = self.keys[place]?;
+        let key = key_at(&self.keys, place)?;
         self.keys[place] = None;
         Some(self.nodes.remove(key).into_body())
     }
@@ -228,7 +238,7 @@ impl<P> NodeTable<P> {
     pub fn find(&self, addr: &Addr) -> Option<&NodeInfo<P>>
         ensures { option_copied result ≡ node_at self.now addr.now }
     {
-        match self.keys[place_of(addr)] {
+        match key_at(&self.keys, place_of(addr)) {
             Some(key) => self.nodes.get(key),
             None => None,
         }
@@ -251,7 +261,7 @@ impl<P> NodeTable<P> {
         ensures* writes_back { sem 𝓛 (LendsThere P.row self.entry addr.now result) }
         ensures value { option_map (λ n. n.body) (node_at self.old addr.now) ≡ Some result.now }
     {
-        let key = self.keys[place_of(addr)].unwrap();
+        let key = key_at(&self.keys, place_of(addr)).unwrap();
         self.nodes[key].body_mut()
     }
 
@@ -273,7 +283,7 @@ impl<P> NodeTable<P> {
     {
         let first = row_of(client) * 32;
         for number in from..16 {
-            if let Some(key) = self.keys[first + number as usize] {
+            if let Some(key) = key_at(&self.keys, first + number as usize) {
                 return Some((PortNo::new(number).unwrap(), &self.nodes[key]));
             }
         }
@@ -287,7 +297,7 @@ impl<P> NodeTable<P> {
     {
         let first = row_of(client) * 32 + 16;
         for number in from..16 {
-            if let Some(key) = self.keys[first + number as usize] {
+            if let Some(key) = key_at(&self.keys, first + number as usize) {
                 return Some((FilterNo::new(number).unwrap(), &self.nodes[key]));
             }
         }

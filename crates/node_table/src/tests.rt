@@ -68,6 +68,18 @@ fn each_place_has_an_address(rt: HostRuntime) {
 }
 
 #[test]
+fn a_table_is_made_once(rt: HostRuntime) -> Result<(), Fail> {
+    let mut table = Vec::new(rt.alloc());
+    make_places(&mut table, 7u8)?;
+    assert_eq!(rt; table.len(), PLACES);
+    assert!(rt; table.iter().all(|value| *value == 7));
+    make_places(&mut table, 8)?;
+    assert_eq!(rt; table.len(), PLACES);
+    assert!(rt; table.iter().all(|value| *value == 7));
+    Ok(())
+}
+
+#[test]
 fn addresses_print(rt: HostRuntime) -> Result<(), Fail> {
     assert_eq!(rt;
         format!(in rt.alloc(); "{}", port(&rt, 128, 0))?.as_str(),
@@ -111,6 +123,21 @@ fn open_refuses_in_order(rt: HostRuntime) -> Result<(), Fail> {
     assert_eq!(rt; table.open_client(one, b""), Err(OpenFault::AlreadyOpen));
     assert_eq!(rt; table.client_name(one), Some(b"one".as_slice()));
     assert!(rt; table.client_name(client(&rt, 129)).is_none());
+    Ok(())
+}
+
+#[test]
+fn a_client_with_no_nodes_has_none(rt: HostRuntime) -> Result<(), Fail> {
+    let mut table: NodeTable<u32> = NodeTable::new(rt.alloc());
+    let one = client(&rt, 191);
+    assert!(rt; !table.close_client(one));
+    assert_eq!(rt; table.open_client(one, b"one"), Ok(()));
+    assert!(rt; table.find(&port(&rt, 191, 15)).is_none());
+    assert!(rt; table.body_mut(&port(&rt, 191, 15)).is_none());
+    assert!(rt; table.delete(filter(&rt, 191, 15)).is_none());
+    assert!(rt; table.next_port(one, 0).is_none());
+    assert!(rt; table.next_filter(one, 0).is_none());
+    assert!(rt; table.close_client(one));
     Ok(())
 }
 

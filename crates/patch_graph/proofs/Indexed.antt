@@ -5,17 +5,18 @@ use Rattle.std.specs.Set.{remove_key}
 use Rattle.indexmap.specs.IndexSet.{insert_key}
 use Rattle.patch_graph.specs.contracts.edge.EdgePartialEq.TheImpl.{eq-value as edge_value}
 use Rattle.std.proofs.lemmas.Bool.{false≢true, cases_eq}
-use Rattle.std.proofs.lemmas.List.{get_or-set_same, get_or-set_other, length-set, length-append, length-map, map-append, map-set, get_or-map}
+use Rattle.std.proofs.lemmas.List.{get_or-set_same, get_or-set_other, get_or_past, length-set, length-append, length-map, map-append, map-set, get_or-map}
 use Rattle.std.proofs.Math.Seq.{map-set_same}
 use Rattle.std.proofs.lemmas.List.Elements.{filter-append}
+use Rattle.std.proofs.lemmas.List.Filters.{length-filter_both}
 use Rattle.std.proofs.lemmas.List.Folds.{list_any-append}
 use Rattle.node_table.specs.Addresses.{same}
-use Rattle.node_table.specs.Kept.{IsPlace}
+use Rattle.node_table.specs.Kept.{IsPlace, ReadsAs}
 use Rattle.node_table.specs.declared.number.Addr.{Addr}
 use Rattle.patch_graph.specs.declared.edge.Edge.{Edge}
 use Rattle.patch_graph.specs.Edges.{edge, is_edge, has_edge, without_edge, sources_of, most_sources}
 use Rattle.patch_graph.specs.Chains.{is_chain, are_edges, makes_cycle}
-use Rattle.patch_graph.specs.Index.{targets_of, is_distinct, IsGraph, IsIndexed}
+use Rattle.patch_graph.specs.Index.{targets_of, is_distinct, IsGraph, HasPlaces, SameTargets, AreCounts, IsIndexed}
 use Rattle.patch_graph.proofs.Lists.{both_left, both_right, and_both, not_by, not_true, refuted, filter-all, filter-agree, filter-none, filter-outside, list_any-filter, length-filter_filter, filter-mapped}
 use Rattle.patch_graph.proofs.Same.{same-is, same-refl, same-from, same-sym, differ, place-is, is-place, place-below, any_edge}
 use Rattle.patch_graph.proofs.Chained.{acyclic-added, acyclic-fewer}
@@ -77,8 +78,7 @@ module _ (edges : List Edge) (s t : Addr) (graph : IsGraph edges) (fresh : has_e
   pub graph-added : IsGraph (edges ++ edge s t ∷ [])
   graph-added = record { distinct = distinct-added edges s t graph.distinct fresh; few = few-added; acyclic = acyclic-added edges s t graph.acyclic clear }
 
-pub counts-added : (edges : List Edge) (s t : Addr) (counts : List ℕ) (q u : ℕ) → length counts ≡ 2048 → ((a : Addr) (row place : ℕ) → IsPlace a row place → get_or counts place 0 ≡ sources_of edges a) → IsPlace t q u →
-    (a : Addr) (row place : ℕ) → IsPlace a row place → get_or (set counts u (get_or counts u 0 + 1)) place 0 ≡ sources_of (edges ++ edge s t ∷ []) a
+pub counts-added : (edges : List Edge) (s t : Addr) (counts : List ℕ) (q u : ℕ) → length counts ≡ 2048 → AreCounts edges counts → IsPlace t q u → AreCounts (edges ++ edge s t ∷ []) (set counts u (get_or counts u 0 + 1))
 counts-added edges s t counts q u long counted to a row place k = elim (cases_eq place u) [
   | inl e ↦ let here : a ≡ t = place-is a t row q u (subst (IsPlace a row) e k) to in
       ap (λ n. get_or (set counts u (get_or counts u 0 + 1)) n 0) e
@@ -88,22 +88,22 @@ counts-added edges s t counts q u long counted to a row place k = elim (cases_eq
       ∙ sym (sources_of-elsewhere edges s t a (differ a t (λ e. n (is-place a t row q place u k to e))))
 ]
 
-pub indexed-added : (edges : List Edge) (s t : Addr) (targets : List (List Addr)) (counts : List ℕ) (r p q u : ℕ) → IsIndexed edges targets counts → IsPlace s r p → IsPlace t q u →
+pub indexed-added : (edges : List Edge) (s t : Addr) (targets : List (List Addr)) (counts : List ℕ) (r p q u : ℕ) → IsIndexed edges targets counts → length targets ≡ 2048 → length counts ≡ 2048 → IsPlace s r p → IsPlace t q u →
     IsIndexed (edges ++ edge s t ∷ []) (set targets p (get_or targets p [] ++ t ∷ [])) (set counts u (get_or counts u 0 + 1))
-indexed-added edges s t targets counts r p q u h at to =
+indexed-added edges s t targets counts r p q u h long wide at to =
     record {
-      target_places = length-set targets p (get_or targets p [] ++ t ∷ []) ∙ h.target_places;
-      count_places = length-set counts u (get_or counts u 0 + 1) ∙ h.count_places;
+      target_places = λ _. length-set targets p (get_or targets p [] ++ t ∷ []) ∙ long;
+      count_places = λ _. length-set counts u (get_or counts u 0 + 1) ∙ wide;
       listed = λ a row place k. elim (cases_eq place p) [
         | inl e ↦ let here : a ≡ s = place-is a s row r p (subst (IsPlace a row) e k) at in
             ap (λ n. get_or (set targets p (get_or targets p [] ++ t ∷ [])) n []) e
-            ∙ get_or-set_same targets p (get_or targets p [] ++ t ∷ []) [] (subst (λ n. p < n) (sym h.target_places) (place-below s r p at))
+            ∙ get_or-set_same targets p (get_or targets p [] ++ t ∷ []) [] (subst (λ n. p < n) (sym long) (place-below s r p at))
             ∙ ap (λ xs. xs ++ t ∷ []) (h.listed s r p at) ∙ ap (λ x. targets_of edges x ++ t ∷ []) (sym here)
             ∙ sym (targets_of-added edges s t a true (same-from a s here))
         | inr n ↦ get_or-set_other targets p place (get_or targets p [] ++ t ∷ []) [] n ∙ h.listed a row place k
             ∙ sym (targets_of-added edges s t a false (differ a s (λ e. n (is-place a s row r place p k at e))) ∙ append_nil (targets_of edges a))
       ];
-      counted = counts-added edges s t counts q u h.count_places h.counted to;
+      counted = counts-added edges s t counts q u wide h.counted to;
     }
   where
     append_nil : (xs : List Addr) → xs ++ [] ≡ xs
@@ -167,16 +167,23 @@ sources_of-others : (edges : List Edge) (s t a : Addr) → (a ≡ t → ⊥) →
 sources_of-others edges s t a n =
     ap length (filter-outside (λ e. same a e.target) (λ e. not (is_edge s t e)) (λ e h. not_by (is_edge s t e) (λ k. n (same-is a e.target h ∙ sym (same-is t e.target (both_right (same s e.source) (same t e.target) k))))) edges)
 
+-- where an edge is there are places
+some_places : {X : Type 0} (edges : List Edge) (s t : Addr) (xs : List X) → has_edge edges s t ≡ true → 0 < length edges + length xs
+some_places [] s t xs h = absurd (false≢true h)
+some_places (e ∷ es) s t xs h = omega arith
+
 pub indexed-removed : (edges : List Edge) (s t : Addr) (targets : List (List Addr)) (counts : List ℕ) (r p q u : ℕ) → IsIndexed edges targets counts → is_distinct edges ≡ true → has_edge edges s t ≡ true → IsPlace s r p → IsPlace t q u →
     IsIndexed (without_edge edges s t) (set targets p (filter (λ x. not (same t x)) (get_or targets p []))) (set counts u (get_or counts u 0 - 1))
 indexed-removed edges s t targets counts r p q u h d there at to =
+    let long : length targets ≡ 2048 = h.target_places (some_places edges s t targets there) in
+    let wide : length counts ≡ 2048 = h.count_places (some_places edges s t counts there) in
     record {
-      target_places = length-set targets p (filter (λ x. not (same t x)) (get_or targets p [])) ∙ h.target_places;
-      count_places = length-set counts u (get_or counts u 0 - 1) ∙ h.count_places;
+      target_places = λ _. length-set targets p (filter (λ x. not (same t x)) (get_or targets p [])) ∙ long;
+      count_places = λ _. length-set counts u (get_or counts u 0 - 1) ∙ wide;
       listed = λ a row place k. elim (cases_eq place p) [
         | inl e ↦ let here : a ≡ s = place-is a s row r p (subst (IsPlace a row) e k) at in
             ap (λ n. get_or (set targets p (filter (λ x. not (same t x)) (get_or targets p []))) n []) e
-            ∙ get_or-set_same targets p (filter (λ x. not (same t x)) (get_or targets p [])) [] (subst (λ n. p < n) (sym h.target_places) (place-below s r p at))
+            ∙ get_or-set_same targets p (filter (λ x. not (same t x)) (get_or targets p [])) [] (subst (λ n. p < n) (sym long) (place-below s r p at))
             ∙ ap (filter (λ x. not (same t x))) (h.listed s r p at)
             ∙ filter-agree (λ x. not (same t x)) (λ x. not (is_edge s t (edge s x))) (λ x. ap (λ b. not (b && same t x)) (sym (same-refl s))) (targets_of edges s)
             ∙ sym (targets_of-filter (λ e. not (is_edge s t e)) edges s)
@@ -190,7 +197,7 @@ indexed-removed edges s t targets counts r p q u h d there at to =
             let less : sources_of (without_edge edges s t) t + 1 ≡ sources_of edges t = sources_of-removed edges s t d there in
             let minus : sources_of edges t - 1 ≡ sources_of (without_edge edges s t) t = omega arith in
             ap (λ n. get_or (set counts u (get_or counts u 0 - 1)) n 0) e
-            ∙ get_or-set_same counts u (get_or counts u 0 - 1) 0 (subst (λ n. u < n) (sym h.count_places) (place-below t q u to))
+            ∙ get_or-set_same counts u (get_or counts u 0 - 1) 0 (subst (λ n. u < n) (sym wide) (place-below t q u to))
             ∙ ap (λ n. n - 1) (h.counted t q u to) ∙ minus ∙ ap (sources_of (without_edge edges s t)) (sym here)
         | inr n ↦ get_or-set_other counts u place (get_or counts u 0 - 1) 0 n ∙ h.counted a row place k
             ∙ sym (sources_of-others edges s t a (λ e. n (is-place a t row q place u k to e)))
@@ -203,24 +210,34 @@ module _ {V : Type 0} (items : V → List Addr) (ts : List V) (counts : List ℕ
   abbrev Kept : Type 0
   Kept = IsGraph edges × IsIndexed edges (map items ts) counts
 
-  length_is : IsIndexed edges (map items ts) counts → length ts ≡ 2048
-  length_is h = sym (length-map ts items) ∙ h.target_places
+  at_place : (p : ℕ) (d : V) → p < length ts → items (get_or ts p d) ≡ get_or (map items ts) p []
+  at_place p d within = sym (get_or-map items ts p d [] within)
 
-  at_place : IsIndexed edges (map items ts) counts → (a : Addr) (r p : ℕ) (d : V) → IsPlace a r p → items (get_or ts p d) ≡ get_or (map items ts) p []
-  at_place h a r p d at = sym (get_or-map items ts p d [] (subst (λ n. p < n) (sym (length_is h)) (place-below a r p at)))
+  pub listed_is : Kept → (a : Addr) (r p : ℕ) (d : V) → p < length ts → IsPlace a r p → items (get_or ts p d) ≡ targets_of edges a
+  listed_is k a r p d within at = at_place p d within ∙ k.1.listed a r p at
 
-  pub listed_is : Kept → (a : Addr) (r p : ℕ) (d : V) → IsPlace a r p → items (get_or ts p d) ≡ targets_of edges a
-  listed_is k a r p d at = at_place k.1 a r p d at ∙ k.1.listed a r p at
+  -- where there is no place there are no targets
+  pub listed_none : Kept → (a : Addr) (r p : ℕ) → length ts ≤ p → IsPlace a r p → [] ≡ targets_of edges a
+  listed_none k a r p past at = sym (get_or_past (map items ts) p [] (subst (λ n. n ≤ p) (sym (length-map ts items)) past)) ∙ k.1.listed a r p at
 
-  pub disconnected : (es : List Edge) (s t : Addr) (r p q u : ℕ) (d v : V) → Kept → es ≡ remove_key (is_edge s t) edges → has_edge edges s t ≡ true → IsPlace s r p → IsPlace t q u →
-      items v ≡ filter (λ x. not (same t x)) (items (get_or ts p d)) → IsGraph es × IsIndexed es (map items (set ts p v)) (set counts u (get_or counts u 0 - 1))
-  disconnected es s t r p q u d v k e there at to left =
+  -- where an edge is, its source and its target have their places
+  target_place : Kept → (s t a : Addr) (r p : ℕ) → has_edge edges s t ≡ true → IsPlace a r p → p < length ts
+  target_place k s t a r p there at =
+      subst (λ n. p < n) (sym (sym (length-map ts items) ∙ k.1.target_places (some_places edges s t (map items ts) there))) (place-below a r p at)
+
+  pub count_place : Kept → (s t a : Addr) (r p : ℕ) → has_edge edges s t ≡ true → IsPlace a r p → p < length counts
+  count_place k s t a r p there at = subst (λ n. p < n) (sym (k.1.count_places (some_places edges s t counts there))) (place-below a r p at)
+
+  pub disconnected : (es : List Edge) (s t : Addr) (r p q u : ℕ) (d v : V) (n : ℕ) → Kept → es ≡ remove_key (is_edge s t) edges → has_edge edges s t ≡ true → IsPlace s r p → IsPlace t q u → n ≡ get_or counts u 0 →
+      items v ≡ filter (λ x. not (same t x)) (items (get_or ts p d)) → IsGraph es × IsIndexed es (map items (set ts p v)) (set counts u (n - 1))
+  disconnected es s t r p q u d v n k e there at to is left =
       let gone : without_edge edges s t ≡ es = sym (e ∙ removed_is edges s t k.0.distinct) in
-      let rest : items v ≡ filter (λ x. not (same t x)) (get_or (map items ts) p []) = left ∙ ap (filter (λ x. not (same t x))) (at_place k.1 s r p d at) in
+      let rest : items v ≡ filter (λ x. not (same t x)) (get_or (map items ts) p []) = left ∙ ap (filter (λ x. not (same t x))) (at_place p d (target_place k s t s r p there at)) in
       let table : set (map items ts) p (filter (λ x. not (same t x)) (get_or (map items ts) p [])) ≡ map items (set ts p v) = ap (set (map items ts) p) (sym rest) ∙ sym (map-set items ts p v) in (
         subst IsGraph gone (graph-filter (λ e. not (is_edge s t e)) edges k.0),
-        subst (λ x. IsIndexed x (map items (set ts p v)) (set counts u (get_or counts u 0 - 1))) gone
-            (subst (λ x. IsIndexed (without_edge edges s t) x (set counts u (get_or counts u 0 - 1))) table (indexed-removed edges s t (map items ts) counts r p q u k.1 k.0.distinct there at to)),
+        subst (λ x. IsIndexed x (map items (set ts p v)) (set counts u (n - 1))) gone
+            (subst (λ m. IsIndexed (without_edge edges s t) (map items (set ts p v)) (set counts u (m - 1))) (sym is)
+            (subst (λ x. IsIndexed (without_edge edges s t) x (set counts u (get_or counts u 0 - 1))) table (indexed-removed edges s t (map items ts) counts r p q u k.1 k.0.distinct there at to))),
       )
 
   pub some_source : Kept → (s t : Addr) (q u : ℕ) → IsPlace t q u → has_edge edges s t ≡ true → 1 ≤ get_or counts u 0
@@ -229,14 +246,15 @@ module _ {V : Type 0} (items : V → List Addr) (ts : List V) (counts : List ℕ
       let is : get_or counts u 0 ≡ sources_of edges t = k.1.counted t q u to in
       omega arith
 
-  pub connected : (es : List Edge) (s t : Addr) (r p q u : ℕ) (d v : V) → Kept → es ≡ edges ++ edge s t ∷ [] → has_edge edges s t ≡ false → sources_of edges t < most_sources → makes_cycle edges s t ≡ false → IsPlace s r p → IsPlace t q u →
-      items v ≡ items (get_or ts p d) ++ t ∷ [] → IsGraph es × IsIndexed es (map items (set ts p v)) (set counts u (get_or counts u 0 + 1))
-  connected es s t r p q u d v k e fresh room clear at to more =
-      let rest : items v ≡ get_or (map items ts) p [] ++ t ∷ [] = more ∙ ap (λ xs. xs ++ t ∷ []) (at_place k.1 s r p d at) in
+  pub connected : (es : List Edge) (s t : Addr) (r p q u : ℕ) (d v : V) (n : ℕ) → Kept → length ts ≡ 2048 → length counts ≡ 2048 → es ≡ edges ++ edge s t ∷ [] → has_edge edges s t ≡ false → sources_of edges t < most_sources → makes_cycle edges s t ≡ false → IsPlace s r p → IsPlace t q u → n ≡ get_or counts u 0 →
+      items v ≡ items (get_or ts p d) ++ t ∷ [] → IsGraph es × IsIndexed es (map items (set ts p v)) (set counts u (n + 1))
+  connected es s t r p q u d v n k long wide e fresh room clear at to is more =
+      let rest : items v ≡ get_or (map items ts) p [] ++ t ∷ [] = more ∙ ap (λ xs. xs ++ t ∷ []) (at_place p d (subst (λ n. p < n) (sym long) (place-below s r p at))) in
       let table : set (map items ts) p (get_or (map items ts) p [] ++ t ∷ []) ≡ map items (set ts p v) = ap (set (map items ts) p) (sym rest) ∙ sym (map-set items ts p v) in (
         subst IsGraph (sym e) (graph-added edges s t k.0 fresh room clear),
-        subst (λ x. IsIndexed x (map items (set ts p v)) (set counts u (get_or counts u 0 + 1))) (sym e)
-            (subst (λ x. IsIndexed (edges ++ edge s t ∷ []) x (set counts u (get_or counts u 0 + 1))) table (indexed-added edges s t (map items ts) counts r p q u k.1 at to)),
+        subst (λ x. IsIndexed x (map items (set ts p v)) (set counts u (n + 1))) (sym e)
+            (subst (λ m. IsIndexed (edges ++ edge s t ∷ []) (map items (set ts p v)) (set counts u (m + 1))) (sym is)
+            (subst (λ x. IsIndexed (edges ++ edge s t ∷ []) x (set counts u (get_or counts u 0 + 1))) table (indexed-added edges s t (map items ts) counts r p q u k.1 (length-map ts items ∙ long) wide at to))),
       )
 
   -- a vector that has the same items in the place of one
@@ -253,19 +271,58 @@ pub empty_graph : (edges : List Edge) → edges ≡ [] → IsGraph edges
 unfolding most_sources
 empty_graph edges e = subst IsGraph (sym e) (record { distinct = refl; few = λ a. omega arith; acyclic = λ a r. no_chain a a r.0 r.1 r.2 })
 
-pub empty_index : {V : Type 0} (items : V → List Addr) (edges : List Edge) (ts : List V) (counts : List ℕ) → edges ≡ [] → length ts ≡ 2048 → length counts ≡ 2048 → ((i : ℕ) → get_or (map items ts) i [] ≡ []) → ((i : ℕ) → get_or counts i 0 ≡ 0) → IsIndexed edges (map items ts) counts
-empty_index items edges ts counts e l m none zero =
-    subst (λ es. IsIndexed es (map items ts) counts) (sym e) (record { target_places = length-map ts items ∙ l; count_places = m; listed = λ a row place k. none place; counted = λ a row place k. zero place })
+no_index : IsIndexed [] [] []
+no_index = record { target_places = λ h. absurd (omega arith); count_places = λ h. absurd (omega arith); listed = λ a row place k. refl; counted = λ a row place k. refl }
+
+pub empty_index : {V : Type 0} (items : V → List Addr) (edges : List Edge) (ts : List V) (counts : List ℕ) → edges ≡ [] → ts ≡ [] → counts ≡ [] → IsIndexed edges (map items ts) counts
+empty_index items edges ts counts e t c =
+    subst (λ es. IsIndexed es (map items ts) counts) (sym e) (subst (λ vs. IsIndexed [] (map items vs) counts) (sym t) (subst (IsIndexed [] []) (sym c) no_index))
+
+-- the same tables under other names
+pub index_is : {V : Type 0} (items : V → List Addr) (edges : List Edge) (ts us : List V) (ns ms : List ℕ) → ts ≡ us → ns ≡ ms → IsIndexed edges (map items ts) ns → IsIndexed edges (map items us) ms
+index_is items edges ts us ns ms e f h = subst (λ xs. IsIndexed edges (map items xs) ms) e (subst (IsIndexed edges (map items ts)) f h)
+
+-- ---- the tables get their places
+
+module _ {V : Type 0} (items : V → List Addr) (edges : List Edge) (ts : List V) (counts : List ℕ) (kept : IsGraph edges × IsIndexed edges (map items ts) counts) where
+  pub targets_made : (ts' : List V) → length ts' ≡ 2048 → SameTargets items ts' ts → IsGraph edges × IsIndexed edges (map items ts') counts
+  targets_made ts' long same = (
+    kept.0,
+    record {
+      target_places = λ _. length-map ts' items ∙ long;
+      count_places = kept.1.count_places;
+      listed = λ a row place k. same place ∙ kept.1.listed a row place k;
+      counted = kept.1.counted;
+    },
+  )
+
+  pub made : (ts' : List V) → length ts' ≡ 2048 → SameTargets items ts' ts → (counts' : List ℕ) → length counts' ≡ 2048 → ReadsAs 0 counts' counts → IsGraph edges × IsIndexed edges (map items ts') counts'
+  made ts' long same counts' wide alike =
+      let first : IsGraph edges × IsIndexed edges (map items ts') counts = targets_made ts' long same in (
+        kept.0,
+        record {
+          target_places = first.1.target_places;
+          count_places = λ _. wide;
+          listed = first.1.listed;
+          counted = λ a row place k. alike place ∙ kept.1.counted a row place k;
+        },
+      )
 
 -- ---- after a removal
 
+places-fewer : {X : Type 0} (edges es : List Edge) (xs ys : List X) (p : Edge → Bool) → HasPlaces edges xs → es ≡ filter p edges → length ys ≡ length xs → HasPlaces es ys
+places-fewer edges es xs ys p h e l =
+    let is : length es ≡ length (filter p edges) = ap length e in
+    let parts : length (filter p edges) + length (filter (λ x. not (p x)) edges) ≡ length edges = length-filter_both p (λ x. not (p x)) (λ x. refl) edges in
+    λ some. l ∙ h (omega arith)
+
 pub swept_index : {V : Type 0} (items : V → List Addr) (edges es : List Edge) (old ts : List V) (counts counts' : List ℕ) (p : Edge → Bool) → IsIndexed edges (map items old) counts → es ≡ filter p edges →
-    length ts ≡ 2048 → ((a : Addr) (row place : ℕ) → IsPlace a row place → get_or (map items ts) place [] ≡ filter (λ t. p (edge a t)) (get_or (map items old) place [])) →
-    length counts' ≡ 2048 → ((a : Addr) (row place : ℕ) → IsPlace a row place → get_or counts' place 0 ≡ sources_of es a) → IsIndexed es (map items ts) counts'
+    length ts ≡ length old → ((a : Addr) (row place : ℕ) → IsPlace a row place → get_or (map items ts) place [] ≡ filter (λ t. p (edge a t)) (get_or (map items old) place [])) →
+    length counts' ≡ length counts → AreCounts es counts' → IsIndexed es (map items ts) counts'
 swept_index items edges es old ts counts counts' p h e long swept count_long counted =
     record {
-      target_places = length-map ts items ∙ long;
-      count_places = count_long;
+      target_places = places-fewer edges es (map items old) (map items ts) p h.target_places e (length-map ts items ∙ long ∙ sym (length-map old items));
+      count_places = places-fewer edges es counts counts' p h.count_places e count_long;
       listed = λ a row place k. swept a row place k ∙ ap (filter (λ t. p (edge a t))) (h.listed a row place k) ∙ sym (targets_of-filter p edges a) ∙ ap (λ x. targets_of x a) (sym e);
       counted = counted;
     }

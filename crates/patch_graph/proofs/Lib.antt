@@ -8,3 +8,4 @@ pub mod Searched
 pub mod Coming
 pub mod Walked
 pub mod Ended
+pub mod Made

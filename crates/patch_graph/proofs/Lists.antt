@@ -6,6 +6,7 @@ use Rattle.std.specs.Option.{option_copied}
 use Rattle.std.specs.List.{filter, list_any, list_all, flat_map, slice_get}
 use Rattle.std.proofs.lemmas.List.Elements.{filter-append}
 use Rattle.std.proofs.lemmas.Bool.{false≢true}
+use Rattle.std.proofs.Math.Seq.{take-append_seam}
 use Rattle.std.proofs.lemmas.Bool.Decides.{nat_tests}
 use Rattle.std.proofs.lemmas.Option.{slice_get_past, slice_get-get_or}
 
@@ -116,3 +117,7 @@ flat_map-agree f g h (x ∷ xs) = cc (h x, flat_map-agree f g h xs)
 pub flat_map-none : {X Y : Type 0} (f : X → List Y) → ((x : X) → f x ≡ []) → (xs : List X) → flat_map f xs ≡ []
 flat_map-none f h [] = refl
 flat_map-none f h (x ∷ xs) = ap (λ ys. ys ++ flat_map f xs) (h x) ∙ flat_map-none f h xs
+
+-- a part that was written over all of a list
+pub written_over : {X : Type 0} (xs ys : List X) (n : ℕ) → length xs ≡ n → take n (xs ++ ys) ≡ xs
+written_over xs ys n e = ap (λ m. take m (xs ++ ys)) (sym e) ∙ take-append_seam xs ys

@@ -3,13 +3,13 @@
 ghost use Rattle.std.specs.Prelude.{◌≡◌, ◌≤◌, ◌<◌, ◌==◌, ◌↔◌, ℕ, true, false, not, List, [], ◌∷◌, ◌++◌, length, map, slice_get, slice_index, slice_index_or, OnOk, OnErr, IsErrOf, IsTrue};
 ghost use Rattle.std.specs.Option.{option_map};
 ghost use Rattle.std.specs.List.{filter};
-ghost use Rattle.node_table.specs.Kept.{IsPlace};
+ghost use Rattle.node_table.specs.Kept.{IsTable};
 ghost use Rattle.node_table.specs.declared.number.Addr.{Addr};
 ghost use Rattle.patch_graph.specs.Edges.{edge, has_edge, without_edge, touches, touches_client, sources_of, most_sources};
 ghost use Rattle.patch_graph.specs.Chains.{Reaches, makes_cycle};
 ghost use Rattle.patch_graph.specs.Found.{with_filters};
 ghost use Rattle.patch_graph.specs.Removal.{takes};
-ghost use Rattle.patch_graph.specs.Index.{ends, targets_of};
+ghost use Rattle.patch_graph.specs.Index.{ends, targets_of, HasPlaces, SameTargets, AreCounts};
 
 use crate::edge::Edge;
 use crate::fault::EdgeFault;
@@ -17,9 +17,8 @@ use crate::found::Found;
 use crate::removal::Removal;
 use indexmap::IndexSet;
 use memory::OutOfMemory;
-use node_table::{Addr, ClientId, PLACES, place_of};
-use std::alloc::Global;
-use std::array;
+use node_table::{Addr, ClientId, PLACES, make_places, place_of};
+use std::alloc::{AllocError, Global};
 use std::marker::Model;
 
 /// How many edges may end at a node.
@@ -33,9 +32,10 @@ pub const MOST_SOURCES: usize = 32;
 pub struct PatchGraph {
     alloc: Global,
     edges: IndexSet<Edge>,
-    // By `place_of`: the targets of a node, oldest first, and how many edges end at it.
-    targets: [Vec<Addr>; PLACES],
-    counts: [u8; PLACES],
+    // By `place_of`: the targets of a node, oldest first, and how many edges end at it. Both are empty until the first
+    // edge is added.
+    targets: Vec<Vec<Addr>>,
+    counts: Vec<u8>,
 }
 
 impl Model for PatchGraph {
@@ -47,34 +47,31 @@ impl Model for PatchGraph {
 
     ghost view = { λ g. g.edges.keys };
 
-    ghost invariant = { λ g. IsGraph g.edges.keys × IsIndexed g.edges.keys (map (λ v. v.items) g.targets) g.counts };
+    ghost invariant = { λ g. IsGraph g.edges.keys × IsIndexed g.edges.keys (map (λ v. v.items) g.targets.items) g.counts.items };
 }
 
-fn no_targets<const N: usize>(alloc: Global) -> [Vec<Addr>; N]
-    ensures len { length result ≡ N }
-    ensures none { (i : ℕ) → slice_index_or (map (λ v. v.items) result) i [] ≡ [] }
+/// Makes the places of a table that has none yet, each with no targets. One that has them stays as it is.
+fn make_targets(alloc: Global, targets: &mut Vec<Vec<Addr>>) -> Result<(), AllocError>
+    requires { IsTable targets.old.items }
+    ensures whole { OnOk result (length targets.new.items ≡ 2048) }
+    ensures err { OnErr result (targets.new.items ≡ targets.old.items) }
+    ensures same { SameTargets (λ v. v.items) targets.new.items targets.old.items }
 {
-    array::from_fn(|_| Vec::new(alloc))
+    targets.resize_with(PLACES, || Vec::new(alloc))?;
+    Ok(())
 }
 
-/// How many edges end at each node, by `place_of`.
-fn count_sources(edges: &[Edge]) -> [u8; PLACES]
-    requires { (a : Addr) → sources_of edges.now a ≤ most_sources }
-    ensures len { length result ≡ 2048 }
-    ensures counted { (a : Addr) (row place : ℕ) → IsPlace a row place → slice_index result place ≡ sources_of edges.now a }
+/// Counts how many edges end at each node, by `place_of`.
+fn count_sources(counts: &mut [u8], edges: &[Edge])
+    requires places { HasPlaces edges.now counts.old }
+    requires few { (a : Addr) → sources_of edges.now a ≤ most_sources }
+    ensures len { length counts.new ≡ length counts.old }
+    ensures counted { AreCounts edges.now counts.new }
 {
-    let mut counts = zeros();
+    counts.fill(0);
     for edge in edges {
         counts[place_of(&edge.target)] += 1;
     }
-    counts
-}
-
-fn zeros<const N: usize>() -> [u8; N]
-    ensures len { length result ≡ N }
-    ensures none { (i : ℕ) → slice_index result i ≡ 0 }
-{
-    [0; N]
 }
 
 impl PatchGraph {
@@ -85,8 +82,8 @@ impl PatchGraph {
         PatchGraph {
             alloc,
             edges: IndexSet::new(alloc),
-            targets: no_targets(alloc),
-            counts: zeros(),
+            targets: Vec::new(alloc),
+            counts: Vec::new(alloc),
         }
     }
 
@@ -129,14 +126,17 @@ impl PatchGraph {
         ensures count { result ≡ sources_of self.now target.now }
         ensures few { result ≤ most_sources }
     {
-        self.counts[place_of(target)] as usize
+        self.counts.get(place_of(target)).copied().unwrap_or(0) as usize
     }
 
     /// The nodes that a node is joined to, the oldest edge first.
     pub fn targets(&self, source: &Addr) -> &[Addr]
         ensures { result.now ≡ targets_of self.now source.now }
     {
-        self.targets[place_of(source)].as_slice()
+        match self.targets.get(place_of(source)) {
+            Some(targets) => targets.as_slice(),
+            None => &[],
+        }
     }
 
     /// Removes an edge, and says whether it was there. It takes no memory.
@@ -176,7 +176,7 @@ impl PatchGraph {
         self.edges
             .retain(|edge| !removal.takes(&edge.source, &edge.target));
         removal.sweep(&mut self.targets);
-        self.counts = count_sources(self.edges.as_slice());
+        count_sources(&mut self.counts, self.edges.as_slice());
     }
 
     /// Whether a chain of edges leads from one node to the other through filters alone, both of them filters too. It
@@ -246,6 +246,8 @@ impl PatchGraph {
         ensures ok { OnOk result (self.new ≡ self.old ++ edge source target ∷ []) }
         ensures err { OnErr result (self.new ≡ self.old) }
     {
+        make_targets(self.alloc, &mut self.targets)?;
+        make_places(&mut self.counts, 0)?;
         let place = place_of(&source);
         self.targets[place].reserve(1)?;
         self.edges.insert(Edge { source, target })?;

@@ -2,7 +2,7 @@
 
 ghost use Rattle.std.specs.Prelude.{◌≡◌, ℕ, [], map, length, not, slice_index_or};
 ghost use Rattle.std.specs.List.{filter};
-ghost use Rattle.node_table.specs.Kept.{IsPlace};
+ghost use Rattle.node_table.specs.Kept.{IsPlace, IsTable};
 ghost use Rattle.node_table.specs.declared.number.Addr.{Addr};
 ghost use Rattle.patch_graph.specs.Edges.{edge};
 ghost use Rattle.patch_graph.specs.Removal.{takes};
@@ -28,8 +28,8 @@ impl Removal {
 
     /// Drops from the targets of each node those to which no edge is left.
     pub fn sweep(&self, targets: &mut [Vec<Addr>])
-        requires { length targets.old ≡ 2048 }
-        ensures len { length targets.new ≡ 2048 }
+        requires { IsTable targets.old }
+        ensures len { length targets.new ≡ length targets.old }
         ensures swept { (a : Addr) (row place : ℕ) → IsPlace a row place → slice_index_or (map (λ v. v.items) targets.new) place [] ≡ filter (λ t. not (takes self.now (edge a t))) (slice_index_or (map (λ v. v.items) targets.old) place []) }
     {
         for place in 0..targets.len() {

@@ -46,6 +46,19 @@ fn assert_way(rt: &impl Abort, routes: &mut Routes<'_>, nodes: &[Addr]) {
 }
 
 #[test]
+fn a_new_graph_joins_nobody(rt: HostRuntime) {
+    let mut graph = PatchGraph::new(rt.alloc());
+    let one = port(&rt, 128, 0);
+    assert_eq!(rt; graph.sources(&one), 0);
+    assert!(rt; graph.targets(&one).is_empty());
+    assert!(rt; graph.routes(&one).next().is_none());
+    assert!(rt; !graph.disconnect(&one, &one));
+    graph.remove_node(&one);
+    graph.remove_client(client(&rt, 191));
+    assert!(rt; graph.is_empty());
+}
+
+#[test]
 fn the_33rd_source_is_refused(rt: HostRuntime) -> Result<(), Fail> {
     let mut graph = PatchGraph::new(rt.alloc());
     join_ports(&rt, &mut graph, 128)?;

@@ -18,7 +18,8 @@ use Rattle.route_filter.specs.Rules.{has_kind, has_channel, is_rule}
 use Rattle.route_filter.specs.Passing.{has_note, as_note, redirected, passed}
 use Rattle.route_filter.specs.Laws.{PassesMessages, open_rule, OpenRulePassesAll, KeepsKind, GivesChannel, SystemMessagesStay}
 use Rattle.route_filter.proofs.Statuses.{kind-stays, begins-stays}
-use Rattle.route_filter.proofs.Passes.{moved, no-channel, voice-passed, system-passed}
+use Rattle.route_filter.specs.VoiceBytes.{moved}
+use Rattle.route_filter.proofs.Passes.{no-channel, voice-passed, system-passed}
 use Rattle.route_filter.proofs.Voices.{Voice, OneByte, TwoBytes, voice-of, redirected-to, new-channel, moved-low, taken}
 
 -- ---- the message that passes

@@ -8,6 +8,7 @@ use Rattle.midi_wire.proofs.WrittenNext.{message-not-channel}
 use Rattle.route_filter.specs.declared.rule_args.RuleArgs.{RuleArgs}
 use Rattle.route_filter.specs.Rules.{has_kind, has_channel}
 use Rattle.route_filter.specs.Passing.{has_note, note_of, in_range, takes_channel, takes_note, as_note, with_first, shifted_by, on_channel, redirected, passed}
+use Rattle.route_filter.specs.VoiceBytes.{moved}
 use Rattle.route_filter.proofs.Statuses.{note-system}
 
 -- ---- a message of the system
@@ -34,10 +35,6 @@ system-passed rule m h =
     go false = refl
 
 -- ---- a channel message
-
--- where its first data byte goes
-abbrev pub moved : RuleArgs → Bool → ℕ → Option ℕ
-moved rule v a = if v then (if in_range rule a then as_note (pos a +ℤ rule.shift) else None) else Some a
 
 maps-both : (f : List ℕ → List ℕ) (g : ℕ → List ℕ) (o : Option ℕ) → option_map f (option_map g o) ≡ option_map (λ n. f (g n)) o
 maps-both f g None = refl

@@ -2,18 +2,22 @@
 use Rattle.std.proofs.Common.{◌≡◌, ℕ, ◌+◌, ◌*◌, ◌/◌, ◌%◌, ◌≤◌, ◌<◌, ◌⊎◌, inl, inr, Bool, true, false, List, [], ◌∷◌, length, Some, None, refl, sym, ap, subst, ◌∙◌, arith}
 use Rattle.std.specs.Prelude.{Option, if◌then◌else◌, ◌&&◌, ◌==◌, nat_lt, nat_le, IsTrue, is_some, option_map, unwrap_or, slice_get, unsigned_abs, ℤ, pos, negsuc, ◌+ℤ◌}
 use Rattle.std.proofs.lemmas.Bool.{cases_lt, ltb-true, leb-true, eqb-true}
+use Rattle.std.proofs.lemmas.Bool.Decides.{nat_tests}
 use Rattle.midi_wire.specs.declared.status.Width.TheVariants.{One, Two}
 use Rattle.midi_wire.specs.declared.status.StatusClass.{StatusClass}
-use Rattle.midi_wire.specs.Messages.{begins, all_data, is_group, IsTail, IsMessage}
+use Rattle.midi_wire.specs.declared.status.StatusClass.TheVariants.{Channel}
+use Rattle.midi_wire.specs.Messages.{begins, all_data, is_group, IsTail, IsMessage, is_message}
 use Rattle.midi_wire.specs.Writings.{status_of, is_channel}
-use Rattle.midi_wire.specs.Kinds.{kind_of, kind_of_status, channel_message}
+use Rattle.midi_wire.specs.Kinds.{kind_of_status}
 use Rattle.midi_wire.proofs.Table.{begins-8, begins-C, begins-E, begins-low, channel-below}
+use Rattle.midi_wire.proofs.AllRead.{message-by, group-one, group-two}
+use Rattle.midi_wire.proofs.MessageTests.{message-test}
 use Rattle.midi_wire.proofs.Written.{and_true}
 use Rattle.route_filter.specs.declared.rule_args.RuleArgs.{RuleArgs}
 use Rattle.route_filter.specs.Rules.{has_kind, has_channel, is_channel_choice, is_rule}
 use Rattle.route_filter.specs.Passing.{has_note, in_range, as_note, on_channel, redirected, passed}
-use Rattle.route_filter.proofs.Statuses.{one-data, two-data}
-use Rattle.route_filter.proofs.Passes.{moved, voice-passed}
+use Rattle.route_filter.specs.VoiceBytes.{has_one_data, voice_bytes, IsVoice, moved}
+use Rattle.route_filter.proofs.Passes.{voice-passed}
 
 -- a message of a channel, by how many data bytes it has
 pub data Voice : List ℕ → Type 0 where
@@ -108,28 +112,72 @@ taken rule s a more o p e f g =
     ∙ and-true (has_kind rule.kinds (kind_of_status s)) (has_channel rule.channels (s % 16)) _ e f
     ∙ ap (λ (q : Option ℕ). option_map (λ n. redirected rule.channel (s ∷ n ∷ more)) q) g
 
--- ---- what `pass` answers
+-- ---- a message by its parts
 
--- the data bytes of a message, 0 where it has none
-abbrev pub data_byte : List ℕ → ℕ → ℕ
-data_byte m i = unwrap_or (slice_get m i) 0
+bytes-one : (s a b : ℕ) → 192 ≤ s → s < 224 → voice_bytes s a b ≡ s ∷ a ∷ []
+bytes-one s a b h l = grind (arith, nat_tests)
 
-pub channel-missing : (rule : RuleArgs) (m : List ℕ) → Voice m → has_channel rule.channels (status_of m % 16) ≡ false → None ≡ passed rule m
-channel-missing rule m (OneByte s a h l k) e = dropped rule s a [] (channel-below s (omega arith) (omega arith)) e
-channel-missing rule m (TwoBytes s a b h l w k g) e = dropped rule s a (b ∷ []) (channel-below s h l) e
+bytes-low : (s a b : ℕ) → s < 192 → voice_bytes s a b ≡ s ∷ a ∷ b ∷ []
+bytes-low s a b l = grind (arith, nat_tests)
 
-pub note-missing : (rule : RuleArgs) (m : List ℕ) → Voice m → has_kind rule.kinds (kind_of m) ≡ true → has_channel rule.channels (status_of m % 16) ≡ true → moved rule (has_note (kind_of m)) (data_byte m 1) ≡ None → None ≡ passed rule m
-note-missing rule m (OneByte s a h l k) e f g = sym (taken rule s a [] None (channel-below s (omega arith) (omega arith)) e f g)
-note-missing rule m (TwoBytes s a b h l w k i) e f g = sym (taken rule s a (b ∷ []) None (channel-below s h l) e f g)
+bytes-high : (s a b : ℕ) → 224 ≤ s → voice_bytes s a b ≡ s ∷ a ∷ b ∷ []
+bytes-high s a b h = grind (arith, nat_tests)
 
-pub sent : (rule : RuleArgs) (m : List ℕ) (first : ℕ) → Voice m → IsTrue (is_rule rule) → has_kind rule.kinds (kind_of m) ≡ true → has_channel rule.channels (status_of m % 16) ≡ true → moved rule (has_note (kind_of m)) (data_byte m 1) ≡ Some first → channel_message (kind_of m) (unwrap_or rule.channel (status_of m % 16)) first (data_byte m 2) ≡ passed rule m
-sent rule m first (OneByte s a h l k) p e f g =
-    let c : is_channel (begins s) ≡ true = channel-below s (omega arith) (omega arith) in
-    one-data s (unwrap_or rule.channel (s % 16)) first h l (new-channel rule s p) (moved-low rule (has_note (kind_of_status s)) a first k g)
-    ∙ ap (λ (xs : List ℕ). Some xs) (sym (redirected-to rule.channel s (first ∷ []) c))
-    ∙ sym (taken rule s a [] (Some first) c e f g)
-sent rule m first (TwoBytes s a b h l w k i) p e f g =
-    let c : is_channel (begins s) ≡ true = channel-below s h l in
-    two-data s (unwrap_or rule.channel (s % 16)) first b h l w (new-channel rule s p) (moved-low rule (has_note (kind_of_status s)) a first k g) i
-    ∙ ap (λ (xs : List ℕ). Some xs) (sym (redirected-to rule.channel s (first ∷ b ∷ []) c))
-    ∙ sym (taken rule s a (b ∷ []) (Some first) c e f g)
+maps-same : (f g : ℕ → List ℕ) (o : Option ℕ) → ((n : ℕ) → f n ≡ g n) → option_map f o ≡ option_map g o
+maps-same f g None same = refl
+maps-same f g (Some n) same = ap (λ (m : List ℕ). Some m) (same n)
+
+-- what a rule makes of a channel message
+pub parts-passed : (rule : RuleArgs) (s a b t : ℕ) → IsTrue (is_rule rule) → 128 ≤ s → s < 240 → t ≡ s / 16 * 16 + unwrap_or rule.channel (s % 16) → passed rule (voice_bytes s a b) ≡ (if has_kind rule.kinds (kind_of_status s) && has_channel rule.channels (s % 16) then option_map (λ n. voice_bytes t n b) (moved rule (has_note (kind_of_status s)) a) else None)
+parts-passed rule s a b t p h l e =
+    go (cases_lt s 192) (cases_lt s 224)
+  where
+    small : unwrap_or rule.channel (s % 16) < 16
+    small = new-channel rule s p
+
+    made : (more : List ℕ) → voice_bytes s a b ≡ s ∷ a ∷ more → ((n : ℕ) → voice_bytes t n b ≡ t ∷ n ∷ more) → passed rule (voice_bytes s a b) ≡ (if has_kind rule.kinds (kind_of_status s) && has_channel rule.channels (s % 16) then option_map (λ n. voice_bytes t n b) (moved rule (has_note (kind_of_status s)) a) else None)
+    made more f g =
+        ap (passed rule) f ∙ voice-passed rule s a more (channel-below s h l)
+        ∙ ap (λ (o : Option (List ℕ)). if has_kind rule.kinds (kind_of_status s) && has_channel rule.channels (s % 16) then o else None)
+        (maps-same (λ n. redirected rule.channel (s ∷ n ∷ more)) (λ n. voice_bytes t n b) (moved rule (has_note (kind_of_status s)) a)
+        (λ n. redirected-to rule.channel s (n ∷ more) (channel-below s h l) ∙ ap (λ (k : ℕ). k ∷ n ∷ more) (sym e) ∙ sym (g n)))
+
+    go : (s < 192) ⊎ (192 ≤ s) → (s < 224) ⊎ (224 ≤ s) → passed rule (voice_bytes s a b) ≡ (if has_kind rule.kinds (kind_of_status s) && has_channel rule.channels (s % 16) then option_map (λ n. voice_bytes t n b) (moved rule (has_note (kind_of_status s)) a) else None)
+    go (inl c) y = made (b ∷ []) (bytes-low s a b c) (λ n. bytes-low t n b (omega (arith, small)))
+    go (inr c) (inl d) = made [] (bytes-one s a b c d) (λ n. bytes-one t n b (omega (arith, small)) (omega (arith, small)))
+    go (inr c) (inr d) = made (b ∷ []) (bytes-high s a b d) (λ n. bytes-high t n b (omega (arith, small)))
+
+-- the parts of a channel message
+pub parts-of : (m : List ℕ) (s a b : ℕ) → IsMessage m → s < 240 → s ≡ status_of m → a ≡ unwrap_or (slice_get m 1) 0 → b ≡ unwrap_or (slice_get m 2) 0 → IsVoice s a b × (voice_bytes s a b ≡ m)
+parts-of m s a b p l e f g =
+    let v : IsVoice (status_of m) (unwrap_or (slice_get m 1) 0) (unwrap_or (slice_get m 2) 0) × (voice_bytes (status_of m) (unwrap_or (slice_get m 1) 0) (unwrap_or (slice_get m 2) 0) ≡ m) = go m (voice-of m p (subst (λ (n : ℕ). n < 240) e l)) in
+    rw (e, f, g) v
+  where
+    go : (m : List ℕ) → Voice m → IsVoice (status_of m) (unwrap_or (slice_get m 1) 0) (unwrap_or (slice_get m 2) 0) × (voice_bytes (status_of m) (unwrap_or (slice_get m 1) 0) (unwrap_or (slice_get m 2) 0) ≡ m)
+    go m (OneByte s a h l k) = (record { least = omega arith; most = omega arith; first_low = k; second_low = omega arith }, bytes-one s a 0 h l)
+    go m (TwoBytes s a b h l w k g) = (record { least = h; most = l; first_low = k; second_low = g }, two (cases_lt s 192))
+      where
+        two : (s < 192) ⊎ (192 ≤ s) → voice_bytes s a b ≡ s ∷ a ∷ b ∷ []
+        two (inl c) = bytes-low s a b c
+        two (inr c) = bytes-high s a b (w c)
+
+-- they make a message
+pub one-message : (s a b : ℕ) (has : Bool) → IsVoice s a b → has ≡ has_one_data s → has ≡ true → IsTrue (is_message (s ∷ a ∷ []))
+one-message s a b has v e f =
+    let both = and_true (nat_le 192 s) (nat_lt s 224) (sym e ∙ f) in
+    message-test (s ∷ a ∷ []) (message-by (Channel One) s (a ∷ []) (begins-C s (leb-true 192 s both.0) (ltb-true s 224 both.1)) (group-one a v.first_low))
+
+pub two-message : (s a b : ℕ) (has : Bool) → IsVoice s a b → has ≡ has_one_data s → has ≡ false → IsTrue (is_message (s ∷ a ∷ b ∷ []))
+two-message s a b has v e f =
+    message-test (s ∷ a ∷ b ∷ []) (message-by (Channel Two) s (a ∷ b ∷ []) (go (cases_lt s 192) (cases_lt s 224)) (group-two a b v.first_low v.second_low))
+  where
+    none : has_one_data s ≡ false
+    none = sym e ∙ f
+
+    between : 192 ≤ s → s < 224 → has_one_data s ≡ true
+    between h l = grind (arith, nat_tests)
+
+    go : (s < 192) ⊎ (192 ≤ s) → (s < 224) ⊎ (224 ≤ s) → begins s ≡ Channel Two
+    go (inl c) y = begins-8 s v.least c
+    go (inr c) (inl d) = let bad : true ≡ false = sym (between c d) ∙ none in cc
+    go (inr c) (inr d) = begins-E s d v.most

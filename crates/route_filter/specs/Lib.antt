@@ -3,3 +3,4 @@ pub mod Passing
 pub mod Laws
 pub mod Worked
 pub mod Codes
+pub mod VoiceBytes

@@ -8,9 +8,11 @@ mod rule;
 mod rule_args;
 #[cfg(test)]
 mod tests;
+mod voice;
 
 pub use laws::{
     gives_channel, keeps_kind, masks_are_sets, open_rule_passes_all, passes_messages, worked_rules,
 };
 pub use rule::Rule;
 pub use rule_args::RuleArgs;
+pub use voice::VoiceMessage;

@@ -1,11 +1,14 @@
 //! Filter rules.
 
-ghost use Rattle.std.specs.Prelude.{◌≡◌, IsTrue, Some, None, pos, ◌+ℤ◌, if◌then◌else◌};
+ghost use Rattle.std.specs.Prelude.{◌≡◌, IsTrue, Some, None, if◌then◌else◌};
+ghost use Rattle.midi_wire.specs.Kinds.{kind_of_status};
 ghost use Rattle.route_filter.specs.Rules.{is_rule};
-ghost use Rattle.route_filter.specs.Passing.{has_note, in_range, as_note, passed};
+ghost use Rattle.route_filter.specs.Passing.{has_note, passed};
+ghost use Rattle.route_filter.specs.VoiceBytes.{moved};
 
 use crate::rule_args::RuleArgs;
-use midi_wire::{Kind, Message};
+use crate::voice::VoiceMessage;
+use midi_wire::Message;
 use std::marker::Model;
 
 /// A filter rule: which messages pass, and how they are changed. It is seen as its arguments.
@@ -54,30 +57,43 @@ impl Rule {
     pub fn pass(&self, message: Message) -> Option<Message>
         ensures { result ≡ passed self.now message }
     {
-        let kind = message.kind();
-        if !self.args.has_kind(kind) {
+        if let Some(voice) = VoiceMessage::of(&message) {
+            let passed = self.pass_voice(voice)?;
+            return Some(passed.message());
+        }
+        if !self.args.has_kind(message.kind()) {
             return None;
         }
-        let status = message.status();
-        if status >= 0xF0 {
-            return Some(message);
-        }
+        Some(message)
+    }
+
+    /// What it makes of a channel message, as `pass` does.
+    #[inline]
+    pub fn pass_voice(&self, voice: VoiceMessage) -> Option<VoiceMessage>
+        ensures { result ≡ passed self.now voice }
+    {
+        let status = voice.status;
         let channel = status % 16;
+        if !self.args.has_voice_kind(status) {
+            return None;
+        }
         if !self.args.has_channel(channel) {
             return None;
         }
-        // A message with one data byte has 0 for a second, as `Message::channel` takes it.
-        let first = message.byte_at(1).unwrap_or(0);
-        let second = message.byte_at(2).unwrap_or(0);
-        let moved = self.moved(kind, first)?;
-        Message::channel(kind, self.args.channel.unwrap_or(channel), moved, second)
+        let first = self.moved(has_note(status), voice.first)?;
+        Some(VoiceMessage {
+            status: status - channel + self.args.channel.unwrap_or(channel),
+            first,
+            second: voice.second,
+        })
     }
 
-    /// Where the first data byte goes. A note in the range is shifted, if that leaves a note.
-    fn moved(&self, kind: Kind, first: u8) -> Option<u8>
-        ensures { result ≡ (if has_note kind then (if in_range self.now first then as_note (pos first +ℤ self.now.shift) else None) else Some first) }
+    /// Where the first data byte of a channel message goes. A note in the range is shifted, if that leaves a note.
+    #[inline]
+    fn moved(&self, is_note: bool, first: u8) -> Option<u8>
+        ensures { result ≡ moved self.now is_note first }
     {
-        if !has_note(kind) {
+        if !is_note {
             return Some(first);
         }
         if first < self.args.low || first > self.args.high {
@@ -91,9 +107,10 @@ impl Rule {
     }
 }
 
-/// Whether the first data byte of such a message is a note.
-fn has_note(kind: Kind) -> bool
-    ensures { result ≡ has_note kind }
+/// Whether the first data byte of such a channel message is a note: note off, note on and polyphonic pressure, 8n to An.
+#[inline]
+fn has_note(status: u8) -> bool
+    ensures { result ≡ has_note (kind_of_status status) }
 {
-    matches!(kind, Kind::NoteOff | Kind::NoteOn | Kind::PolyPressure)
+    status < 0xB0
 }

@@ -1,6 +1,7 @@
 //! What a rule is made of.
 
-ghost use Rattle.std.specs.Prelude.{◌≡◌, ◌<◌};
+ghost use Rattle.std.specs.Prelude.{◌≡◌, ◌≤◌, ◌<◌};
+ghost use Rattle.midi_wire.specs.Kinds.{kind_of_status};
 ghost use Rattle.route_filter.specs.Rules.{kind_bit, has_kind, has_channel, is_rule};
 
 use midi_wire::Kind;
@@ -42,7 +43,19 @@ impl RuleArgs {
         self.kinds & kind_bit(kind) != 0
     }
 
+    /// Whether the kind of a channel message with this status is in the set of kinds.
+    #[inline]
+    pub(crate) fn has_voice_kind(&self, status: u8) -> bool
+        requires least { 128 ≤ status }
+        requires most { status < 240 }
+        ensures { result ≡ has_kind self.now.kinds (kind_of_status status) }
+    {
+        // The bits of these kinds stand in the order of their statuses, 8n to En.
+        self.kinds & (1 << (status / 16 - 8)) != 0
+    }
+
     /// Whether the channel is in the mask of channels.
+    #[inline]
     pub(crate) fn has_channel(&self, channel: u8) -> bool
         requires { channel < 16 }
         ensures { result ≡ has_channel self.now.channels channel }

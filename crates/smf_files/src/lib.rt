@@ -19,4 +19,4 @@ pub use file::SmfFile;
 pub use memory::OutOfMemory;
 pub use smf_grammar::{Event, QuantityFault, SmfFault, quantity};
 pub use tempo_clock::{TempoEntry, TempoMap};
-pub use write::write_format0;
+pub use write::{stands_in_files, write_format0};

@@ -45,8 +45,8 @@ fn can_follow(before: u64, event: &Event) -> bool
     event.tick >= before && event.tick - before <= MOST_DELTA && stands_in_files(&event.message)
 }
 
-/// Whether a message is one of a channel, or exclusive.
-fn stands_in_files(message: &Message) -> bool
+/// Whether a file can hold a message: one of a channel, or exclusive.
+pub fn stands_in_files(message: &Message) -> bool
     ensures value { result ≡ stands_in_files (begins (status_of message.now)) }
     ensures message { IsMessage message.now }
 {

@@ -20,7 +20,7 @@ starts [] bytes = true
 starts (x ∷ xs) [] = false
 starts (x ∷ xs) (b ∷ bytes) = (b == x) && starts xs bytes
 
--- bit 15 is set: the high byte is minus the frames per second, the low byte the ticks per frame
+-- bit 15 is set: the upper byte is the negated frames per second, the lower the ticks of a frame
 abbrev pub counts_frames : ℕ → Bool
 counts_frames division = nat_le 32768 division
 

@@ -1,5 +1,5 @@
--- Variable-length quantities: seven bits in each byte, the most significant first, with bit 7 set
--- on all bytes but the last, at most four bytes (Standard MIDI Files 1.0, "Conventions").
+-- Variable-length quantities: one to four bytes of seven bits, high bits first; bit 7 says that
+-- another byte follows (Standard MIDI Files 1.0, "Conventions").
 use Rattle.std.specs.Prelude.{ℕ, suc, ◌+◌, ◌*◌, ◌%◌, List, [], ◌∷◌, length, take, Result, Ok, Err, nat_le, ◌==◌, if◌then◌else◌}
 use Rattle.midi_wire.specs.Messages.{is_status}
 use Rattle.smf_grammar.specs.declared.fault.QuantityFault.{QuantityFault}

@@ -50,7 +50,8 @@ pub enum ChunkFault {
     Cut,
 }
 
-/// Why bytes are no Standard MIDI File that can be read. It prints as its number, its name, and its place or track.
+/// Why bytes are no Standard MIDI File that can be read. Printed, it is its number and its name, then its place or
+/// track, if it has one.
 #[derive(Clone, Copy, Debug, Drop, PartialEq, Eq)]
 pub enum SmfFault {
     /// The first four bytes are not `MThd`.

@@ -3,7 +3,7 @@ use Rattle.std.proofs.Common.{◌≡◌, ◌≤◌, ◌<◌, ◌*◌, ◌∙◌,
 use Rattle.std.specs.Prelude.{filter, nat_lt}
 use Rattle.std.proofs.lemmas.Bool.Decides.{nat_tests}
 use Rattle.tempo_clock.specs.declared.entry.TempoEntry.{TempoEntry}
-use Rattle.tempo_clock.specs.Ticks.{Tempos, is_smpte, resolution, tempo_or, duration, numerator, changed}
+use Rattle.tempo_clock.specs.Ticks.{Tempos, is_smpte, resolution, tempo_or, duration, numerator, with_tempo_from}
 use Rattle.tempo_clock.proofs.Comparisons.{order}
 use Rattle.tempo_clock.proofs.Numerators.{numerator-alike}
 
@@ -35,16 +35,16 @@ tempo_or-kept d (e ∷ es) from tick h = elim (order from e.tick) [
       ∙ tempo_or-kept d es from tick h ∙ sym (ap (λ b. tempo_or (cond b e.tempo d) es tick) none)
 ]
 
-duration-before : (m : Tempos) (from tempo u : ℕ) → u < from → duration (changed m from tempo) u ≡ duration m u
+duration-before : (m : Tempos) (from tempo u : ℕ) → u < from → duration (with_tempo_from m from tempo) u ≡ duration m u
 unfolding duration
 duration-before m from tempo u h =
     ap (λ n. cond (is_smpte m) 1000000000 (1000 * n)) (tempo_or-later 0 (filter (λ e. nat_lt e.tick from) m.entries) (record { tick = from; tempo = tempo }) u h ∙ tempo_or-kept 0 m.entries from u h)
 
 -- the ticks up to the first that is changed
-pub numerator-changed : (m : Tempos) (from tempo t : ℕ) → t ≤ from → numerator (changed m from tempo) t ≡ numerator m t
-numerator-changed m from tempo t h = numerator-alike (changed m from tempo) m t (λ u below. duration-before m from tempo u (omega arith))
+pub numerator-changed : (m : Tempos) (from tempo t : ℕ) → t ≤ from → numerator (with_tempo_from m from tempo) t ≡ numerator m t
+numerator-changed m from tempo t h = numerator-alike (with_tempo_from m from tempo) m t (λ u below. duration-before m from tempo u (omega arith))
 
 -- the ticks per quarter note or second
-pub resolution-changed : (m : Tempos) (from tempo : ℕ) → resolution (changed m from tempo) ≡ resolution m
+pub resolution-changed : (m : Tempos) (from tempo : ℕ) → resolution (with_tempo_from m from tempo) ≡ resolution m
 unfolding resolution
 resolution-changed m from tempo = refl

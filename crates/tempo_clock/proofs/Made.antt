@@ -6,7 +6,7 @@ use Rattle.std.proofs.lemmas.Bool.Decides.{nat_tests}
 use Rattle.std.proofs.lemmas.Nat.{div-mul-add, mod-mul-add, mul-le}
 use Rattle.tempo_clock.specs.declared.entry.TempoEntry.{TempoEntry}
 use Rattle.tempo_clock.specs.Entries.{is_tempo, is_ppq, are_rising_from, are_entries, is_smpte_rate}
-use Rattle.tempo_clock.specs.Ticks.{Tempos, is_smpte, resolution, numerator, changed}
+use Rattle.tempo_clock.specs.Ticks.{Tempos, is_smpte, resolution, numerator, with_tempo_from}
 use Rattle.tempo_clock.specs.Kept.{entry_at, AreOrdered, AreStarts, AreBefore, IsKept}
 use Rattle.tempo_clock.proofs.Comparisons.{order, both, either}
 use Rattle.tempo_clock.proofs.Numerators.{numerator-alike, duration-metrical}
@@ -308,7 +308,7 @@ pub kept-changed : (m : Tempos) (ppq : ℕ) (starts : List ℕ) (kept from tempo
 unfolding resolution
 kept-changed m ppq starts kept from tempo start es ss k t d b s e f =
     let n : Tempos = record { division = m.division; entries = es } in
-    let same : n ≡ changed m from tempo = ap (λ xs. record { division = m.division; entries = xs }) (e ∙ ap (λ xs. xs ++ record { tick = from; tempo = tempo } ∷ []) b.all) in
+    let same : n ≡ with_tempo_from m from tempo = ap (λ xs. record { division = m.division; entries = xs }) (e ∙ ap (λ xs. xs ++ record { tick = from; tempo = tempo } ∷ []) b.all) in
     let alike : (u : ℕ) → u ≤ from → numerator n u ≡ numerator m u = λ u h. ap (λ x. numerator x u) same ∙ numerator-changed m from tempo u h in
     let size : length es ≡ kept + 1 = ap length e ∙ length-kept m.entries kept (record { tick = from; tempo = tempo }) b.within in
     let range = tempo_above tempo t in

@@ -4,7 +4,7 @@ use Rattle.std.specs.Prelude.{nat_le}
 use Rattle.tempo_clock.specs.declared.due.Due.{Due}
 use Rattle.tempo_clock.specs.declared.due.Due.TheVariants.{Tick, Nanos}
 use Rattle.tempo_clock.specs.Search.{least}
-use Rattle.tempo_clock.specs.Ticks.{Tempos, resolution, nanos_at, first_tick_from, changed}
+use Rattle.tempo_clock.specs.Ticks.{Tempos, resolution, nanos_at, first_tick_from, with_tempo_from}
 use Rattle.tempo_clock.specs.Clocks.{Clock, elapsed, runs_by, changed_from, with_tempo, due_time, is_due, moment_of}
 use Rattle.tempo_clock.specs.Laws.{IsMoment, NoLater}
 use Rattle.tempo_clock.proofs.Searches.{IsLeast, least-found, least-none_passes, least-is}
@@ -65,7 +65,7 @@ due_alike m nanos tempo shown (Nanos d) (Some from) p h e = refl
 due_alike m nanos tempo shown (Tick t) (Some from) p h e = elim (order t from) [
   | inl before ↦ ap (λ n. nat_le n shown) (tempo_keeps_ticks m from tempo t before)
   | inr later ↦
-      let new : nanos ≤ nanos_at (changed m from tempo) t = tempo_is_not_before m nanos from tempo t p e (omega arith) in
+      let new : nanos ≤ nanos_at (with_tempo_from m from tempo) t = tempo_is_not_before m nanos from tempo t p e (omega arith) in
       let old : nanos ≤ nanos_at m t = tempo_was_not_before m nanos from t p e (omega arith) in
       is_above _ _ (omega arith) ∙ sym (is_above _ _ (omega arith))
 ]

@@ -4,7 +4,7 @@ use Rattle.std.proofs.Math.Nat.{mul-le-mul_right, le_of_mul-le-mul_right, div-ze
 use Rattle.std.proofs.lemmas.Grind.{div_ceil_times}
 use Rattle.std.specs.Int.{div_ceil}
 use Rattle.std.specs.Prelude.{nat_le}
-use Rattle.tempo_clock.specs.Ticks.{Tempos, resolution, duration, numerator, nanos_at, tick_at, first_tick_from, changed}
+use Rattle.tempo_clock.specs.Ticks.{Tempos, resolution, duration, numerator, nanos_at, tick_at, first_tick_from, with_tempo_from}
 use Rattle.tempo_clock.specs.Laws.{IsLastTick, IsFirstTick}
 use Rattle.tempo_clock.proofs.Comparisons.{order, not_above}
 use Rattle.tempo_clock.proofs.Searches.{IsLeast, least-found, least-none_passes}
@@ -104,19 +104,19 @@ ticks_come_back_exactly m t p h long =
 
 -- ---- a change of tempo
 
-pub tempo_keeps_ticks : (m : Tempos) (from tempo t : ℕ) → t ≤ from → nanos_at (changed m from tempo) t ≡ nanos_at m t
+pub tempo_keeps_ticks : (m : Tempos) (from tempo t : ℕ) → t ≤ from → nanos_at (with_tempo_from m from tempo) t ≡ nanos_at m t
 unfolding nanos_at
 tempo_keeps_ticks m from tempo t h =
-    ap (λ n. div_ceil n (resolution (changed m from tempo))) (numerator-changed m from tempo t h)
+    ap (λ n. div_ceil n (resolution (with_tempo_from m from tempo))) (numerator-changed m from tempo t h)
     ∙ ap (div_ceil (numerator m t)) (resolution-changed m from tempo)
 
-pub tempo_is_not_before : (m : Tempos) (nanos from tempo t : ℕ) → 0 < resolution m → first_tick_from m nanos ≡ Some from → from ≤ t → nanos ≤ nanos_at (changed m from tempo) t
+pub tempo_is_not_before : (m : Tempos) (nanos from tempo t : ℕ) → 0 < resolution m → first_tick_from m nanos ≡ Some from → from ≤ t → nanos ≤ nanos_at (with_tempo_from m from tempo) t
 tempo_is_not_before m nanos from tempo t p e h =
     let later : nanos * resolution m ≤ numerator m from = (ticks_are_first m nanos from e).later in
-    let same : numerator (changed m from tempo) from ≡ numerator m from = numerator-changed m from tempo from (omega arith) in
-    let rise : numerator (changed m from tempo) from ≤ numerator (changed m from tempo) t = numerator-rises (changed m from tempo) from t h in
-    let alike : resolution (changed m from tempo) ≡ resolution m = resolution-changed m from tempo in
-    nanos-at_least (changed m from tempo) t nanos (rw alike p) (rw alike (omega arith))
+    let same : numerator (with_tempo_from m from tempo) from ≡ numerator m from = numerator-changed m from tempo from (omega arith) in
+    let rise : numerator (with_tempo_from m from tempo) from ≤ numerator (with_tempo_from m from tempo) t = numerator-rises (with_tempo_from m from tempo) from t h in
+    let alike : resolution (with_tempo_from m from tempo) ≡ resolution m = resolution-changed m from tempo in
+    nanos-at_least (with_tempo_from m from tempo) t nanos (rw alike p) (rw alike (omega arith))
 
 -- nor had any such tick before
 pub tempo_was_not_before : (m : Tempos) (nanos from t : ℕ) → 0 < resolution m → first_tick_from m nanos ≡ Some from → from ≤ t → nanos ≤ nanos_at m t

@@ -3,7 +3,7 @@ use Rattle.std.specs.Prelude.{ℕ, ◌+◌, ◌-◌, ◌^◌, Bool, false, ◌&&
 use Rattle.tempo_clock.specs.declared.due.Due.{Due}
 use Rattle.tempo_clock.specs.declared.due.Due.TheVariants.{Tick, Nanos}
 use Rattle.tempo_clock.specs.Search.{least}
-use Rattle.tempo_clock.specs.Ticks.{Tempos, nanos_at, first_tick_from, changed}
+use Rattle.tempo_clock.specs.Ticks.{Tempos, nanos_at, first_tick_from, with_tempo_from}
 
 -- a clock is held at a time, or has run from that time since a moment; all in nanoseconds
 pub record Clock : Type 0 where
@@ -39,7 +39,7 @@ resumed c moment = record c { since = Some moment }
 -- one tempo from a tick on, where there is such a tick
 abbrev pub changed_from : Tempos → Option ℕ → ℕ → Tempos
 changed_from m None tempo = m
-changed_from m (Some tick) tempo = changed m tick tempo
+changed_from m (Some tick) tempo = with_tempo_from m tick tempo
 
 -- one tempo from the first tick on whose time is not before what the clock shows
 abbrev pub with_tempo : Clock → ℕ → ℕ → Clock

@@ -1,7 +1,7 @@
 -- What holds of tempo maps and clocks, for all numbers.
 use Rattle.std.specs.Prelude.{◌≡◌, ℕ, ◌*◌, ◌<◌, ◌≤◌, ◌^◌, ◌↔◌, true, false, Option, Some, None}
 use Rattle.tempo_clock.specs.declared.due.Due.{Due}
-use Rattle.tempo_clock.specs.Ticks.{Tempos, resolution, duration, numerator, nanos_at, tick_at, first_tick_from, changed}
+use Rattle.tempo_clock.specs.Ticks.{Tempos, resolution, duration, numerator, nanos_at, tick_at, first_tick_from, with_tempo_from}
 use Rattle.tempo_clock.specs.Clocks.{Clock, elapsed, runs_by, started, stopped, resumed, due_time, is_due, with_tempo, moment_of}
 
 -- a tick comes at the least number of nanoseconds that reaches its numerator
@@ -71,11 +71,11 @@ MomentsRise = (c : Clock) (a b : ℕ) (d e : Due) → a ≤ b → due_time c.map
 
 -- a change of tempo leaves the times of the ticks up to it
 abbrev pub TempoKeepsTicks : Type 0
-TempoKeepsTicks = (m : Tempos) (from tempo t : ℕ) → t ≤ from → nanos_at (changed m from tempo) t ≡ nanos_at m t
+TempoKeepsTicks = (m : Tempos) (from tempo t : ℕ) → t ≤ from → nanos_at (with_tempo_from m from tempo) t ≡ nanos_at m t
 
 -- and gives no tick from there on a time before that of the change
 abbrev pub TempoIsNotBefore : Type 0
-TempoIsNotBefore = (m : Tempos) (nanos from tempo t : ℕ) → 0 < resolution m → first_tick_from m nanos ≡ Some from → from ≤ t → nanos ≤ nanos_at (changed m from tempo) t
+TempoIsNotBefore = (m : Tempos) (nanos from tempo t : ℕ) → 0 < resolution m → first_tick_from m nanos ≡ Some from → from ≤ t → nanos ≤ nanos_at (with_tempo_from m from tempo) t
 
 -- where no tick is left to change, nothing changes
 abbrev pub TempoChangesNothing : Type 0

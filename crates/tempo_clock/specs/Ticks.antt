@@ -44,5 +44,5 @@ unfoldable pub first_tick_from : Tempos → ℕ → Option ℕ
 first_tick_from m nanos = least (λ tick. nat_le (nanos * resolution m) (numerator m tick)) (2 ^ 64 - 1)
 
 -- the map with one tempo from a tick on
-abbrev pub changed : Tempos → ℕ → ℕ → Tempos
-changed m from tempo = record m { entries = filter (λ e. nat_lt e.tick from) m.entries ++ record { tick = from; tempo = tempo } ∷ [] }
+abbrev pub with_tempo_from : Tempos → ℕ → ℕ → Tempos
+with_tempo_from m from tempo = record m { entries = filter (λ e. nat_lt e.tick from) m.entries ++ record { tick = from; tempo = tempo } ∷ [] }

@@ -1,7 +1,7 @@
 -- The definitions at a few ticks.
 use Rattle.std.specs.Prelude.{◌≡◌, [], ◌∷◌}
 use Rattle.tempo_clock.specs.Entries.{smpte_word}
-use Rattle.tempo_clock.specs.Ticks.{Tempos, resolution, nanos_at, changed}
+use Rattle.tempo_clock.specs.Ticks.{Tempos, resolution, nanos_at, with_tempo_from}
 
 -- 480 ticks per quarter note, two quarter notes a second
 abbrev pub two_a_second : Tempos
@@ -15,7 +15,7 @@ pub record TickTimes : Type 0 where
 
 -- the time up to a change of tempo is not rounded on the way
 abbrev pub TickAfterChange : Type 0
-TickAfterChange = nanos_at (changed two_a_second 1 250000) 2 ≡ 1562500
+TickAfterChange = nanos_at (with_tempo_from two_a_second 1 250000) 2 ≡ 1562500
 
 -- 80 ticks in each of 30 frames a second
 abbrev pub thirty_frames : Tempos

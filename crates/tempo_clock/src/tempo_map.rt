@@ -2,7 +2,7 @@
 
 ghost use Rattle.std.specs.Prelude.{◌≡◌, ◌≤◌, ◌<◌, ◌+◌, ◌*◌, ◌-◌, ◌^◌, ◌↔◌, ℕ, true, false, [], ◌++◌, length, IfOk, OnOk, OnErr, IsErrOf, IsOk, ◌&&◌, vec_len, vec_capacity, filter, nat_lt};
 ghost use Rattle.tempo_clock.specs.Entries.{is_tempo, is_ppq, are_entries, is_smpte_rate, smpte_word};
-ghost use Rattle.tempo_clock.specs.Ticks.{resolution, numerator, nanos_at, tick_at, first_tick_from, changed};
+ghost use Rattle.tempo_clock.specs.Ticks.{resolution, numerator, nanos_at, tick_at, first_tick_from, with_tempo_from};
 ghost use Rattle.tempo_clock.specs.Kept.{entry_at, AreOrdered, AreStarts, IsSplit, AreBefore};
 
 use crate::entry::TempoEntry;
@@ -285,7 +285,7 @@ impl TempoMap {
     pub fn change(&mut self, from_tick: u64, tempo: u32) -> Result<(), OutOfMemory>
         requires tempo { is_tempo tempo ≡ true }
         requires metrical { self.old.division < 32768 }
-        ensures ok { OnOk result (self.new ≡ changed self.old from_tick tempo) }
+        ensures ok { OnOk result (self.new ≡ with_tempo_from self.old from_tick tempo) }
         ensures err { OnErr result (self.new ≡ self.old) }
         ensures memory { OnErr result (self.old.entries ≡ filter (λ e. nat_lt e.tick from_tick) self.old.entries) }
     {

@@ -3,4 +3,4 @@ use Rattle.patch_graph.proofs.graph.PatchGraph.new.Goals as goal
 
 pub invariant_of-result : goal.invariant_of-result
 invariant_of-result c =
-    (empty_graph c.new.result.keys c.new.ensures.empty, empty_index (λ v. v.items) c.new.result.keys _ _ c.new.ensures.empty c.no_targets.ensures.len c.zeros.ensures.len c.no_targets.ensures.none c.zeros.ensures.none)
+    (empty_graph c.new.result.keys c.new.ensures.empty, empty_index (λ v. v.items) c.new.result.keys _ _ c.new.ensures.empty c.new-2.ensures.items c.new-3.ensures.items)
