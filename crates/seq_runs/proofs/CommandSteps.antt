@@ -20,7 +20,7 @@ use Rattle.seq_state.specs.declared.refusal.Refusal.{Refusal}
 use Rattle.seq_state.specs.Files.{File}
 use Rattle.seq_state.specs.Refusals.{number_of}
 use Rattle.seq_state.specs.State.{Client, Pool, Event, Playback, State, put}
-use Rattle.seq_state.specs.Own.{Own, kept, new_client, playback, pool_status, queue_status}
+use Rattle.seq_state.specs.Own.{Own, done_with, new_client, playback, pool_status, queue_status}
 use Rattle.seq_state.specs.Table.{command_row, connected, disconnected, from_port, queue_named}
 use Rattle.seq_state.specs.Step.{Stepped, sent, send_copies, without_due, event_copies, loses, drops, used, with_own, named_queue, row_of, refusal_of, unless, command_step}
 use Rattle.seq_state.specs.Laws.{all_timed, sorted}
@@ -51,7 +51,7 @@ opened s actor name in_size out_size =
 -- what a client that closes leaves
 abbrev pub leaving : Own
 leaving =
-    record (kept None) {
+    record (done_with None) {
       pool = λ p. None;
       gone = λ n. true;
       dropped = λ p. true;
@@ -82,16 +82,16 @@ playing s client q p =
 -- the client has this, and these of its nodes, playbacks and queues go
 abbrev pub without : Client → (Node → Bool) → (Playback → Bool) → (ℕ → Bool) → Own
 without c gone dropped queue_gone =
-    record (kept (Some c)) { gone = gone; dropped = dropped; queue_gone = queue_gone }
+    record (done_with (Some c)) { gone = gone; dropped = dropped; queue_gone = queue_gone }
 
 -- the client keeps what it has, and gets a playback
 abbrev pub with_playback : State → ℕ → Playback → Own
-with_playback s actor p = record (kept (FinMap.get s.clients actor)) { added = p ∷ [] }
+with_playback s actor p = record (done_with (FinMap.get s.clients actor)) { added = p ∷ [] }
 
 -- the client has this, and a port of it sends these messages
 abbrev pub sending : Client → ℕ → List (List ℕ) → Own
 sending c port ms =
-    record (kept (Some c)) { sends = map (from_port port) ms; reply = λ p. Messages (length ms) }
+    record (done_with (Some c)) { sends = map (from_port port) ms; reply = λ p. Messages (length ms) }
 
 -- ---- settling
 
@@ -117,18 +117,18 @@ given s actor client pool =
 module _ (s : State) (actor : ℕ) (q : Option QueueAddr) where
   -- nothing of the actor's goes
   with_own-kept : (client : Option Client) (pool : Option Pool → Option Pool) →
-      with_own s actor q (record (kept client) { pool = pool }) ≡ given s actor client pool
+      with_own s actor q (record (done_with client) { pool = pool }) ≡ given s actor client pool
   with_own-kept client pool =
       let v : State = given s actor client pool in
       ap (λ es. record v {
         edges = es;
-        pending = filter (λ p. not (drops actor (kept client) p)) s.pending ++ [];
+        pending = filter (λ p. not (drops actor (done_with client) p)) s.pending ++ [];
       })
       (none-lost actor s.edges)
       ∙ ap (λ ps. record v { pending = ps }) (append-nil _ ∙ none-dropped actor client s.pending)
 
   -- nor changes in its input pool
-  with_own-held : (client : Option Client) → with_own s actor q (kept client) ≡
+  with_own-held : (client : Option Client) → with_own s actor q (done_with client) ≡
       record s { clients = put s.clients actor client }
   with_own-held client =
       with_own-kept client (λ p. p)
@@ -136,7 +136,7 @@ module _ (s : State) (actor : ℕ) (q : Option QueueAddr) where
       (put-same s.pools actor)
 
   -- nor in what it has
-  with_own-same : with_own s actor q (kept (FinMap.get s.clients actor)) ≡ s
+  with_own-same : with_own s actor q (done_with (FinMap.get s.clients actor)) ≡ s
   with_own-same =
       with_own-held (FinMap.get s.clients actor)
       ∙ ap (λ x. record s { clients = x }) (put-same s.clients actor)
@@ -190,7 +190,7 @@ module _ {s u : State} {m : ℕ} {ds : List Delivery} (files : List File) (first
       let client : Option Client = Some (new_client name in_size out_size) in
       let pool : Option Pool → Option Pool = λ p. Some (empty_pool in_size) in
       let v : State = opened u actor name in_size out_size in
-      does (Open name in_size out_size) (record (kept client) { pool = pool }) v v []
+      does (Open name in_size out_size) (record (done_with client) { pool = pool }) v v []
       (simp (free, named, sized)) (with_own-kept u actor None client pool) refl
 
   pub closes : refusal_of files u m actor Close ≡ None →
@@ -201,10 +201,10 @@ module _ {s u : State} {m : ℕ} {ds : List Delivery} (files : List File) (first
 
   -- one that is open has something else then, and nothing goes
   pub changes : (command : Command) (c : Client) → answer (row_of files u m actor command) ≡
-      (None, kept (Some c)) → Comes files s (at m actor command)
+      (None, done_with (Some c)) → Comes files s (at m actor command)
       (to (holding u actor c) (ds ++ []) Done)
   changes command c e =
-      does command (kept (Some c)) (holding u actor c) (holding u actor c) [] e
+      does command (done_with (Some c)) (holding u actor c) (holding u actor c) [] e
       (with_own-held u actor (queue_named command) (Some c)) refl
 
   -- and something goes
@@ -277,7 +277,7 @@ module _ {s u : State} {m : ℕ} {ds : List Delivery} (files : List File) (first
       Comes files s (at m actor (Send port message)) (to t (ds ++ es) Done)
   unfolding command_row
   sends port message t es r e =
-      let own : Own = record (kept (FinMap.get u.clients actor)) {
+      let own : Own = record (done_with (FinMap.get u.clients actor)) {
         sends = from_port port message
             ∷ [];
       } in
@@ -308,7 +308,7 @@ module _ {s u : State} {m : ℕ} {ds : List Delivery} (files : List File) (first
       Comes files s (at m actor (QueueStatus q)) (to u (ds ++ []) status)
   unfolding command_row
   asks-queue q status r e =
-      let told : Reply → Own = λ x. record (kept (FinMap.get u.clients actor)) { reply = λ p. x } in
+      let told : Reply → Own = λ x. record (done_with (FinMap.get u.clients actor)) { reply = λ p. x } in
       does (QueueStatus q) (told status) u u []
       (ap (λ x. (x, told (queue_status m (named_queue u.clients actor (Some q))))) r
       ∙ ap (λ x. (None, told x)) e) (with_own-same u actor (Some q)) refl

@@ -2,7 +2,7 @@
 use Rattle.std.proofs.Common.{true, false, List, [], ◌∷◌, ◌++◌, Some, None, refl, arith}
 use Rattle.std.specs.Prelude.{codes}
 use Rattle.tempo_clock.specs.Clocks.{Clock}
-use Rattle.tempo_clock.specs.Ticks.{nanos_at, numerator, duration, tempo_or, resolution, changed}
+use Rattle.tempo_clock.specs.Ticks.{nanos_at, numerator, duration, tempo_or, resolution, with_tempo_from}
 use Rattle.tempo_clock.specs.Worked.{two_a_second}
 use Rattle.tempo_clock.specs.declared.due.Due.TheVariants.{Tick, Nanos}
 use Rattle.tempo_clock.proofs.Moments.{moment-held}
@@ -51,7 +51,7 @@ abbrev resumed : Client
 resumed = with_queue stopped false 100 (Some 400)
 
 abbrev faster_clock : Clock
-faster_clock = record { map = changed two_a_second 1 250000; time = 100; since = Some 400 }
+faster_clock = record { map = with_tempo_from two_a_second 1 250000; time = 100; since = Some 400 }
 
 abbrev faster : Client
 faster = put_queue 0 (Some (record { clock = faster_clock; shared = false })) resumed
@@ -129,15 +129,15 @@ fourth-later : IsDue two_a_second 100 400 0 (Tick 2) (Some 2083634)
 unfolding nanos_at numerator duration tempo_or resolution
 fourth-later = clock-moment two_a_second 100 400 0 2083334 (Tick 2) refl (omega arith)
 
-third-last : IsDue (changed two_a_second 1 250000) 100 400 0 (Nanos 18446744073709551615) None
+third-last : IsDue (with_tempo_from two_a_second 1 250000) 100 400 0 (Nanos 18446744073709551615) None
 third-last =
-    clock-never (changed two_a_second 1 250000) 100 400 0 18446744073709551615
+    clock-never (with_tempo_from two_a_second 1 250000) 100 400 0 18446744073709551615
     (Nanos 18446744073709551615) refl (λ h. omega arith)
 
-fourth-last : IsDue (changed two_a_second 1 250000) 100 400 0 (Tick 2) (Some 1562800)
+fourth-last : IsDue (with_tempo_from two_a_second 1 250000) 100 400 0 (Tick 2) (Some 1562800)
 unfolding nanos_at numerator duration tempo_or resolution
 fourth-last =
-    clock-moment (changed two_a_second 1 250000) 100 400 0 1562500 (Tick 2) refl (omega arith)
+    clock-moment (with_tempo_from two_a_second 1 250000) 100 400 0 1562500 (Tick 2) refl (omega arith)
 
 calm : IsCalm s7 0 128
 calm clients pools edges same =

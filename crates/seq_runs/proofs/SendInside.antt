@@ -6,7 +6,7 @@ use Rattle.midi_wire.specs.Messages.{begins}
 use Rattle.midi_wire.specs.Readings.{reading, rest}
 use Rattle.seq_state.specs.declared.log.LogEntry.{LogEntry}
 use Rattle.seq_state.specs.declared.log.Reply.TheVariants.{Done, Messages}
-use Rattle.seq_state.specs.Heard.{port_of, port_bytes}
+use Rattle.seq_state.specs.Heard.{port_at, port_bytes}
 use Rattle.seq_state.specs.State.{Client, State, start}
 use Rattle.seq_state.specs.Table.{command_row}
 use Rattle.seq_state.specs.Step.{Stepped, plain}
@@ -68,10 +68,10 @@ log = log_of 0 send_inside_message after []
 logged : plain [] send_inside_message 10 ≡ log
 logged = trace-log trace (still s8 10 refl)
 
-written_bytes : port_bytes (port_of 129 0) log ≡ between ++ note 0x3C
+written_bytes : port_bytes (port_at 129 0) log ≡ between ++ note 0x3C
 unfolding begins kind_of_status
 written_bytes = refl
 
 pub send_inside : SendInside
 send_inside =
-    record { log = logged; bytes = ap (port_bytes (port_of 129 0)) logged ∙ written_bytes }
+    record { log = logged; bytes = ap (port_bytes (port_at 129 0)) logged ∙ written_bytes }

@@ -5,7 +5,7 @@ use Rattle.std.specs.Ordering.{nat_cmp}
 use Rattle.std.specs.FinMap
 use Rattle.std.specs.FinMap.{FinMap}
 use Rattle.tempo_clock.specs.Clocks.{moment_of, due_time}
-use Rattle.tempo_clock.specs.Ticks.{Tempos, nanos_at, numerator, duration, tempo_or, resolution, tick_at, first_tick_from, changed}
+use Rattle.tempo_clock.specs.Ticks.{Tempos, nanos_at, numerator, duration, tempo_or, resolution, tick_at, first_tick_from, with_tempo_from}
 use Rattle.tempo_clock.specs.Worked.{two_a_second}
 use Rattle.tempo_clock.proofs.TickLaws.{ticks_come_back_exactly}
 use Rattle.std.specs.Prelude.{nat_le}
@@ -164,10 +164,10 @@ unfolding nanos_at numerator duration tempo_or resolution
 tick-at_one = ticks_come_back_exactly two_a_second 1 (omega arith) (omega arith) (omega arith)
 
 -- tick 2 comes half a tick sooner where the tempo doubles at tick 1
-pub tick-at_second : tick_at (changed two_a_second 1 250000) 1562500 ≡ 2
+pub tick-at_second : tick_at (with_tempo_from two_a_second 1 250000) 1562500 ≡ 2
 unfolding nanos_at numerator duration tempo_or resolution
 tick-at_second =
-    ticks_come_back_exactly (changed two_a_second 1 250000) 2 (omega arith) (omega arith)
+    ticks_come_back_exactly (with_tempo_from two_a_second 1 250000) 2 (omega arith) (omega arith)
     (omega arith)
 
 -- after 1,000 ns the next tick is the first

@@ -17,7 +17,7 @@ use Rattle.seq_state.specs.declared.log.LogEntry.TheVariants.{Delivered, Replied
 use Rattle.seq_state.specs.declared.log.Reply.TheVariants.{Done, Messages, Queue, Received, Pools, Refused}
 use Rattle.seq_state.specs.Files.{File}
 use Rattle.seq_state.specs.Step.{plain, port_addr}
-use Rattle.seq_state.specs.Heard.{port_of, port_bytes}
+use Rattle.seq_state.specs.Heard.{port_at, port_bytes}
 use Rattle.seq_state.specs.Circle.{IsClosed, view, Came, Told, Outside}
 
 -- ---- short forms
@@ -399,7 +399,7 @@ pub record SendInside : Type 0 where
       ∷ Replied 6 5 128 Done
       ∷ Delivered (came 5 129 0 (note 0x3C))
       ∷ Replied 7 5 128 (Messages 1) ∷ []
-  pub bytes : port_bytes (port_of 129 0) (plain [] send_inside_message 10) ≡ 0xB0 ∷ 0x07 ∷ 0x7F ∷ 0x90 ∷ 0x3C ∷ 0x40 ∷ []
+  pub bytes : port_bytes (port_at 129 0) (plain [] send_inside_message 10) ≡ 0xB0 ∷ 0x07 ∷ 0x7F ∷ 0x90 ∷ 0x3C ∷ 0x40 ∷ []
 
 -- A client with something waiting and something lost closes and opens again: it finds nothing waiting, nothing lost, and no
 -- subscription.

@@ -25,7 +25,7 @@ use Rattle.seq_state.specs.declared.refusal.Refusal.TheVariants as refusal
 use Rattle.seq_state.specs.Files.{File}
 use Rattle.seq_state.specs.State.{PortInfo, FilterInfo, Queue, Client, Pool, Playback, Pending, State, start, put}
 use Rattle.cell_pools.specs.Pools.{empty_pool}
-use Rattle.seq_state.specs.Own.{Own, changed, out_size, put_port, put_filter, put_queue, port_fed, port_of, filter_ruled, filter_of, queue_of, queue_map, clocked, public, new_port, new_filter, held_queue, one_tempo, file_queue, file_at, without_oldest}
+use Rattle.seq_state.specs.Own.{Own, with_change, out_size, put_port, put_filter, put_queue, port_fed, port_of, filter_ruled, filter_of, queue_of, queue_map, clocked, public, new_port, new_filter, held_queue, one_tempo, file_queue, file_at, without_oldest}
 use Rattle.seq_state.specs.Table.{Asked, Condition, first_refusal, command_row, queue_named, connected, already_open, bad_name, bad_sizes, not_open, no_port, not_shared, none_named, bad_time, no_file, division_differs, no_sender, no_dest, not_permitted, already_connected}
 use Rattle.cell_pools.specs.Pools.{most_lost}
 use Rattle.seq_state.specs.Step.{offer, offered, playback_after, is_left, due, event_copies, settle, without_due, Stepped, used, loses, drops, pending_of, with_own, send_copies, unless, asked, row_of, refusal_of, effect_of, command_step}
@@ -134,7 +134,7 @@ record Fits (used : ℕ) (client : Option Client) (own : Own) : Type 0 where
   pool : (o : Option Pool) → FitsPool o → FitsPool (own.pool o)
   size : (o : Option Pool) → pool_size o ≡ in_size client → pool_size (own.pool o) ≡ in_size own.client
 
-same-size : (client : Option Client) (f : Client → Client) → ((c : Client) → (f c).out_size ≡ c.out_size) → out_size (changed client f) ≡ out_size client
+same-size : (client : Option Client) (f : Client → Client) → ((c : Client) → (f c).out_size ≡ c.out_size) → out_size (with_change client f) ≡ out_size client
 same-size None f h = refl
 same-size (Some c) f h = h c
 
@@ -150,7 +150,7 @@ put_queue-size : (n : ℕ) (o : Option Queue) (c : Client) → (put_queue n o c)
 put_queue-size n None c = refl
 put_queue-size n (Some q) c = refl
 
-same-in : (client : Option Client) (f : Client → Client) → ((c : Client) → (f c).in_size ≡ c.in_size) → in_size (changed client f) ≡ in_size client
+same-in : (client : Option Client) (f : Client → Client) → ((c : Client) → (f c).in_size ≡ c.in_size) → in_size (with_change client f) ≡ in_size client
 same-in None f h = refl
 same-in (Some c) f h = ap Some (h c)
 
@@ -166,7 +166,7 @@ put_queue-in : (n : ℕ) (o : Option Queue) (c : Client) → (put_queue n o c).i
 put_queue-in n None c = refl
 put_queue-in n (Some q) c = refl
 
-nothing-added : (n : ℕ) (client : Option Client) (f : Client → Client) → ((c : Client) → (f c).out_size ≡ c.out_size) → n ≤ out_size client → zero + n ≤ out_size (changed client f)
+nothing-added : (n : ℕ) (client : Option Client) (f : Client → Client) → ((c : Client) → (f c).out_size ≡ c.out_size) → n ≤ out_size client → zero + n ≤ out_size (with_change client f)
 nothing-added n client f h l = omega (arith, same-size client f h)
 
 pub last_fails : (rs : List Condition) (n : Refusal) (b : Bool) → first_refusal (rs ++ (n, b) ∷ []) ≡ None → b ≡ false
@@ -183,7 +183,7 @@ one-added n m e l = grind (arith, nat_tests)
 
 -- a row that changes neither the sizes of the client nor what it has to send
 fits-same : (n : ℕ) (client : Option Client) (own : Own) (f : Client → Client) → ((c : Client) → (f c).out_size ≡ c.out_size) → ((c : Client) → (f c).in_size ≡ c.in_size) →
-    own.client ≡ changed client f → own.added ≡ [] → ((o : Option Pool) → own.pool o ≡ o) → Fits n client own
+    own.client ≡ with_change client f → own.added ≡ [] → ((o : Option Pool) → own.pool o ≡ o) → Fits n client own
 fits-same n client own f out inn c a p = record {
   room = inl (λ l. omega (arith, nothing-added n client f out l, ap out_size c, ap length a));
   pool = λ o h. subst FitsPool (sym (p o)) h;

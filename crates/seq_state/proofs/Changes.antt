@@ -14,7 +14,7 @@ use Rattle.seq_state.specs.declared.log.Reply.TheVariants.{Received}
 use Rattle.seq_state.specs.declared.refusal.Refusal.{Refusal}
 use Rattle.seq_state.specs.Files.{File}
 use Rattle.seq_state.specs.State.{PortInfo, FilterInfo, Queue, Client, Pool, Playback, Pending, State, put}
-use Rattle.seq_state.specs.Own.{Own, changed, port_of, filter_of, queue_of, node_caps, filter_caps, put_port, put_filter, put_queue, port_fed, filter_ruled, queue_map, new_port, new_filter, held_queue, one_tempo, file_queue, file_at, clocked, public, oldest, without_oldest}
+use Rattle.seq_state.specs.Own.{Own, with_change, port_of, filter_of, queue_of, node_caps, filter_caps, put_port, put_filter, put_queue, port_fed, filter_ruled, queue_map, new_port, new_filter, held_queue, one_tempo, file_queue, file_at, clocked, public, oldest, without_oldest}
 use Rattle.seq_state.specs.Table.{Asked, command_row, queue_named}
 use Rattle.seq_state.specs.Step.{Stepped, is_left, loses, drops, pending_of, unless, asked, row_of, refusal_of, effect_of, command_step}
 use Rattle.seq_state.specs.Changes.{names_port, names_filter, names_queue, edge_goes, new_edges, pending_goes, adds_playback, is_added, is_playback_of, client_after, OthersLaw, EdgesLaw, PendingLaw, ReceiveLaw}
@@ -53,27 +53,27 @@ others_after files s moment actor command c h = go (refusal_of files s moment ac
 
 -- ---- other ports, filters and queues
 
-port_apart : (client : Option Client) (m : ℕ) (o : Option PortInfo) (n : ℕ) → eqb n m ≡ false → port_of (changed client (put_port m o)) n ≡ port_of client n
+port_apart : (client : Option Client) (m : ℕ) (o : Option PortInfo) (n : ℕ) → eqb n m ≡ false → port_of (with_change client (put_port m o)) n ≡ port_of client n
 port_apart None m o n h = refl
 port_apart (Some c) m o n h = get-put_port m o c n ∙ ap (λ b. cond b o (FinMap.get c.ports n)) h
 
-port_in_filter : (client : Option Client) (m : ℕ) (o : Option FilterInfo) (n : ℕ) → port_of (changed client (put_filter m o)) n ≡ port_of client n
+port_in_filter : (client : Option Client) (m : ℕ) (o : Option FilterInfo) (n : ℕ) → port_of (with_change client (put_filter m o)) n ≡ port_of client n
 port_in_filter None m o n = refl
 port_in_filter (Some c) m o n = ap (λ x. FinMap.get x n) (ports-put_filter m o c)
 
-port_in_queue : (client : Option Client) (m : ℕ) (o : Option Queue) (n : ℕ) → port_of (changed client (put_queue m o)) n ≡ port_of client n
+port_in_queue : (client : Option Client) (m : ℕ) (o : Option Queue) (n : ℕ) → port_of (with_change client (put_queue m o)) n ≡ port_of client n
 port_in_queue None m o n = refl
 port_in_queue (Some c) m o n = ap (λ x. FinMap.get x n) (ports-put_queue m o c)
 
-filter_apart : (client : Option Client) (m : ℕ) (o : Option FilterInfo) (n : ℕ) → eqb n m ≡ false → filter_of (changed client (put_filter m o)) n ≡ filter_of client n
+filter_apart : (client : Option Client) (m : ℕ) (o : Option FilterInfo) (n : ℕ) → eqb n m ≡ false → filter_of (with_change client (put_filter m o)) n ≡ filter_of client n
 filter_apart None m o n h = refl
 filter_apart (Some c) m o n h = get-put_filter m o c n ∙ ap (λ b. cond b o (FinMap.get c.filters n)) h
 
-filter_in_port : (client : Option Client) (m : ℕ) (o : Option PortInfo) (n : ℕ) → filter_of (changed client (put_port m o)) n ≡ filter_of client n
+filter_in_port : (client : Option Client) (m : ℕ) (o : Option PortInfo) (n : ℕ) → filter_of (with_change client (put_port m o)) n ≡ filter_of client n
 filter_in_port None m o n = refl
 filter_in_port (Some c) m o n = ap (λ x. FinMap.get x n) (filters-put_port m o c)
 
-filter_in_queue : (client : Option Client) (m : ℕ) (o : Option Queue) (n : ℕ) → filter_of (changed client (put_queue m o)) n ≡ filter_of client n
+filter_in_queue : (client : Option Client) (m : ℕ) (o : Option Queue) (n : ℕ) → filter_of (with_change client (put_queue m o)) n ≡ filter_of client n
 filter_in_queue None m o n = refl
 filter_in_queue (Some c) m o n = ap (λ x. FinMap.get x n) (filters-put_queue m o c)
 
@@ -81,16 +81,16 @@ get-put_queue : (m : ℕ) (o : Option Queue) (c : Client) (n : ℕ) → FinMap.g
 get-put_queue m None c n = get-put c.queues m None n
 get-put_queue m (Some q) c n = get-put c.queues m (Some q) n
 
-queue_apart : (client : Option Client) (m : ℕ) (o : Option Queue) (n : ℕ) → eqb n m ≡ false → queue_of (changed client (put_queue m o)) n ≡ queue_of client n
+queue_apart : (client : Option Client) (m : ℕ) (o : Option Queue) (n : ℕ) → eqb n m ≡ false → queue_of (with_change client (put_queue m o)) n ≡ queue_of client n
 queue_apart None m o n h = refl
 queue_apart (Some c) m o n h = get-put_queue m o c n ∙ ap (λ b. cond b o (FinMap.get c.queues n)) h
 
-queue_in_port : (client : Option Client) (m : ℕ) (o : Option PortInfo) (n : ℕ) → queue_of (changed client (put_port m o)) n ≡ queue_of client n
+queue_in_port : (client : Option Client) (m : ℕ) (o : Option PortInfo) (n : ℕ) → queue_of (with_change client (put_port m o)) n ≡ queue_of client n
 queue_in_port None m o n = refl
 queue_in_port (Some c) m None n = refl
 queue_in_port (Some c) m (Some p) n = refl
 
-queue_in_filter : (client : Option Client) (m : ℕ) (o : Option FilterInfo) (n : ℕ) → queue_of (changed client (put_filter m o)) n ≡ queue_of client n
+queue_in_filter : (client : Option Client) (m : ℕ) (o : Option FilterInfo) (n : ℕ) → queue_of (with_change client (put_filter m o)) n ≡ queue_of client n
 queue_in_filter None m o n = refl
 queue_in_filter (Some c) m None n = refl
 queue_in_filter (Some c) m (Some f) n = refl
@@ -165,7 +165,7 @@ module _ (a : Asked) where
       caps_ruled None = refl
       caps_ruled (Some f) = refl
 
-      ruled : (client : Option Client) → filter_caps (filter_of (changed client (put_filter n (filter_ruled rule (filter_of client n)))) n) ≡ filter_caps (filter_of client n)
+      ruled : (client : Option Client) → filter_caps (filter_of (with_change client (put_filter n (filter_ruled rule (filter_of client n)))) n) ≡ filter_caps (filter_of client n)
       ruled None = refl
       ruled (Some c) =
           let o : Option FilterInfo = filter_ruled rule (FinMap.get c.filters n) in

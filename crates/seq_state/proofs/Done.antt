@@ -25,7 +25,7 @@ use Rattle.seq_state.specs.declared.log.Reply.{Reply}
 use Rattle.seq_state.specs.declared.log.Reply.TheVariants.{Done, Messages}
 use Rattle.seq_state.specs.Files.{File}
 use Rattle.seq_state.specs.State.{Client, Pool, Event, Playback, Pending, State, put}
-use Rattle.seq_state.specs.Own.{Own, kept, changed, port_of, filter_of, put_port, put_filter, put_queue, new_port, new_filter, new_client, filter_ruled, port_fed, queue_changed, clocked, public, held_queue, one_tempo, file_queue, file_at, file_events, scheduled, queue_status, playback}
+use Rattle.seq_state.specs.Own.{Own, done_with, with_change, port_of, filter_of, put_port, put_filter, put_queue, new_port, new_filter, new_client, filter_ruled, port_fed, queue_changed, clocked, public, held_queue, one_tempo, file_queue, file_at, file_events, scheduled, queue_status, playback}
 use Rattle.seq_state.specs.Table.{completed, from_port, command_row}
 use Rattle.seq_state.specs.Step.{Stepped, loses, drops, pending_of, is_left, with_own, send_copies, sent, stepped, named_queue, asked, unless, refusal_of, command_step}
 use Rattle.seq_state.proofs.Effects.{put-same, none-lost, none-dropped}
@@ -42,15 +42,15 @@ module _ (s : State) (actor : ℕ) where
   from clients pools edges pending = record { clients = clients; pools = pools; edges = edges; pending = pending }
 
   -- the actor has this, and nothing else changes
-  own-client : (q : Option QueueAddr) (c : Option Client) → with_own s actor q (kept c) ≡ record s { clients = put s.clients actor c }
+  own-client : (q : Option QueueAddr) (c : Option Client) → with_own s actor q (done_with c) ≡ record s { clients = put s.clients actor c }
   own-client q c =
       let clients : FinMap nat_cmp Client = put s.clients actor c in
-      ap (λ x. from clients x (filter (λ e. not (loses actor (λ _. false) e)) s.edges) (filter (λ p. not (drops actor (kept c) p)) s.pending ++ [])) (put-same s.pools actor)
-      ∙ ap (λ x. from clients s.pools x (filter (λ p. not (drops actor (kept c) p)) s.pending ++ [])) (none-lost actor s.edges)
-      ∙ ap (λ x. from clients s.pools s.edges x) (append-nil (filter (λ p. not (drops actor (kept c) p)) s.pending) ∙ none-dropped actor c s.pending)
+      ap (λ x. from clients x (filter (λ e. not (loses actor (λ _. false) e)) s.edges) (filter (λ p. not (drops actor (done_with c) p)) s.pending ++ [])) (put-same s.pools actor)
+      ∙ ap (λ x. from clients s.pools x (filter (λ p. not (drops actor (done_with c) p)) s.pending ++ [])) (none-lost actor s.edges)
+      ∙ ap (λ x. from clients s.pools s.edges x) (append-nil (filter (λ p. not (drops actor (done_with c) p)) s.pending) ∙ none-dropped actor c s.pending)
 
   -- nothing changes
-  own-same : (q : Option QueueAddr) → with_own s actor q (kept its) ≡ s
+  own-same : (q : Option QueueAddr) → with_own s actor q (done_with its) ≡ s
   own-same q = own-client q its ∙ ap (λ x. from x s.pools s.edges s.pending) (put-same s.clients actor)
 
   -- what goes with a node or a queue
@@ -65,13 +65,13 @@ module _ (s : State) (actor : ℕ) where
       ∙ ap (λ x. from clients pools (filter (λ e. not (loses actor own.gone e)) s.edges) x) (append-nil left)
 
   -- what is sent besides
-  own-added : (q : Option QueueAddr) (c : Option Client) (p : Playback) → with_own s actor q (record (kept c) { added = p ∷ [] }) ≡
+  own-added : (q : Option QueueAddr) (c : Option Client) (p : Playback) → with_own s actor q (record (done_with c) { added = p ∷ [] }) ≡
       record s { clients = put s.clients actor c; pending = s.pending ++ filter is_left (pending_of actor q p ∷ []) }
   own-added q c p =
       let clients : FinMap nat_cmp Client = put s.clients actor c in
       let new : List Pending = filter is_left (pending_of actor q p ∷ []) in
-      ap (λ x. from clients x (filter (λ e. not (loses actor (λ _. false) e)) s.edges) (filter (λ p. not (drops actor (kept c) p)) s.pending ++ new)) (put-same s.pools actor)
-      ∙ ap (λ x. from clients s.pools x (filter (λ p. not (drops actor (kept c) p)) s.pending ++ new)) (none-lost actor s.edges)
+      ap (λ x. from clients x (filter (λ e. not (loses actor (λ _. false) e)) s.edges) (filter (λ p. not (drops actor (done_with c) p)) s.pending ++ new)) (put-same s.pools actor)
+      ∙ ap (λ x. from clients s.pools x (filter (λ p. not (drops actor (done_with c) p)) s.pending ++ new)) (none-lost actor s.edges)
       ∙ ap (λ x. from clients s.pools s.edges (x ++ new)) (none-dropped actor c s.pending)
 
 module _ (files : List File) (s : State) (moment actor : ℕ) where
@@ -89,25 +89,25 @@ module _ (files : List File) (s : State) (moment actor : ℕ) where
   abbrev after : Command → State → Stepped
   after command t = unless (refusal_of files s moment actor command) s (done t Done)
 
-  pub creates-port : (port : ℕ) (name : List ℕ) (caps : Caps) → steps_to (CreatePort port name caps) (has (changed client (put_port port (Some (new_port name caps)))))
+  pub creates-port : (port : ℕ) (name : List ℕ) (caps : Caps) → steps_to (CreatePort port name caps) (has (with_change client (put_port port (Some (new_port name caps)))))
   unfolding command_row
-  creates-port port name caps = ap (after (CreatePort port name caps)) (own-client s actor None (changed client (put_port port (Some (new_port name caps)))))
+  creates-port port name caps = ap (after (CreatePort port name caps)) (own-client s actor None (with_change client (put_port port (Some (new_port name caps)))))
 
-  pub creates-filter : (n : ℕ) (caps : Caps) (rule : RuleArgs) → steps_to (CreateFilter n caps rule) (has (changed client (put_filter n (Some (new_filter caps rule)))))
+  pub creates-filter : (n : ℕ) (caps : Caps) (rule : RuleArgs) → steps_to (CreateFilter n caps rule) (has (with_change client (put_filter n (Some (new_filter caps rule)))))
   unfolding command_row
-  creates-filter n caps rule = ap (after (CreateFilter n caps rule)) (own-client s actor None (changed client (put_filter n (Some (new_filter caps rule)))))
+  creates-filter n caps rule = ap (after (CreateFilter n caps rule)) (own-client s actor None (with_change client (put_filter n (Some (new_filter caps rule)))))
 
-  pub sets-filter : (n : ℕ) (rule : RuleArgs) → steps_to (SetFilter n rule) (has (changed client (put_filter n (filter_ruled rule (filter_of client n)))))
+  pub sets-filter : (n : ℕ) (rule : RuleArgs) → steps_to (SetFilter n rule) (has (with_change client (put_filter n (filter_ruled rule (filter_of client n)))))
   unfolding command_row
-  sets-filter n rule = ap (after (SetFilter n rule)) (own-client s actor None (changed client (put_filter n (filter_ruled rule (filter_of client n)))))
+  sets-filter n rule = ap (after (SetFilter n rule)) (own-client s actor None (with_change client (put_filter n (filter_ruled rule (filter_of client n)))))
 
-  pub creates-queue : (n ppq tempo : ℕ) → steps_to (CreateQueue n ppq tempo) (has (changed client (put_queue n (Some (held_queue (one_tempo ppq tempo))))))
+  pub creates-queue : (n ppq tempo : ℕ) → steps_to (CreateQueue n ppq tempo) (has (with_change client (put_queue n (Some (held_queue (one_tempo ppq tempo))))))
   unfolding command_row
-  creates-queue n ppq tempo = ap (after (CreateQueue n ppq tempo)) (own-client s actor None (changed client (put_queue n (Some (held_queue (one_tempo ppq tempo))))))
+  creates-queue n ppq tempo = ap (after (CreateQueue n ppq tempo)) (own-client s actor None (with_change client (put_queue n (Some (held_queue (one_tempo ppq tempo))))))
 
-  pub creates-queue-from : (n file : ℕ) → steps_to (CreateQueueFrom n file) (has (changed client (put_queue n (file_queue (file_at files file)))))
+  pub creates-queue-from : (n file : ℕ) → steps_to (CreateQueueFrom n file) (has (with_change client (put_queue n (file_queue (file_at files file)))))
   unfolding command_row
-  creates-queue-from n file = ap (after (CreateQueueFrom n file)) (own-client s actor None (changed client (put_queue n (file_queue (file_at files file)))))
+  creates-queue-from n file = ap (after (CreateQueueFrom n file)) (own-client s actor None (with_change client (put_queue n (file_queue (file_at files file)))))
 
   pub starts : (q : QueueAddr) → steps_to (Start q) (has (queue_changed client q.queue (clocked (λ c. started c moment))))
   unfolding command_row
@@ -147,18 +147,18 @@ module _ (files : List File) (s : State) (moment actor : ℕ) where
       let clients : FinMap nat_cmp Client = put s.clients actor c in
       let pools : FinMap nat_cmp Pool = put s.pools actor (Some (empty_pool in_size)) in
       ap (after (Open name in_size out_size))
-      (ap (λ x. let t : State = record { clients = clients; pools = pools; edges = x; pending = filter (λ p. not (drops actor (kept c) p)) s.pending ++ [] } in t) (none-lost actor s.edges)
-      ∙ ap (λ x. let t : State = record { clients = clients; pools = pools; edges = s.edges; pending = x } in t) (append-nil (filter (λ p. not (drops actor (kept c) p)) s.pending) ∙ none-dropped actor c s.pending))
+      (ap (λ x. let t : State = record { clients = clients; pools = pools; edges = x; pending = filter (λ p. not (drops actor (done_with c) p)) s.pending ++ [] } in t) (none-lost actor s.edges)
+      ∙ ap (λ x. let t : State = record { clients = clients; pools = pools; edges = s.edges; pending = x } in t) (append-nil (filter (λ p. not (drops actor (done_with c) p)) s.pending) ∙ none-dropped actor c s.pending))
 
   abbrev pub closing : Own
-  closing = record (kept None) { pool = λ p. None; gone = λ n. true; dropped = λ p. true; queue_gone = λ n. true }
+  closing = record (done_with None) { pool = λ p. None; gone = λ n. true; dropped = λ p. true; queue_gone = λ n. true }
 
   pub closes : steps_to Close (done (left_by None closing) Done)
   unfolding command_row
   closes = ap (after Close) (own-gone s actor None closing refl (λ es. refl))
 
   abbrev pub deleting-port : ℕ → Own
-  deleting-port port = record (kept (changed client (put_port port None))) { gone = same_node (Port port); dropped = λ p. p.port == port }
+  deleting-port port = record (done_with (with_change client (put_port port None))) { gone = same_node (Port port); dropped = λ p. p.port == port }
 
   pub deletes-port : (port : ℕ) → steps_to (DeletePort port) (done (record (left_by None (deleting-port port)) { pools = s.pools }) Done)
   unfolding command_row
@@ -167,21 +167,21 @@ module _ (files : List File) (s : State) (moment actor : ℕ) where
       (own-gone s actor None (deleting-port port) refl (λ es. refl) ∙ ap (λ x. record (left_by None (deleting-port port)) { pools = x }) (put-same s.pools actor))
 
   pub deletes-filter : (n : ℕ) → steps_to (DeleteFilter n)
-      (done (record s { clients = put s.clients actor (changed client (put_filter n None)); edges = filter (λ e. not (loses actor (same_node (Filter n)) e)) s.edges }) Done)
+      (done (record s { clients = put s.clients actor (with_change client (put_filter n None)); edges = filter (λ e. not (loses actor (same_node (Filter n)) e)) s.edges }) Done)
   unfolding command_row
   deletes-filter n =
-      let c : Option Client = changed client (put_filter n None) in
-      let own : Own = record (kept c) { gone = same_node (Filter n) } in
+      let c : Option Client = with_change client (put_filter n None) in
+      let own : Own = record (done_with c) { gone = same_node (Filter n) } in
       let edges : List Edge = filter (λ e. not (loses actor (same_node (Filter n)) e)) s.edges in
       ap (after (DeleteFilter n))
       (own-gone s actor None own refl (λ es. refl) ∙ ap (λ x. record (left_by None own) { pools = x }) (put-same s.pools actor)
       ∙ ap (λ x. let t : State = record { clients = put s.clients actor c; pools = s.pools; edges = edges; pending = x } in t) (none-dropped actor c s.pending))
 
   abbrev pub deleting-queue : QueueAddr → Own
-  deleting-queue q = record (kept (changed client (put_queue q.queue None))) { queue_gone = λ n. n == q.queue }
+  deleting-queue q = record (done_with (with_change client (put_queue q.queue None))) { queue_gone = λ n. n == q.queue }
 
   pub deletes-queue : (q : QueueAddr) → steps_to (DeleteQueue q)
-      (done (record s { clients = put s.clients actor (changed client (put_queue q.queue None)); pending = filter (λ p. not (drops actor (deleting-queue q) p)) s.pending }) Done)
+      (done (record s { clients = put s.clients actor (with_change client (put_queue q.queue None)); pending = filter (λ p. not (drops actor (deleting-queue q) p)) s.pending }) Done)
   unfolding command_row
   deletes-queue q =
       let own : Own = deleting-queue q in
@@ -190,7 +190,7 @@ module _ (files : List File) (s : State) (moment actor : ℕ) where
       ∙ ap (λ x. let t : State = record { clients = put s.clients actor own.client; pools = s.pools; edges = x; pending = filter (λ p. not (drops actor own p)) s.pending } in t) (none-lost actor s.edges))
 
   abbrev pub dropping : Own
-  dropping = record (kept client) { dropped = λ p. true }
+  dropping = record (done_with client) { dropped = λ p. true }
 
   pub drops-output : steps_to DropOutput (done (record s { pending = filter (λ p. not (drops actor dropping p)) s.pending }) Done)
   unfolding command_row
@@ -214,14 +214,14 @@ module _ (files : List File) (s : State) (moment actor : ℕ) where
   sends_copies t ds reply = stepped (sent t ds) reply
 
   pub feeds : (port : ℕ) (bytes : List ℕ) → steps_to (Bytes port bytes)
-      (sends_copies (record s { clients = put s.clients actor (changed client (put_port port (port_fed bytes (port_of client port)))) })
+      (sends_copies (record s { clients = put s.clients actor (with_change client (put_port port (port_fed bytes (port_of client port)))) })
       (send_copies s moment actor (map (from_port port) (completed (asked files s moment actor (Bytes port bytes)) port bytes)))
       (Messages (length (completed (asked files s moment actor (Bytes port bytes)) port bytes))))
   unfolding command_row
   feeds port bytes =
       let ms : List (List ℕ) = completed (asked files s moment actor (Bytes port bytes)) port bytes in
       ap (λ t. unless (refusal_of files s moment actor (Bytes port bytes)) s (sends_copies t (send_copies s moment actor (map (from_port port) ms)) (Messages (length ms))))
-      (own-client s actor None (changed client (put_port port (port_fed bytes (port_of client port)))))
+      (own-client s actor None (with_change client (put_port port (port_fed bytes (port_of client port)))))
 
   pub sends : (port : ℕ) (message : List ℕ) → steps_to (Send port message) (sends_copies s (send_copies s moment actor (from_port port message ∷ [])) Done)
   unfolding command_row
@@ -233,7 +233,7 @@ module _ (files : List File) (s : State) (moment actor : ℕ) where
   abbrev adds : QueueAddr → ℕ → List Event → State
   adds q port events = record s { pending = s.pending ++ filter is_left (pending_of actor (Some q) (playback port moment events) ∷ []) }
 
-  added-same : (q : QueueAddr) (port : ℕ) (events : List Event) → with_own s actor (Some q) (record (kept client) { added = playback port moment events ∷ [] }) ≡ adds q port events
+  added-same : (q : QueueAddr) (port : ℕ) (events : List Event) → with_own s actor (Some q) (record (done_with client) { added = playback port moment events ∷ [] }) ≡ adds q port events
   added-same q port events =
       own-added s actor (Some q) client (playback port moment events)
       ∙ ap (λ x. let t : State = record { clients = x; pools = s.pools; edges = s.edges; pending = s.pending ++ filter is_left (pending_of actor (Some q) (playback port moment events) ∷ []) } in t) (put-same s.clients actor)

@@ -17,7 +17,7 @@ use Rattle.seq_state.specs.declared.log.Reply.TheVariants.{Done, Received}
 use Rattle.seq_state.specs.declared.refusal.Refusal.{Refusal}
 use Rattle.seq_state.specs.Files.{File}
 use Rattle.seq_state.specs.State.{put, Pool, Pending, State, Client}
-use Rattle.seq_state.specs.Own.{kept, oldest, without_oldest, pool_status}
+use Rattle.seq_state.specs.Own.{done_with, oldest, without_oldest, pool_status}
 use Rattle.seq_state.specs.Table.{Asked, command_row, connected, disconnected}
 use Rattle.seq_state.specs.Step.{loses, drops, Stepped, unless, after_own, used, refusal_of, command_step}
 
@@ -47,10 +47,10 @@ none-lost actor (e ∷ es) = ap (λ b. cond b (e ∷ filter (λ x. not (loses ac
     stays_on x y = grind arith
 
 -- where none of its playbacks and queues goes, nothing pending goes
-pub none-dropped : (actor : ℕ) (client : Option Client) (ps : List Pending) → filter (λ p. not (drops actor (kept client) p)) ps ≡ ps
+pub none-dropped : (actor : ℕ) (client : Option Client) (ps : List Pending) → filter (λ p. not (drops actor (done_with client) p)) ps ≡ ps
 none-dropped actor client [] = refl
 none-dropped actor client (p ∷ ps) =
-    ap (λ b. cond b (p ∷ filter (λ x. not (drops actor (kept client) x)) ps) (filter (λ x. not (drops actor (kept client) x)) ps)) (stays_on (eqb p.client actor) (eqb p.queue.client actor)) ∙ ap (λ xs. p ∷ xs) (none-dropped actor client ps)
+    ap (λ b. cond b (p ∷ filter (λ x. not (drops actor (done_with client) x)) ps) (filter (λ x. not (drops actor (done_with client) x)) ps)) (stays_on (eqb p.client actor) (eqb p.queue.client actor)) ∙ ap (λ xs. p ∷ xs) (none-dropped actor client ps)
   where
     stays_on : (x y : Bool) → not ((x && false) || (y && false)) ≡ true
     stays_on x y = grind arith
@@ -80,13 +80,13 @@ edges_stay a command h es = refl
 abbrev pub patched : State → (List Edge → List Edge) → Stepped
 patched s f = record { state = record s { edges = f s.edges }; delivered = []; reply = Done }
 
-pub after-patch : (s : State) (moment actor : ℕ) (f : List Edge → List Edge) → after_own s moment actor None (record (kept (FinMap.get s.clients actor)) { edges = f }) ≡ patched s f
+pub after-patch : (s : State) (moment actor : ℕ) (f : List Edge → List Edge) → after_own s moment actor None (record (done_with (FinMap.get s.clients actor)) { edges = f }) ≡ patched s f
 after-patch s moment actor f =
     let to : FinMap nat_cmp Client → FinMap nat_cmp Pool → List Edge → List Pending → Stepped = λ clients pools edges pending. record { state = record { clients = clients; pools = pools; edges = f edges; pending = pending }; delivered = []; reply = Done } in
     let o : Option Client = FinMap.get s.clients actor in
     let pools : FinMap nat_cmp Pool = put s.pools actor (FinMap.get s.pools actor) in
     let edges : List Edge = filter (λ e. not (loses actor (λ _. false) e)) s.edges in
-    let pending : List Pending = filter (λ p. not (drops actor (kept o) p)) s.pending in
+    let pending : List Pending = filter (λ p. not (drops actor (done_with o) p)) s.pending in
     ap (λ x. to x pools edges (pending ++ [])) (put-same s.clients actor)
     ∙ ap (λ x. to s.clients x edges (pending ++ [])) (put-same s.pools actor)
     ∙ ap (λ x. to s.clients s.pools x (pending ++ [])) (none-lost actor s.edges)
@@ -108,12 +108,12 @@ step-parts files s moment actor source target = ap (unless (refusal_of files s m
 
 -- what the actor takes from its input pool, and the reply to it
 pub after-pool : (s : State) (moment actor : ℕ) (g : Option Pool → Option Pool) (f : Option Pool → Reply) →
-    after_own s moment actor None (record (kept (FinMap.get s.clients actor)) { pool = g; reply = f }) ≡ record { state = record s { pools = put s.pools actor (g (FinMap.get s.pools actor)) }; delivered = []; reply = f (FinMap.get s.pools actor) }
+    after_own s moment actor None (record (done_with (FinMap.get s.clients actor)) { pool = g; reply = f }) ≡ record { state = record s { pools = put s.pools actor (g (FinMap.get s.pools actor)) }; delivered = []; reply = f (FinMap.get s.pools actor) }
 after-pool s moment actor g f =
     let pools : FinMap nat_cmp Pool = put s.pools actor (g (FinMap.get s.pools actor)) in
     let to : FinMap nat_cmp Client → List Edge → List Pending → Stepped = λ clients edges pending. record { state = record { clients = clients; pools = pools; edges = edges; pending = pending }; delivered = []; reply = f (FinMap.get s.pools actor) } in
     let o : Option Client = FinMap.get s.clients actor in
-    let pending : List Pending = filter (λ p. not (drops actor (kept o) p)) s.pending in
+    let pending : List Pending = filter (λ p. not (drops actor (done_with o) p)) s.pending in
     ap (λ x. to x (filter (λ e. not (loses actor (λ _. false) e)) s.edges) (pending ++ [])) (put-same s.clients actor)
     ∙ ap (λ x. to s.clients x (pending ++ [])) (none-lost actor s.edges)
     ∙ ap (λ x. to s.clients s.edges x) (append-nil pending ∙ none-dropped actor o s.pending)

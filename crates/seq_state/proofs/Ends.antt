@@ -21,7 +21,7 @@ use Rattle.seq_state.specs.declared.refusal.Refusal.TheVariants as refusal
 use Rattle.tempo_clock.specs.Clocks.{started, stopped, resumed, with_tempo}
 use Rattle.seq_state.specs.Files.{File}
 use Rattle.seq_state.specs.State.{PortInfo, FilterInfo, Queue, Client, State}
-use Rattle.seq_state.specs.Own.{Own, changed, port_of, filter_of, port_caps, filter_caps, node_caps, put_port, put_filter, put_queue, port_fed, filter_ruled, queue_of, queue_map, new_port, new_filter, held_queue, one_tempo, file_queue, file_at, clocked, public}
+use Rattle.seq_state.specs.Own.{Own, with_change, port_of, filter_of, port_caps, filter_caps, node_caps, put_port, put_filter, put_queue, port_fed, filter_ruled, queue_of, queue_map, new_port, new_filter, held_queue, one_tempo, file_queue, file_at, clocked, public}
 use Rattle.seq_state.specs.Table.{Asked, Condition, first_refusal, command_row, queue_named, bad_name, bad_sizes, not_open, not_permitted, already_connected, sources_full, cycle}
 use Rattle.seq_state.specs.Step.{Stepped, playback_after, is_left, settle, loses, drops, pending_of, with_own, unless, asked, row_of, refusal_of, effect_of, command_step}
 use Rattle.seq_state.specs.Laws.{is_there, has_ends, EndsThere, EndsLaw, AreFilled, FilledLaw}
@@ -62,7 +62,7 @@ NodesStay client own = (n : Node) → own.gone n ≡ false → is_some (node_cap
 
 -- a port's change that takes none but this
 port_stays : (client : Option Client) (port : ℕ) (o : Option PortInfo) (gone : Node → Bool) → ((n : ℕ) → eqb n port ≡ true → gone (Port n) ≡ false → is_some (port_caps (port_of client n)) ≡ true → is_some (port_caps o) ≡ true) →
-    (n : Node) → gone n ≡ false → is_some (node_caps client n) ≡ true → is_some (node_caps (changed client (put_port port o)) n) ≡ true
+    (n : Node) → gone n ≡ false → is_some (node_caps client n) ≡ true → is_some (node_caps (with_change client (put_port port o)) n) ≡ true
 port_stays None port o gone h n g t = t
 port_stays (Some c) port o gone h (Port n) g t = subst (λ x. is_some (port_caps x) ≡ true) (sym (get-put_port port o c n)) (go (eqb n port) refl)
   where
@@ -72,7 +72,7 @@ port_stays (Some c) port o gone h (Port n) g t = subst (λ x. is_some (port_caps
 port_stays (Some c) port o gone h (Filter n) g t = subst (λ x. is_some (filter_caps (FinMap.get x n)) ≡ true) (sym (filters-put_port port o c)) t
 
 filter_stays : (client : Option Client) (m : ℕ) (o : Option FilterInfo) (gone : Node → Bool) → ((n : ℕ) → eqb n m ≡ true → gone (Filter n) ≡ false → is_some (filter_caps (filter_of client n)) ≡ true → is_some (filter_caps o) ≡ true) →
-    (n : Node) → gone n ≡ false → is_some (node_caps client n) ≡ true → is_some (node_caps (changed client (put_filter m o)) n) ≡ true
+    (n : Node) → gone n ≡ false → is_some (node_caps client n) ≡ true → is_some (node_caps (with_change client (put_filter m o)) n) ≡ true
 filter_stays None m o gone h n g t = t
 filter_stays (Some c) m o gone h (Filter n) g t = subst (λ x. is_some (filter_caps x) ≡ true) (sym (get-put_filter m o c n)) (go (eqb n m) refl)
   where
@@ -81,7 +81,7 @@ filter_stays (Some c) m o gone h (Filter n) g t = subst (λ x. is_some (filter_c
     go false e = t
 filter_stays (Some c) m o gone h (Port n) g t = subst (λ x. is_some (port_caps (FinMap.get x n)) ≡ true) (sym (ports-put_filter m o c)) t
 
-queue_stays : (client : Option Client) (m : ℕ) (o : Option Queue) (n : Node) → is_some (node_caps client n) ≡ true → is_some (node_caps (changed client (put_queue m o)) n) ≡ true
+queue_stays : (client : Option Client) (m : ℕ) (o : Option Queue) (n : Node) → is_some (node_caps client n) ≡ true → is_some (node_caps (with_change client (put_queue m o)) n) ≡ true
 queue_stays None m o n t = t
 queue_stays (Some c) m o (Port n) t = subst (λ x. is_some (port_caps (FinMap.get x n)) ≡ true) (sym (ports-put_queue m o c)) t
 queue_stays (Some c) m o (Filter n) t = subst (λ x. is_some (filter_caps (FinMap.get x n)) ≡ true) (sym (filters-put_queue m o c)) t

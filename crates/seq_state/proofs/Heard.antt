@@ -10,7 +10,7 @@ use Rattle.seq_state.specs.declared.log.Reply.{Reply}
 use Rattle.seq_state.specs.declared.log.LogEntry.TheVariants.{Delivered, Replied}
 use Rattle.seq_state.specs.Step.{plain}
 use Rattle.seq_state.specs.Circle.{Sight, Came, Told, Outside, sight_of_reply, sight, aims_outside, view, only}
-use Rattle.seq_state.specs.Heard.{port_of, message_at, messages_at, port_bytes, PortBytesLaw}
+use Rattle.seq_state.specs.Heard.{port_at, message_at, messages_at, port_bytes, PortBytesLaw}
 use Rattle.seq_state.specs.Laws.{AgreeLaw}
 use Rattle.seq_state.proofs.Run.{isolation_law}
 
@@ -58,7 +58,7 @@ port_bytes_law files owner member inputs end port timed closed =
 pub agree_law : AgreeLaw
 agree_law files owner member inputs others end timed timed' closed closed' same =
     let run : List Input → List Sight = λ is. view owner member is (plain files is end) in
-    let heard : List Input → ℕ → List ℕ = λ is port. port_bytes (port_of owner port) (plain files is end) in (
+    let heard : List Input → ℕ → List ℕ = λ is port. port_bytes (port_at owner port) (plain files is end) in (
       isolation_law files owner member inputs end timed closed ∙ ap run same ∙ sym (isolation_law files owner member others end timed' closed'),
       λ port.
           port_bytes_law files owner member inputs end port timed closed ∙ ap (λ is. heard is port) same

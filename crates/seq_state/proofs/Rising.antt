@@ -32,10 +32,10 @@ use Rattle.seq_state.specs.declared.refusal.Refusal.TheVariants as refusal
 use Rattle.seq_state.specs.Files.{File}
 use Rattle.seq_state.specs.State.{PortInfo, FilterInfo, Queue, Client, Pool, Event, Playback, Pending, State, start, queues_of, put}
 use Rattle.seq_state.specs.Copies.{copy, delivery, carried, copies}
-use Rattle.seq_state.specs.Own.{Own, changed, put_port, port_fed, port_of, put_filter, filter_ruled, filter_of, queue_of, put_queue, clocked, public, new_port, new_filter, held_queue, one_tempo, file_queue, file_at, queue_map}
+use Rattle.seq_state.specs.Own.{Own, with_change, put_port, port_fed, port_of, put_filter, filter_ruled, filter_of, queue_of, put_queue, clocked, public, new_port, new_filter, held_queue, one_tempo, file_queue, file_at, queue_map}
 use Rattle.seq_state.specs.Table.{Asked, Condition, first_refusal, not_open, queue_exists, bad_tempo, queue_named, command_row}
 use Rattle.seq_state.specs.Step.{has_room, offer, delivered, Timed, moment_in, event_moment, is_by, playback_after, is_left, due, port_addr, event_copies, Settled, settle, Stepped, drops, pending_of, with_own, send_copies, unless, asked, row_of, refusal_of, effect_of, command_step, step, log_from, IsTimedFrom}
-use Rattle.seq_state.specs.Laws.{IsByMoment, timed_at, timed_of, all_timed, placed, sorted, has_ticks, deliveries_of, NeverFall, RisingLaw, from_now, is_fresh, Ready, ReadyLaw}
+use Rattle.seq_state.specs.Laws.{IsByMoment, timed_at, timed_of, all_timed, with_timed, sorted, has_ticks, deliveries_of, NeverFall, RisingLaw, from_now, is_fresh, Ready, ReadyLaw}
 use Rattle.seq_state.proofs.Lists.{both_left, both_right, and_both, list_all-append, list_all-weaker, list_all-filter, list_all-passed, list_all-flat_map, list_all-map, list_all-always}
 use Rattle.seq_state.proofs.Order.{due_law}
 use Rattle.seq_state.proofs.Sorted.{sort_law}
@@ -160,13 +160,13 @@ timed_of-from clients m p h = go p.playback.events h
         let f : Event → Bool = λ x. from_now m (event_moment clients p x) in
         one e (event_moment clients p e) (filter_map (λ x. timed_at p x (event_moment clients p x)) es) (both_left (f e) (list_all f es) h) (go es (both_right (f e) (list_all f es) h))
 
-placed-all : (p : Timed → Bool) (t : Timed) (xs : List Timed) → p t ≡ true → list_all p xs ≡ true → list_all p (placed t xs) ≡ true
+placed-all : (p : Timed → Bool) (t : Timed) (xs : List Timed) → p t ≡ true → list_all p xs ≡ true → list_all p (with_timed t xs) ≡ true
 placed-all p t [] a b = and_both (p t) true a refl
 placed-all p t (x ∷ xs) a b = go (nat_le t.moment x.moment) (placed-all p t xs a (both_right (p x) (list_all p xs) b))
   where
-    go : (c : Bool) → list_all p (placed t xs) ≡ true → list_all p (cond c (t ∷ x ∷ xs) (x ∷ placed t xs)) ≡ true
+    go : (c : Bool) → list_all p (with_timed t xs) ≡ true → list_all p (cond c (t ∷ x ∷ xs) (x ∷ with_timed t xs)) ≡ true
     go true more = and_both (p t) (list_all p (x ∷ xs)) a b
-    go false more = and_both (p x) (list_all p (placed t xs)) (both_left (p x) (list_all p xs) b) more
+    go false more = and_both (p x) (list_all p (with_timed t xs)) (both_left (p x) (list_all p xs) b) more
 
 sorted-all : (p : Timed → Bool) (ts : List Timed) → list_all p ts ≡ true → list_all p (sorted ts) ≡ true
 sorted-all p [] h = refl
@@ -277,7 +277,7 @@ all-same m client n q e = follows-same m (FinMap.get (queues_of client) n) q e
 none-left : (m : ℕ) (client : Option Client) → AllFollow m client None
 none-left m client n q e = absurd (none_some q (sym (FinMap.get-empty nat_cmp n) ∙ e))
 
-others-change : (m : ℕ) (client : Option Client) (f : Client → Client) → ((c : Client) → (f c).queues ≡ c.queues) → AllFollow m client (changed client f)
+others-change : (m : ℕ) (client : Option Client) (f : Client → Client) → ((c : Client) → (f c).queues ≡ c.queues) → AllFollow m client (with_change client f)
 others-change m None f h n q e = absurd (none_some q (sym (FinMap.get-empty nat_cmp n) ∙ e))
 others-change m (Some c) f h n q e = follows-same m (FinMap.get c.queues n) q (ap (λ qs. FinMap.get qs n) (sym (h c)) ∙ e)
 
@@ -293,7 +293,7 @@ put_queue-queues : (n : ℕ) (o : Option Queue) (c : Client) → (put_queue n o 
 put_queue-queues n None c = refl
 put_queue-queues n (Some q) c = refl
 
-one-changes : (m : ℕ) (client : Option Client) (n : ℕ) (o : Option Queue) → ((q : Queue) → o ≡ Some q → Follows m (FinMap.get (queues_of client) n) q) → AllFollow m client (changed client (put_queue n o))
+one-changes : (m : ℕ) (client : Option Client) (n : ℕ) (o : Option Queue) → ((q : Queue) → o ≡ Some q → Follows m (FinMap.get (queues_of client) n) q) → AllFollow m client (with_change client (put_queue n o))
 one-changes m None n o h j q e = absurd (none_some q (sym (FinMap.get-empty nat_cmp j) ∙ e))
 one-changes m (Some c) n o h j q e = go (eqb j n) refl (sym (get-put c.queues n o j) ∙ ap (λ qs. FinMap.get qs j) (sym (put_queue-queues n o c)) ∙ e)
   where

@@ -8,7 +8,7 @@ use Rattle.std.proofs.lemmas.Bool.Decides.{nat_tests}
 use Rattle.std.proofs.lemmas.Bool.{eqb-true}
 use Rattle.seq_state.specs.State.{Client, Event, Pending}
 use Rattle.seq_state.specs.Step.{Timed, event_moment, is_at, playback_at, all_at, upto}
-use Rattle.seq_state.specs.Laws.{IsByMoment, timed_at, timed_of, all_timed, placed, sorted, SortLaw}
+use Rattle.seq_state.specs.Laws.{IsByMoment, timed_at, timed_of, all_timed, with_timed, sorted, SortLaw}
 use Rattle.seq_state.proofs.Lists.{filter-flat_map, flat_map-agree}
 use Rattle.seq_state.proofs.Kin.{upto-agree}
 
@@ -53,11 +53,11 @@ all_at-timed clients pending k =
 
 -- ---- the sort
 
-filter-placed : (k : ℕ) (t : Timed) (xs : List Timed) → filter (at k) (placed t xs) ≡ filter (at k) (t ∷ xs)
+filter-placed : (k : ℕ) (t : Timed) (xs : List Timed) → filter (at k) (with_timed t xs) ≡ filter (at k) (t ∷ xs)
 filter-placed k t [] = refl
 filter-placed k t (x ∷ xs) = go (nat_le t.moment x.moment) refl (filter-placed k t xs)
   where
-    go : (b : Bool) → nat_le t.moment x.moment ≡ b → filter (at k) (placed t xs) ≡ filter (at k) (t ∷ xs) → filter (at k) (cond b (t ∷ x ∷ xs) (x ∷ placed t xs)) ≡ filter (at k) (t ∷ x ∷ xs)
+    go : (b : Bool) → nat_le t.moment x.moment ≡ b → filter (at k) (with_timed t xs) ≡ filter (at k) (t ∷ xs) → filter (at k) (cond b (t ∷ x ∷ xs) (x ∷ with_timed t xs)) ≡ filter (at k) (t ∷ x ∷ xs)
     go true h more = refl
     go false h more = ap (λ ts. cond (at k x) (x ∷ ts) ts) more ∙ turned (at k x) (at k t) (λ a b. grind (arith, nat_tests))
       where
@@ -71,11 +71,11 @@ filter-sorted : (k : ℕ) (ts : List Timed) → filter (at k) (sorted ts) ≡ fi
 filter-sorted k [] = refl
 filter-sorted k (t ∷ ts) = filter-placed k t (sorted ts) ∙ ap (λ xs. cond (at k t) (t ∷ xs) xs) (filter-sorted k ts)
 
-placed-not_before : (m : ℕ) (t : Timed) (xs : List Timed) → m ≤ t.moment → list_all (λ y. nat_le m y.moment) xs ≡ true → list_all (λ y. nat_le m y.moment) (placed t xs) ≡ true
+placed-not_before : (m : ℕ) (t : Timed) (xs : List Timed) → m ≤ t.moment → list_all (λ y. nat_le m y.moment) xs ≡ true → list_all (λ y. nat_le m y.moment) (with_timed t xs) ≡ true
 placed-not_before m t [] l h = grind (arith, nat_tests)
 placed-not_before m t (x ∷ xs) l h = go (nat_le t.moment x.moment) (placed-not_before m t xs l)
   where
-    go : (b : Bool) → (list_all (λ y. nat_le m y.moment) xs ≡ true → list_all (λ y. nat_le m y.moment) (placed t xs) ≡ true) → list_all (λ y. nat_le m y.moment) (cond b (t ∷ x ∷ xs) (x ∷ placed t xs)) ≡ true
+    go : (b : Bool) → (list_all (λ y. nat_le m y.moment) xs ≡ true → list_all (λ y. nat_le m y.moment) (with_timed t xs) ≡ true) → list_all (λ y. nat_le m y.moment) (cond b (t ∷ x ∷ xs) (x ∷ with_timed t xs)) ≡ true
     go true more = grind (arith, nat_tests)
     go false more = grind (arith, nat_tests)
 
@@ -83,11 +83,11 @@ all_later : (m n : ℕ) → m ≤ n → (xs : List Timed) → list_all (λ y. na
 all_later m n l [] h = refl
 all_later m n l (x ∷ xs) h = grind (arith, nat_tests, all_later m n l xs)
 
-placed-by_moment : (t : Timed) (xs : List Timed) → IsByMoment xs → IsByMoment (placed t xs)
+placed-by_moment : (t : Timed) (xs : List Timed) → IsByMoment xs → IsByMoment (with_timed t xs)
 placed-by_moment t [] h = (refl, tt)
 placed-by_moment t (x ∷ xs) h = go (nat_le t.moment x.moment) refl (placed-by_moment t xs h.1)
   where
-    go : (b : Bool) → nat_le t.moment x.moment ≡ b → IsByMoment (placed t xs) → IsByMoment (cond b (t ∷ x ∷ xs) (x ∷ placed t xs))
+    go : (b : Bool) → nat_le t.moment x.moment ≡ b → IsByMoment (with_timed t xs) → IsByMoment (cond b (t ∷ x ∷ xs) (x ∷ with_timed t xs))
     go true e more = let l : t.moment ≤ x.moment = grind (arith, nat_tests) in (grind (arith, nat_tests, all_later t.moment x.moment l xs h.0), h)
     go false e more = let l : x.moment ≤ t.moment = grind (arith, nat_tests) in (placed-not_before x.moment t xs l h.0, more)
 

@@ -11,8 +11,8 @@ use Rattle.seq_state.specs.Files.{File}
 use Rattle.seq_state.specs.Step.{plain, IsTimed}
 use Rattle.seq_state.specs.Circle.{only, is_to, IsClosed}
 
-abbrev pub port_of : ℕ → ℕ → PortAddr
-port_of client port = record { client = client; port = port }
+abbrev pub port_at : ℕ → ℕ → PortAddr
+port_at client port = record { client = client; port = port }
 
 abbrev pub comes_to : PortAddr → Delivery → Bool
 comes_to port d = is_to port.client d && (d.target.port == port.port)
@@ -35,4 +35,4 @@ abbrev pub PortBytesLaw : Type 0
 PortBytesLaw =
     (files : List File) (owner : ℕ) (member : ℕ → Bool) (inputs : List Input) (end port : ℕ) →
     IsTimed inputs end → IsClosed files owner member inputs →
-    port_bytes (port_of owner port) (plain files inputs end) ≡ port_bytes (port_of owner port) (plain files (only member inputs) end)
+    port_bytes (port_at owner port) (plain files inputs end) ≡ port_bytes (port_at owner port) (plain files (only member inputs) end)

@@ -20,7 +20,7 @@ use Rattle.seq_state.specs.State.{Pool, queues_of, Queue, Client, Event, Pending
 use Rattle.seq_state.specs.Own.{out_size}
 use Rattle.seq_state.specs.Step.{caps_at, is_left, used, event_moment, step, Stepped, settle, Settled, state_after, Timed, due, all_at, IsRefusal, IsTimed, plain}
 use Rattle.seq_state.specs.Circle.{is_inner, view, Sight, IsClosed, inner_node, only}
-use Rattle.seq_state.specs.Heard.{port_of, port_bytes}
+use Rattle.seq_state.specs.Heard.{port_at, port_bytes}
 
 -- ---- kinship
 
@@ -101,14 +101,14 @@ abbrev pub all_timed : FinMap nat_cmp Client → List Pending → List Timed
 all_timed clients pending = flat_map (timed_of clients) pending
 
 -- an event in its place, before those of its moment
-abbrev pub placed : Timed → List Timed → List Timed
-placed t [] = t ∷ []
-placed t (x ∷ xs) = if nat_le t.moment x.moment then t ∷ x ∷ xs else (x ∷ placed t xs)
+abbrev pub with_timed : Timed → List Timed → List Timed
+with_timed t [] = t ∷ []
+with_timed t (x ∷ xs) = if nat_le t.moment x.moment then t ∷ x ∷ xs else (x ∷ with_timed t xs)
 
 -- sorted by moment, where those of one moment stay in order
 abbrev pub sorted : List Timed → List Timed
 sorted [] = []
-sorted (t ∷ ts) = placed t (sorted ts)
+sorted (t ∷ ts) = with_timed t (sorted ts)
 
 -- what is due by m is the sorted list, up to m
 abbrev pub SortLaw : Type 0
@@ -133,7 +133,7 @@ AgreeLaw =
     IsTimed inputs end → IsTimed others end → IsClosed files owner member inputs → IsClosed files owner member others →
     only member inputs ≡ only member others →
     (view owner member inputs (plain files inputs end) ≡ view owner member others (plain files others end))
-    × ((port : ℕ) → port_bytes (port_of owner port) (plain files inputs end) ≡ port_bytes (port_of owner port) (plain files others end))
+    × ((port : ℕ) → port_bytes (port_at owner port) (plain files inputs end) ≡ port_bytes (port_at owner port) (plain files others end))
 
 -- ---- the moments of a log
 

@@ -36,8 +36,8 @@ pub record Own : Type 0 where
   pub reply : Option Pool → Reply
 
 -- the actor has this, nothing else changes, and the command is done
-abbrev pub kept : Option Client → Own
-kept client =
+abbrev pub done_with : Option Client → Own
+done_with client =
     record {
       client = client;
       pool = λ p. p;
@@ -53,9 +53,9 @@ kept client =
 -- ---- clients, ports and filters
 
 -- the client with a change, where it is open
-abbrev pub changed : Option Client → (Client → Client) → Option Client
-changed None f = None
-changed (Some c) f = Some (f c)
+abbrev pub with_change : Option Client → (Client → Client) → Option Client
+with_change None f = None
+with_change (Some c) f = Some (f c)
 
 abbrev pub out_size : Option Client → ℕ
 out_size None = 0
@@ -166,7 +166,7 @@ queue_map f (Some q) = Some (f q)
 
 -- the client with a change of one of its queues
 abbrev pub queue_changed : Option Client → ℕ → (Queue → Queue) → Option Client
-queue_changed client n f = changed client (put_queue n (queue_map f (queue_of client n)))
+queue_changed client n f = with_change client (put_queue n (queue_map f (queue_of client n)))
 
 -- a queue with a change of its clock
 abbrev pub clocked : (Clock → Clock) → Queue → Queue

@@ -24,7 +24,7 @@ use Rattle.seq_state.specs.declared.refusal.Refusal.{Refusal}
 use Rattle.seq_state.specs.declared.refusal.Refusal.TheVariants as refusal
 use Rattle.seq_state.specs.Files.{File}
 use Rattle.seq_state.specs.State.{Queue, Client}
-use Rattle.seq_state.specs.Own.{Own, kept, changed, out_size, port_of, filter_of, queue_of, has_port, has_filter, has_queue, put_port, put_filter, new_port, new_filter, fed_of, port_fed, filter_ruled, new_client, oldest, without_oldest, pool_status, queue_is, put_queue, queue_changed, clocked, public, runs, held_queue, one_tempo, file_queue, queue_status, counts_frames, passes_end, scheduled, file_at, file_events, has_division, playback}
+use Rattle.seq_state.specs.Own.{Own, done_with, with_change, out_size, port_of, filter_of, queue_of, has_port, has_filter, has_queue, put_port, put_filter, new_port, new_filter, fed_of, port_fed, filter_ruled, new_client, oldest, without_oldest, pool_status, queue_is, put_queue, queue_changed, clocked, public, runs, held_queue, one_tempo, file_queue, queue_status, counts_frames, passes_end, scheduled, file_at, file_events, has_division, playback}
 
 -- What a row of the table looks at: the files of the run, the moment, who says the command and what
 -- it has of its own, if it is open; the queue that the command names, where the actor may use it; the
@@ -205,85 +205,85 @@ completed a port bytes = reading (fed_of (port_of a.client port) ++ bytes)
 unfoldable pub command_row : Asked → Command → Row
 command_row a (Open name in_size out_size) =
     row (already_open a ∷ bad_name name ∷ bad_sizes in_size out_size ∷ [])
-    (record (kept (Some (new_client name in_size out_size))) { pool = λ p. Some (empty_pool in_size) })
+    (record (done_with (Some (new_client name in_size out_size))) { pool = λ p. Some (empty_pool in_size) })
 command_row a Close =
     row (not_open a ∷ [])
-    (record (kept None) { pool = λ p. None; gone = λ n. true; dropped = λ p. true; queue_gone = λ n. true })
+    (record (done_with None) { pool = λ p. None; gone = λ n. true; dropped = λ p. true; queue_gone = λ n. true })
 command_row a (CreatePort port name caps) =
     row (not_open a ∷ bad_name name ∷ port_exists a port ∷ [])
-    (kept (changed a.client (put_port port (Some (new_port name caps)))))
+    (done_with (with_change a.client (put_port port (Some (new_port name caps)))))
 command_row a (DeletePort port) =
     row (not_open a ∷ no_port a port ∷ [])
-    (record (kept (changed a.client (put_port port None))) { gone = same_node (Port port); dropped = λ p. p.port == port })
+    (record (done_with (with_change a.client (put_port port None))) { gone = same_node (Port port); dropped = λ p. p.port == port })
 command_row a (CreateFilter filter caps rule) =
     row (not_open a ∷ bad_rule rule ∷ filter_exists a filter ∷ [])
-    (kept (changed a.client (put_filter filter (Some (new_filter caps rule)))))
+    (done_with (with_change a.client (put_filter filter (Some (new_filter caps rule)))))
 command_row a (SetFilter filter rule) =
     row (not_open a ∷ bad_rule rule ∷ no_filter a filter ∷ [])
-    (kept (changed a.client (put_filter filter (filter_ruled rule (filter_of a.client filter)))))
+    (done_with (with_change a.client (put_filter filter (filter_ruled rule (filter_of a.client filter)))))
 command_row a (DeleteFilter filter) =
     row (not_open a ∷ no_filter a filter ∷ [])
-    (record (kept (changed a.client (put_filter filter None))) { gone = same_node (Filter filter) })
+    (record (done_with (with_change a.client (put_filter filter None))) { gone = same_node (Filter filter) })
 command_row a (Connect source target) =
     row
     (not_open a ∷ no_sender a source ∷ no_dest a target ∷ not_permitted a source target
     ∷ already_connected a source target ∷ sources_full a target ∷ cycle a source target ∷ [])
-    (record (kept a.client) { edges = connected source target })
+    (record (done_with a.client) { edges = connected source target })
 command_row a (Disconnect source target) =
     row
     (not_open a ∷ no_sender a source ∷ no_dest a target ∷ not_permitted a source target
     ∷ not_connected a source target ∷ [])
-    (record (kept a.client) { edges = disconnected source target })
+    (record (done_with a.client) { edges = disconnected source target })
 command_row a (Bytes port bytes) =
     row (not_open a ∷ no_port a port ∷ [])
-    (record (kept (changed a.client (put_port port (port_fed bytes (port_of a.client port))))) {
+    (record (done_with (with_change a.client (put_port port (port_fed bytes (port_of a.client port))))) {
       sends = map (from_port port) (completed a port bytes);
       reply = λ p. replies.Messages (length (completed a port bytes));
     })
 command_row a (Send port message) =
     row (not_open a ∷ no_port a port ∷ [])
-    (record (kept a.client) { sends = from_port port message ∷ [] })
+    (record (done_with a.client) { sends = from_port port message ∷ [] })
 command_row a (CreateQueue queue ppq tempo) =
     row (not_open a ∷ bad_ppq ppq ∷ queue_exists a queue ∷ bad_tempo tempo ∷ [])
-    (kept (changed a.client (put_queue queue (Some (held_queue (one_tempo ppq tempo))))))
+    (done_with (with_change a.client (put_queue queue (Some (held_queue (one_tempo ppq tempo))))))
 command_row a (CreateQueueFrom queue file) =
     row (not_open a ∷ queue_exists a queue ∷ no_file a file ∷ [])
-    (kept (changed a.client (put_queue queue (file_queue (file_at a.files file)))))
+    (done_with (with_change a.client (put_queue queue (file_queue (file_at a.files file)))))
 command_row a (DeleteQueue q) =
     row (not_open a ∷ not_yours a q ∷ no_queue a q ∷ [])
-    (record (kept (changed a.client (put_queue q.queue None))) { queue_gone = λ n. n == q.queue })
+    (record (done_with (with_change a.client (put_queue q.queue None))) { queue_gone = λ n. n == q.queue })
 command_row a (Start q) =
     row (not_open a ∷ not_yours a q ∷ no_queue a q ∷ queue_running a q ∷ [])
-    (kept (queue_changed a.client q.queue (clocked (λ c. started c a.moment))))
+    (done_with (queue_changed a.client q.queue (clocked (λ c. started c a.moment))))
 command_row a (Stop q) =
     row (not_open a ∷ not_yours a q ∷ no_queue a q ∷ queue_stopped a q ∷ [])
-    (kept (queue_changed a.client q.queue (clocked (λ c. stopped c a.moment))))
+    (done_with (queue_changed a.client q.queue (clocked (λ c. stopped c a.moment))))
 command_row a (Continue q) =
     row (not_open a ∷ not_yours a q ∷ no_queue a q ∷ queue_running a q ∷ [])
-    (kept (queue_changed a.client q.queue (clocked (λ c. resumed c a.moment))))
+    (done_with (queue_changed a.client q.queue (clocked (λ c. resumed c a.moment))))
 command_row a (Tempo q tempo) =
     row (not_open a ∷ not_yours a q ∷ no_queue a q ∷ bad_tempo_on a q tempo ∷ [])
-    (kept (queue_changed a.client q.queue (clocked (λ c. with_tempo c a.moment tempo))))
+    (done_with (queue_changed a.client q.queue (clocked (λ c. with_tempo c a.moment tempo))))
 command_row a (QueueStatus q) =
     row (not_open a ∷ not_shared a q ∷ none_named a ∷ [])
-    (record (kept a.client) { reply = λ p. queue_status a.moment a.queue })
+    (record (done_with a.client) { reply = λ p. queue_status a.moment a.queue })
 command_row a (Share q) =
     row (not_open a ∷ not_yours a q ∷ no_queue a q ∷ [])
-    (kept (queue_changed a.client q.queue public))
+    (done_with (queue_changed a.client q.queue public))
 command_row a (Schedule q port due message) =
     row (not_open a ∷ no_port a port ∷ not_shared a q ∷ none_named a ∷ bad_time a due ∷ out_full a ∷ [])
-    (record (kept a.client) { added = playback port a.moment (scheduled a.moment a.queue due message) ∷ [] })
+    (record (done_with a.client) { added = playback port a.moment (scheduled a.moment a.queue due message) ∷ [] })
 command_row a (Play q port file) =
     row
     (not_open a ∷ no_port a port ∷ not_shared a q ∷ none_named a ∷ no_file a file
     ∷ division_differs a file ∷ out_full a ∷ [])
-    (record (kept a.client) { added = playback port a.moment (file_events (file_at a.files file)) ∷ [] })
+    (record (done_with a.client) { added = playback port a.moment (file_events (file_at a.files file)) ∷ [] })
 command_row a DropOutput =
     row (not_open a ∷ [])
-    (record (kept a.client) { dropped = λ p. true })
+    (record (done_with a.client) { dropped = λ p. true })
 command_row a (Receive max) =
     row (not_open a ∷ bad_max max ∷ [])
-    (record (kept a.client) { pool = without_oldest max; reply = λ p. replies.Received (oldest max p) })
+    (record (done_with a.client) { pool = without_oldest max; reply = λ p. replies.Received (oldest max p) })
 command_row a PoolStatus =
     row (not_open a ∷ [])
-    (record (kept a.client) { reply = pool_status a.used })
+    (record (done_with a.client) { reply = pool_status a.used })

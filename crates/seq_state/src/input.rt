@@ -1,9 +1,12 @@
 //! What clients say.
 
-use memory::Items;
+ghost use Rattle.std.specs.Prelude.{◌≡◌, IfOk};
+
+use memory::{Items, OutOfMemory};
 use midi_wire::Message;
 use node_table::{Addr, Caps, ClientId, FilterNo, PortNo, QueueAddr, QueueNo};
 use route_filter::RuleArgs;
+use std::alloc::Global;
 
 /// One command of one client at one moment.
 #[derive(Drop)]
@@ -148,4 +151,114 @@ pub enum DueAt {
     Nanos(u64),
     /// So many nanoseconds after the present time.
     NanosAfter(u64),
+}
+
+impl Input {
+    /// The same input once more. The data of an exclusive message is shared, not copied.
+    pub fn duplicate(&self, alloc: Global) -> Result<Input, OutOfMemory>
+        ensures { IfOk result (λ input. input ≡ self.now) }
+    {
+        let command = self.command.duplicate(alloc)?;
+        Ok(Input {
+            moment: self.moment,
+            actor: self.actor,
+            command,
+        })
+    }
+}
+
+impl Command {
+    /// The same command once more. The data of an exclusive message is shared, not copied.
+    pub fn duplicate(&self, alloc: Global) -> Result<Command, OutOfMemory>
+        ensures { IfOk result (λ command. command ≡ self.now) }
+    {
+        Ok(match self {
+            Command::Open {
+                name,
+                in_size,
+                out_size,
+            } => Command::Open {
+                name: duplicate_of(alloc, name)?,
+                in_size: *in_size,
+                out_size: *out_size,
+            },
+            Command::Close => Command::Close,
+            Command::CreatePort { port, name, caps } => Command::CreatePort {
+                port: *port,
+                name: duplicate_of(alloc, name)?,
+                caps: *caps,
+            },
+            Command::DeletePort { port } => Command::DeletePort { port: *port },
+            Command::CreateFilter { filter, caps, rule } => Command::CreateFilter {
+                filter: *filter,
+                caps: *caps,
+                rule: *rule,
+            },
+            Command::SetFilter { filter, rule } => Command::SetFilter {
+                filter: *filter,
+                rule: *rule,
+            },
+            Command::DeleteFilter { filter } => Command::DeleteFilter { filter: *filter },
+            Command::Connect { source, target } => Command::Connect {
+                source: *source,
+                target: *target,
+            },
+            Command::Disconnect { source, target } => Command::Disconnect {
+                source: *source,
+                target: *target,
+            },
+            Command::Bytes { port, bytes } => Command::Bytes {
+                port: *port,
+                bytes: duplicate_of(alloc, bytes)?,
+            },
+            Command::Send { port, message } => Command::Send {
+                port: *port,
+                message: message.duplicate()?,
+            },
+            Command::CreateQueue { queue, ppq, tempo } => Command::CreateQueue {
+                queue: *queue,
+                ppq: *ppq,
+                tempo: *tempo,
+            },
+            Command::CreateQueueFrom { queue, file } => Command::CreateQueueFrom {
+                queue: *queue,
+                file: *file,
+            },
+            Command::DeleteQueue { queue } => Command::DeleteQueue { queue: *queue },
+            Command::Start { queue } => Command::Start { queue: *queue },
+            Command::Stop { queue } => Command::Stop { queue: *queue },
+            Command::Continue { queue } => Command::Continue { queue: *queue },
+            Command::Tempo { queue, tempo } => Command::Tempo {
+                queue: *queue,
+                tempo: *tempo,
+            },
+            Command::QueueStatus { queue } => Command::QueueStatus { queue: *queue },
+            Command::Share { queue } => Command::Share { queue: *queue },
+            Command::Schedule {
+                queue,
+                port,
+                due_at,
+                message,
+            } => Command::Schedule {
+                queue: *queue,
+                port: *port,
+                due_at: *due_at,
+                message: message.duplicate()?,
+            },
+            Command::Play { queue, port, file } => Command::Play {
+                queue: *queue,
+                port: *port,
+                file: *file,
+            },
+            Command::DropOutput => Command::DropOutput,
+            Command::Receive { max } => Command::Receive { max: *max },
+            Command::PoolStatus => Command::PoolStatus,
+        })
+    }
+}
+
+fn duplicate_of(alloc: Global, bytes: &Items<u8>) -> Result<Items<u8>, OutOfMemory>
+    ensures { IfOk result (λ copy. copy ≡ bytes.now) }
+{
+    Ok(Items::new(Vec::from_slice(alloc, bytes.as_slice())?))
 }

@@ -5,7 +5,7 @@ use midi_wire::Message;
 use node_table::{ClientId, PortAddr, PortNo};
 
 /// What became of a command.
-#[derive(Drop)]
+#[derive(Debug, Drop, PartialEq, Eq)]
 pub enum Reply {
     Done,
     /// So many messages were completed and sent.
@@ -34,7 +34,7 @@ pub enum Reply {
 }
 
 /// A message that waits in a client's input pool.
-#[derive(Drop)]
+#[derive(Debug, Drop, PartialEq, Eq)]
 pub struct Arrival {
     /// When it came, in nanoseconds from the beginning of the run.
     pub moment: u64,
@@ -44,7 +44,7 @@ pub struct Arrival {
 }
 
 /// A message that came to a port.
-#[derive(Drop)]
+#[derive(Debug, Drop, PartialEq, Eq)]
 pub struct Delivery {
     /// In nanoseconds from the beginning of the run.
     pub moment: u64,
@@ -53,7 +53,7 @@ pub struct Delivery {
 }
 
 /// An entry of the log of a run.
-#[derive(Drop)]
+#[derive(Debug, Drop, PartialEq, Eq)]
 pub enum LogEntry {
     Delivered(Delivery),
     Replied {
