@@ -10,7 +10,7 @@ use Rattle.node_table.specs.declared.number.Node.{Node}
 use Rattle.node_table.specs.declared.number.Node.TheVariants.{Port}
 use Rattle.route_filter.specs.declared.rule_args.RuleArgs.{RuleArgs}
 use Rattle.seq_state.specs.State.{PortInfo, FilterInfo}
-use Rattle.seq_state.specs.Own.{has_port, has_filter, port_of, filter_of, changed, put_port, put_filter, fed_of, port_fed, filter_ruled}
+use Rattle.seq_state.specs.Own.{has_port, has_filter, port_of, filter_of, with_change, put_port, put_filter, fed_of, port_fed, filter_ruled}
 use Rattle.seq_state.specs.Step.{port_addr}
 use Rattle.seq_clients.specs.Bodies.{stream_of, is_body_for, is_stream}
 use Rattle.seq_clients.specs.Kept.{Nodes, Rows, port_seen, filter_seen, roster, IsKept}
@@ -35,13 +35,13 @@ module _ (table : Nodes) (rows : Rows) (s : Roster) (kept : IsKept table rows) (
   -- ---- filters
 
   pub filter-ruled : (client filter : ℕ) (addr : Addr) (rule : RuleArgs) → addr ≡ filter_addr client filter → has_filter (get s.clients client) filter ≡ true →
-      roster (with_body table addr (bodies.Rule rule)) rows ≡ with_client s client (changed (get s.clients client) (put_filter filter (filter_ruled rule (filter_of (get s.clients client) filter))))
+      roster (with_body table addr (bodies.Rule rule)) rows ≡ with_client s client (with_change (get s.clients client) (put_filter filter (filter_ruled rule (filter_of (get s.clients client) filter))))
   filter-ruled client filter addr rule at there =
       ap (λ (x : Addr). roster (with_body table x (bodies.Rule rule)) rows) at
       ∙ go (node_at table (filter_addr client filter)) (filter-there table rows s kept view client filter ∙ there)
-      ∙ ap (λ (o : Option FilterInfo). with_client s client (changed (get s.clients client) (put_filter filter (filter_ruled rule o)))) (get-filter table rows s kept view client filter)
+      ∙ ap (λ (o : Option FilterInfo). with_client s client (with_change (get s.clients client) (put_filter filter (filter_ruled rule o)))) (get-filter table rows s kept view client filter)
     where
-      go : (o : Option (NodeSeen NodeBody)) → is_some o ≡ true → roster (put_seen table (filter_addr client filter) (option_map (with_its_body (bodies.Rule rule)) o)) rows ≡ with_client s client (changed (get s.clients client) (put_filter filter (filter_ruled rule (option_map filter_seen o))))
+      go : (o : Option (NodeSeen NodeBody)) → is_some o ≡ true → roster (put_seen table (filter_addr client filter) (option_map (with_its_body (bodies.Rule rule)) o)) rows ≡ with_client s client (with_change (get s.clients client) (put_filter filter (filter_ruled rule (option_map filter_seen o))))
       go None h = cc
       go (Some n) h = filter-made table rows s kept view client filter (with_its_body (bodies.Rule rule) n)
 
@@ -91,15 +91,15 @@ module _ (table : Nodes) (rows : Rows) (s : Roster) (kept : IsKept table rows) (
         is (bodies.Rule rule) h = h
 
     pub port-is-fed : (body : NodeBody) (bytes : List ℕ) → stream_of body ≡ rest (stream_of was ++ bytes) →
-        roster (with_body table addr body) rows ≡ with_client s client (changed (get s.clients client) (put_port port (port_fed bytes (port_of (get s.clients client) port))))
+        roster (with_body table addr body) rows ≡ with_client s client (with_change (get s.clients client) (put_port port (port_fed bytes (port_of (get s.clients client) port))))
     port-is-fed body bytes e =
         ap (λ (x : Addr). roster (with_body table x body) rows) at
         ∙ go (node_at table (port_addr client port)) here_at
-        ∙ ap (λ (o : Option PortInfo). with_client s client (changed (get s.clients client) (put_port port (port_fed bytes o)))) (get-port table rows s kept view client port)
+        ∙ ap (λ (o : Option PortInfo). with_client s client (with_change (get s.clients client) (put_port port (port_fed bytes o)))) (get-port table rows s kept view client port)
       where
-        go : (o : Option (NodeSeen NodeBody)) → Some was ≡ option_map (λ n. n.body) o → roster (put_seen table (port_addr client port) (option_map (with_its_body body) o)) rows ≡ with_client s client (changed (get s.clients client) (put_port port (port_fed bytes (option_map port_seen o))))
+        go : (o : Option (NodeSeen NodeBody)) → Some was ≡ option_map (λ n. n.body) o → roster (put_seen table (port_addr client port) (option_map (with_its_body body) o)) rows ≡ with_client s client (with_change (get s.clients client) (put_port port (port_fed bytes (option_map port_seen o))))
         go None h = cc
         go (Some n) h =
             let same : was ≡ n.body = cc in
             port-made table rows s kept view client port (with_its_body body n)
-            ∙ ap (λ (f : List ℕ). with_client s client (changed (get s.clients client) (put_port port (Some (record (port_seen n) { fed = f }))))) (e ∙ ap (λ (b : NodeBody). rest (stream_of b ++ bytes)) same)
+            ∙ ap (λ (f : List ℕ). with_client s client (with_change (get s.clients client) (put_port port (Some (record (port_seen n) { fed = f }))))) (e ∙ ap (λ (b : NodeBody). rest (stream_of b ++ bytes)) same)

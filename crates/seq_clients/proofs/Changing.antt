@@ -14,7 +14,7 @@ use Rattle.node_table.specs.declared.number.Node.{Node}
 use Rattle.node_table.specs.declared.number.Node.TheVariants.{Port, Filter}
 use Rattle.node_table.proofs.Numbered.{get-insert_same, get-insert_other, get-remove_same, get-remove_other, remove_absent}
 use Rattle.seq_state.specs.State.{Client, Pool, PortInfo, FilterInfo, put}
-use Rattle.seq_state.specs.Own.{has_port, has_filter, queue_of, changed, put_port, put_filter, new_client, without_oldest}
+use Rattle.seq_state.specs.Own.{has_port, has_filter, queue_of, with_change, put_port, put_filter, new_client, without_oldest}
 use Rattle.seq_state.specs.Step.{port_addr}
 use Rattle.seq_clients.specs.Bodies.{is_body_for}
 use Rattle.seq_clients.specs.Kept.{Nodes, Rows, port_seen, filter_seen, client_seen, row_at, roster, IsKept}
@@ -63,10 +63,10 @@ Fits o = (nd : Node) (n : NodeSeen NodeBody) → node_in o nd ≡ Some n → is_
 pub fits-none : Fits None
 fits-none nd n e = let none : None ≡ Some n = sym (none_in nd) ∙ e in cc
 
-pub fits-opened : (name : List ℕ) → Fits (Some (nodes.opened name))
+pub fits-opened : (name : List ℕ) → Fits (Some (nodes.new_client name))
 fits-opened name nd n e = let none : None ≡ Some n = sym (at nd) ∙ e in cc
   where
-    at : (nd : Node) → node_in (Some (nodes.opened {P = NodeBody} name)) nd ≡ None
+    at : (nd : Node) → node_in (Some (nodes.new_client {P = NodeBody} name)) nd ≡ None
     at (Port i) = get-empty nat_cmp i
     at (Filter i) = get-empty nat_cmp i
 
@@ -193,12 +193,12 @@ module _ (table : Nodes) (rows : Rows) (s : Roster) (kept : IsKept table rows) (
 
   -- a change of a client's nodes that is seen as one of the client
   nodes-seen : (client : ℕ) (f : ClientNodes NodeBody → ClientNodes NodeBody) (g : Client → Client) → ((r : ClientRow) (c : ClientNodes NodeBody) → client_seen r (f c) ≡ g (client_seen r c)) →
-      roster (with_nodes client f) rows ≡ with_client s client (changed (get s.clients client) g)
+      roster (with_nodes client f) rows ≡ with_client s client (with_change (get s.clients client) g)
   nodes-seen client f g alike =
-      client-put (with_nodes client f) client (changed (get s.clients client) g) (with-others client f)
-      (ap (option_map (client_seen (row_at rows client))) (with-same client f) ∙ go (get table client) ∙ ap (λ (o : Option Client). changed o g) (sym (get-client table rows s kept view client)))
+      client-put (with_nodes client f) client (with_change (get s.clients client) g) (with-others client f)
+      (ap (option_map (client_seen (row_at rows client))) (with-same client f) ∙ go (get table client) ∙ ap (λ (o : Option Client). with_change o g) (sym (get-client table rows s kept view client)))
     where
-      go : (o : Option (ClientNodes NodeBody)) → option_map (client_seen (row_at rows client)) (option_map f o) ≡ changed (option_map (client_seen (row_at rows client)) o) g
+      go : (o : Option (ClientNodes NodeBody)) → option_map (client_seen (row_at rows client)) (option_map f o) ≡ with_change (option_map (client_seen (row_at rows client)) o) g
       go None = refl
       go (Some c) = ap Some (alike (row_at rows client) c)
 
@@ -211,20 +211,20 @@ module _ (table : Nodes) (rows : Rows) (s : Roster) (kept : IsKept table rows) (
   abbrev port_put : (r : ClientRow) (c : ClientNodes NodeBody) (port : ℕ) (x : NodeSeen NodeBody) → client_seen r (put_node (Port port) x c) ≡ put_port port (Some (port_seen x)) (client_seen r c)
   port_put r c port x = ap (λ (ps : FinMap nat_cmp PortInfo). record (client_seen r c) { ports = ps }) (mapped-insert (λ n y. port_seen y) (λ n y. port_seen y) c.ports port x (λ q ne. refl))
 
-  pub port-made : (client port : ℕ) (x : NodeSeen NodeBody) → roster (with_node table (port_addr client port) x) rows ≡ with_client s client (changed (get s.clients client) (put_port port (Some (port_seen x))))
+  pub port-made : (client port : ℕ) (x : NodeSeen NodeBody) → roster (with_node table (port_addr client port) x) rows ≡ with_client s client (with_change (get s.clients client) (put_port port (Some (port_seen x))))
   port-made client port x = nodes-seen client (put_node (Port port) x) (put_port port (Some (port_seen x))) (λ r c. port_put r c port x)
 
-  pub port-dropped : (client port : ℕ) → roster (without_node table (port_addr client port)) rows ≡ with_client s client (changed (get s.clients client) (put_port port None))
+  pub port-dropped : (client port : ℕ) → roster (without_node table (port_addr client port)) rows ≡ with_client s client (with_change (get s.clients client) (put_port port None))
   port-dropped client port =
       nodes-seen client (drop_node (Port port)) (put_port port None)
       (λ r c. ap (λ (ps : FinMap nat_cmp PortInfo). record (client_seen r c) { ports = ps }) (mapped-remove (λ n y. port_seen y) c.ports port))
 
-  pub filter-made : (client filter : ℕ) (x : NodeSeen NodeBody) → roster (with_node table (filter_addr client filter) x) rows ≡ with_client s client (changed (get s.clients client) (put_filter filter (Some (filter_seen x))))
+  pub filter-made : (client filter : ℕ) (x : NodeSeen NodeBody) → roster (with_node table (filter_addr client filter) x) rows ≡ with_client s client (with_change (get s.clients client) (put_filter filter (Some (filter_seen x))))
   filter-made client filter x =
       nodes-seen client (put_node (Filter filter) x) (put_filter filter (Some (filter_seen x)))
       (λ r c. ap (λ (fs : FinMap nat_cmp FilterInfo). record (client_seen r c) { filters = fs }) (mapped-insert (λ n y. filter_seen y) (λ n y. filter_seen y) c.filters filter x (λ q ne. refl)))
 
-  pub filter-dropped : (client filter : ℕ) → roster (without_node table (filter_addr client filter)) rows ≡ with_client s client (changed (get s.clients client) (put_filter filter None))
+  pub filter-dropped : (client filter : ℕ) → roster (without_node table (filter_addr client filter)) rows ≡ with_client s client (with_change (get s.clients client) (put_filter filter None))
   filter-dropped client filter =
       nodes-seen client (drop_node (Filter filter)) (put_filter filter None)
       (λ r c. ap (λ (fs : FinMap nat_cmp FilterInfo). record (client_seen r c) { filters = fs }) (mapped-remove (λ n y. filter_seen y) c.filters filter))
@@ -257,12 +257,12 @@ module _ (table : Nodes) (rows : Rows) (s : Roster) (kept : IsKept table rows) (
 
   module _ (client : ℕ) (name : List ℕ) (in_size out_size : ℕ) where
     opened_nodes : Nodes
-    opened_nodes = FinMap.insert table client (nodes.opened name)
+    opened_nodes = FinMap.insert table client (nodes.new_client name)
 
     opened_rows : Rows
     opened_rows = FinMap.insert rows client (new_row in_size out_size)
 
-    opened-seen : client_seen (new_row in_size out_size) (nodes.opened name) ≡ new_client name in_size out_size
+    opened-seen : client_seen (new_row in_size out_size) (nodes.new_client name) ≡ new_client name in_size out_size
     opened-seen =
         ap (λ (ps : FinMap nat_cmp PortInfo). record { name = name; in_size = in_size; out_size = out_size; ports = ps; filters = mapped (λ n y. filter_seen y) FinMap.empty; queues = FinMap.empty }) (mapped-empty (λ n y. port_seen y))
         ∙ ap (λ (fs : FinMap nat_cmp FilterInfo). record { name = name; in_size = in_size; out_size = out_size; ports = FinMap.empty; filters = fs; queues = FinMap.empty }) (mapped-empty (λ n y. filter_seen y))
@@ -271,19 +271,19 @@ module _ (table : Nodes) (rows : Rows) (s : Roster) (kept : IsKept table rows) (
     unfolding opened_nodes opened_rows
     opened-roster =
         both-put opened_nodes opened_rows client (Some (new_client name in_size out_size)) (Some (empty_pool in_size))
-        (λ q ne. get-insert_other table client (nodes.opened name) q ne) (λ q ne. get-insert_other rows client (new_row in_size out_size) q ne)
+        (λ q ne. get-insert_other table client (nodes.new_client name) q ne) (λ q ne. get-insert_other rows client (new_row in_size out_size) q ne)
         (ap (λ (r : Option ClientRow). option_map (client_seen (unwrap_or r (new_row 0 0))) (get opened_nodes client)) (get-insert_same rows client (new_row in_size out_size))
-        ∙ ap (option_map (client_seen (new_row in_size out_size))) (get-insert_same table client (nodes.opened name)) ∙ ap Some opened-seen)
+        ∙ ap (option_map (client_seen (new_row in_size out_size))) (get-insert_same table client (nodes.new_client name)) ∙ ap Some opened-seen)
         (ap (option_map (λ r. r.pool)) (get-insert_same rows client (new_row in_size out_size)))
 
     opened-kept : IsKept opened_nodes opened_rows
     unfolding opened_nodes opened_rows
     opened-kept =
-        kept-both opened_nodes opened_rows client (λ q ne. get-insert_other table client (nodes.opened name) q ne) (λ q ne. get-insert_other rows client (new_row in_size out_size) q ne)
-        (ap is_some (get-insert_same rows client (new_row in_size out_size)) ∙ sym (ap is_some (get-insert_same table client (nodes.opened name))))
-        (subst (λ (o : Option (ClientNodes NodeBody)). Fits o) (sym (get-insert_same table client (nodes.opened name))) (fits-opened name))
+        kept-both opened_nodes opened_rows client (λ q ne. get-insert_other table client (nodes.new_client name) q ne) (λ q ne. get-insert_other rows client (new_row in_size out_size) q ne)
+        (ap is_some (get-insert_same rows client (new_row in_size out_size)) ∙ sym (ap is_some (get-insert_same table client (nodes.new_client name))))
+        (subst (λ (o : Option (ClientNodes NodeBody)). Fits o) (sym (get-insert_same table client (nodes.new_client name))) (fits-opened name))
 
-    module _ (ns : Nodes) (rs : Rows) (r : ClientRow) (e : ns ≡ FinMap.insert table client (nodes.opened name)) (h : rs ≡ FinMap.insert rows client r) (is : r ≡ new_row in_size out_size) where
+    module _ (ns : Nodes) (rs : Rows) (r : ClientRow) (e : ns ≡ FinMap.insert table client (nodes.new_client name)) (h : rs ≡ FinMap.insert rows client r) (is : r ≡ new_row in_size out_size) where
       with_new : rs ≡ FinMap.insert rows client (new_row in_size out_size)
       with_new = h ∙ ap (FinMap.insert rows client) is
 
@@ -326,22 +326,22 @@ module _ (table : Nodes) (rows : Rows) (s : Roster) (kept : IsKept table rows) (
     pub back-kept : IsKept table rs
     back-kept = kept-both table rs client (λ q ne. refl) back_apart (ap is_some (back_here) ∙ ap is_some was ∙ kept.rowed client) (λ nd n e. kept.fitting client nd n e)
 
-    seen-with : (g : Client → Client) → ((c : ClientNodes NodeBody) → client_seen with c ≡ g (client_seen r c)) → seen_in table rs client ≡ changed (get s.clients client) g
+    seen-with : (g : Client → Client) → ((c : ClientNodes NodeBody) → client_seen with c ≡ g (client_seen r c)) → seen_in table rs client ≡ with_change (get s.clients client) g
     seen-with g alike =
         ap (λ (o : Option ClientRow). option_map (client_seen (unwrap_or o (new_row 0 0))) (get table client)) back_here ∙ go (get table client)
-        ∙ ap (λ (o : Option ClientRow). changed (option_map (client_seen (unwrap_or o (new_row 0 0))) (get table client)) g) was
-        ∙ ap (λ (o : Option Client). changed o g) (sym (get-client table rows s kept view client))
+        ∙ ap (λ (o : Option ClientRow). with_change (option_map (client_seen (unwrap_or o (new_row 0 0))) (get table client)) g) was
+        ∙ ap (λ (o : Option Client). with_change o g) (sym (get-client table rows s kept view client))
       where
-        go : (o : Option (ClientNodes NodeBody)) → option_map (client_seen with) o ≡ changed (option_map (client_seen r) o) g
+        go : (o : Option (ClientNodes NodeBody)) → option_map (client_seen with) o ≡ with_change (option_map (client_seen r) o) g
         go None = refl
         go (Some c) = ap Some (alike c)
 
     -- the client is seen with the change, and its pool as it was
-    pub row-seen : (g : Client → Client) → ((c : ClientNodes NodeBody) → client_seen with c ≡ g (client_seen r c)) → with.pool ≡ r.pool → roster table rs ≡ with_client s client (changed (get s.clients client) g)
+    pub row-seen : (g : Client → Client) → ((c : ClientNodes NodeBody) → client_seen with c ≡ g (client_seen r c)) → with.pool ≡ r.pool → roster table rs ≡ with_client s client (with_change (get s.clients client) g)
     row-seen g alike same =
-        both-put table rs client (changed (get s.clients client) g) (get s.pools client) (λ q ne. refl) back_apart (seen-with g alike)
+        both-put table rs client (with_change (get s.clients client) g) (get s.pools client) (λ q ne. refl) back_apart (seen-with g alike)
         (ap (option_map (λ q. q.pool)) back_here ∙ ap Some same ∙ ap (option_map (λ q. q.pool)) was ∙ sym (get-pool table rows s kept view client))
-        ∙ ap (λ (m : FinMap nat_cmp Pool). record { clients = put s.clients client (changed (get s.clients client) g); pools = m }) (sym (put_again s.pools client (get s.pools client) refl))
+        ∙ ap (λ (m : FinMap nat_cmp Pool). record { clients = put s.clients client (with_change (get s.clients client) g); pools = m }) (sym (put_again s.pools client (get s.pools client) refl))
 
     -- the client is seen as it was, with another pool
     pub pool-seen : (f : Pool → Pool) → ((c : ClientNodes NodeBody) → client_seen with c ≡ client_seen r c) → with.pool ≡ f r.pool → roster table rs ≡ with_pool s client (option_map f (get s.pools client))
@@ -349,7 +349,7 @@ module _ (table : Nodes) (rows : Rows) (s : Roster) (kept : IsKept table rows) (
         pool-put rs client (option_map f (get s.pools client)) back_apart (seen-with (λ c. c) alike ∙ same (get s.clients client))
         (ap (option_map (λ q. q.pool)) back_here ∙ ap Some is ∙ ap (λ (o : Option ClientRow). option_map f (option_map (λ q. q.pool) o)) was ∙ ap (option_map f) (sym (get-pool table rows s kept view client)))
       where
-        same : (o : Option Client) → changed o (λ c. c) ≡ o
+        same : (o : Option Client) → with_change o (λ c. c) ≡ o
         same None = refl
         same (Some c) = refl
 
@@ -385,11 +385,11 @@ module _ (table : Nodes) (rows : Rows) (s : Roster) (kept : IsKept table rows) (
     absent-queue n = sym (get-empty nat_cmp n) ∙ ap (λ (o : Option Client). queue_of o n) (no_row table rows s kept view client none)
 
     -- and so nothing changes
-    pub absent-seen : (g : Client → Client) → roster table rs ≡ with_client s client (changed (get s.clients client) g)
+    pub absent-seen : (g : Client → Client) → roster table rs ≡ with_client s client (with_change (get s.clients client) g)
     absent-seen g =
         let closed : None ≡ get s.clients client = no_row table rows s kept view client none in
         ap (roster table) as_were ∙ view ∙ ap (λ (m : FinMap nat_cmp Client). record s { clients = m }) (put_again s.clients client None (sym closed))
-        ∙ ap (λ (o : Option Client). with_client s client (changed o g)) closed
+        ∙ ap (λ (o : Option Client). with_client s client (with_change o g)) closed
 
     pub absent-left : (f : Option Pool → Option Pool) → f None ≡ None → roster table rs ≡ with_pool s client (f (get s.pools client))
     absent-left f e =

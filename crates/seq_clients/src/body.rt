@@ -1,6 +1,7 @@
 //! What a node has beside its name and its capabilities.
 
 ghost use Rattle.std.specs.Prelude.{◌≡◌, [], ◌++◌, true, length, IsOk, IfOk, OnOk};
+ghost use Rattle.std.specs.Option.{option_copied};
 ghost use Rattle.midi_wire.specs.Readings.{reading, rest};
 
 use crate::port::PortStream;
@@ -21,12 +22,13 @@ impl NodeBody {
     ghost use Rattle.seq_clients.specs.Bodies.{is_stream, stream_of, rule_in};
 
     /// The rule of a filter.
-    pub(crate) fn rule(&self) -> Option<Rule>
-        ensures { result ≡ rule_in self.now }
+    #[inline]
+    pub(crate) fn rule(&self) -> Option<&Rule>
+        ensures { option_copied result ≡ rule_in self.now }
     {
         match self {
             NodeBody::Stream(_) => None,
-            NodeBody::Rule(rule) => Some(*rule),
+            NodeBody::Rule(rule) => Some(rule),
         }
     }
 

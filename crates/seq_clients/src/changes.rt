@@ -8,7 +8,7 @@ ghost use Rattle.midi_wire.specs.Readings.{reading};
 ghost use Rattle.node_table.specs.Names.{is_name};
 ghost use Rattle.tempo_clock.specs.Clocks.{started, stopped, resumed, with_tempo};
 ghost use Rattle.tempo_clock.specs.Entries.{is_tempo};
-ghost use Rattle.seq_state.specs.Own.{has_port, has_filter, port_of, filter_of, queue_of, changed, put_port, put_filter, put_queue, new_client, new_port, new_filter, filter_ruled, fed_of, port_fed, held_queue, clocked, public, queue_changed, oldest, without_oldest};
+ghost use Rattle.seq_state.specs.Own.{has_port, has_filter, port_of, filter_of, queue_of, with_change, put_port, put_filter, put_queue, new_client, new_port, new_filter, filter_ruled, fed_of, port_fed, held_queue, clocked, public, queue_changed, oldest, without_oldest};
 ghost use Rattle.seq_state.specs.State as state;
 ghost use Rattle.seq_state.specs.Step.{has_room};
 ghost use Rattle.seq_clients.specs.Roster.{with_client, with_pool};
@@ -69,7 +69,7 @@ impl Clients {
         requires named { is_name name.now ≡ true }
         requires free { has_port (get self.old.clients client) port ≡ false }
         ensures ok { let made = put_port port (Some (new_port name.now caps)) in
-            let c = changed (get self.old.clients client) made in
+            let c = with_change (get self.old.clients client) made in
             OnOk result (self.new ≡ with_client self.old client c) }
         ensures err { OnErr result (self.new ≡ self.old) }
     {
@@ -81,7 +81,7 @@ impl Clients {
 
     /// Drops a port that may be there. It takes no memory.
     pub fn delete_port(&mut self, client: ClientId, port: PortNo)
-        ensures { let c = changed (get self.old.clients client) (put_port port None) in
+        ensures { let c = with_change (get self.old.clients client) (put_port port None) in
             self.new ≡ with_client self.old client c }
     {
         self.nodes.delete(port_addr(client, port));
@@ -98,7 +98,7 @@ impl Clients {
         requires open { is_some (get self.old.clients client) ≡ true }
         requires free { has_filter (get self.old.clients client) filter ≡ false }
         ensures ok { let made = put_filter filter (Some (new_filter caps rule)) in
-            let c = changed (get self.old.clients client) made in
+            let c = with_change (get self.old.clients client) made in
             OnOk result (self.new ≡ with_client self.old client c) }
         ensures err { OnErr result (self.new ≡ self.old) }
     {
@@ -110,7 +110,7 @@ impl Clients {
 
     /// Drops a filter that may be there. It takes no memory.
     pub fn delete_filter(&mut self, client: ClientId, filter: FilterNo)
-        ensures { let c = changed (get self.old.clients client) (put_filter filter None) in
+        ensures { let c = with_change (get self.old.clients client) (put_filter filter None) in
             self.new ≡ with_client self.old client c }
     {
         self.nodes.delete(filter_addr(client, filter));
@@ -121,7 +121,7 @@ impl Clients {
         requires { has_filter (get self.old.clients client) filter ≡ true }
         ensures { let c = get self.old.clients client in
             let ruled = put_filter filter (filter_ruled rule (filter_of c filter)) in
-            self.new ≡ with_client self.old client (changed c ruled) }
+            self.new ≡ with_client self.old client (with_change c ruled) }
     {
         if let Some(body) = self.nodes.body_mut(&filter_addr(client, filter)) {
             *body = NodeBody::Rule(rule);
@@ -142,7 +142,7 @@ impl Clients {
         requires { has_port (get self.old.clients client) port ≡ true }
         ensures fed { let c = get self.old.clients client in
             let fed = put_port port (port_fed bytes.now (port_of c port)) in
-            OnOk result (self.new ≡ with_client self.old client (changed c fed)) }
+            OnOk result (self.new ≡ with_client self.old client (with_change c fed)) }
         ensures told { let fed = fed_of (port_of (get self.old.clients client) port) in
             OnOk result (out.new.items ≡ out.old.items ++ reading (fed ++ bytes.now)) }
         ensures number { let fed = fed_of (port_of (get self.old.clients client) port) in
@@ -158,7 +158,7 @@ impl Clients {
     /// Makes a private queue that is held at 0, in the place of one that may be there. It takes no memory.
     pub fn create_queue(&mut self, client: ClientId, queue: QueueNo, map: TempoMap)
         ensures { let made = put_queue queue (Some (held_queue map)) in
-            let c = changed (get self.old.clients client) made in
+            let c = with_change (get self.old.clients client) made in
             self.new ≡ with_client self.old client c }
     {
         self.put_queue(client, queue, Queue::new(map));
@@ -166,7 +166,7 @@ impl Clients {
 
     /// Drops a queue that may be there. It takes no memory.
     pub fn delete_queue(&mut self, client: ClientId, queue: QueueNo)
-        ensures { let c = changed (get self.old.clients client) (put_queue queue None) in
+        ensures { let c = with_change (get self.old.clients client) (put_queue queue None) in
             self.new ≡ with_client self.old client c }
     {
         self.take_queue(client, queue);
@@ -253,7 +253,7 @@ impl Clients {
     }
 
     fn put_queue(&mut self, client: ClientId, queue: QueueNo, held: Queue)
-        ensures { let c = changed (get self.old.clients client) (put_queue queue (Some held)) in
+        ensures { let c = with_change (get self.old.clients client) (put_queue queue (Some held)) in
             self.new ≡ with_client self.old client c }
     {
         let Some(mut row) = self.rows.remove(client) else {
@@ -265,7 +265,7 @@ impl Clients {
 
     fn take_queue(&mut self, client: ClientId, queue: QueueNo) -> Option<Queue>
         ensures value { result ≡ queue_of (get self.old.clients client) queue }
-        ensures left { let c = changed (get self.old.clients client) (put_queue queue None) in
+        ensures left { let c = with_change (get self.old.clients client) (put_queue queue None) in
             self.new ≡ with_client self.old client c }
     {
         let mut row = self.rows.remove(client)?;

@@ -146,9 +146,10 @@ impl Clients {
     }
 
     /// The rule of a filter that is there.
-    pub fn rule(&self, client: ClientId, filter: FilterNo) -> Option<Rule>
+    #[inline]
+    pub fn rule(&self, client: ClientId, filter: FilterNo) -> Option<&Rule>
         ensures { let f = filter_of (get self.now.clients client) filter in
-            result ≡ option_map (λ f. f.rule) f }
+            option_copied result ≡ option_map (λ f. f.rule) f }
     {
         match self.nodes.find(&filter_addr(client, filter)) {
             Some(node) => node.body().rule(),

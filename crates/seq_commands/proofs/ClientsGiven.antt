@@ -13,7 +13,7 @@ use Rattle.seq_state.specs.declared.input.Command.TheVariants.{Open, DeleteFilte
 use Rattle.seq_state.specs.declared.log.Reply.{Reply}
 use Rattle.seq_state.specs.declared.log.Reply.TheVariants.{Done}
 use Rattle.seq_state.specs.State.{PortInfo, FilterInfo, Client, State, put, queues_of}
-use Rattle.seq_state.specs.Own.{changed, put_port, put_filter, new_client}
+use Rattle.seq_state.specs.Own.{with_change, put_port, put_filter, new_client}
 use Rattle.seq_state.specs.Step.{Stepped, loses, unless}
 use Rattle.seq_state.proofs.Done.{done, opens, deletes-filter, lost-with-node}
 use Rattle.seq_settle.specs.Moments.{moment_at, SameMoments}
@@ -98,18 +98,18 @@ module _ (old : Sequencer) (turn : Turn) (command : Command) (c : Option Client)
 
 -- ---- whose queues are as they were
 
-queues-changed : (f : Client → Client) → ((c : Client) → (f c).queues ≡ c.queues) → (o : Option Client) → queues_of (changed o f) ≡ queues_of o
+queues-changed : (f : Client → Client) → ((c : Client) → (f c).queues ≡ c.queues) → (o : Option Client) → queues_of (with_change o f) ≡ queues_of o
 queues-changed f same None = refl
 queues-changed f same (Some c) = same c
 
-pub queues-port : (n : ℕ) (p : Option PortInfo) (o : Option Client) → queues_of (changed o (put_port n p)) ≡ queues_of o
+pub queues-port : (n : ℕ) (p : Option PortInfo) (o : Option Client) → queues_of (with_change o (put_port n p)) ≡ queues_of o
 queues-port n p o = queues-changed (put_port n p) (go p) o
   where
     go : (p : Option PortInfo) (c : Client) → (put_port n p c).queues ≡ c.queues
     go None c = refl
     go (Some x) c = refl
 
-pub queues-filter : (n : ℕ) (p : Option FilterInfo) (o : Option Client) → queues_of (changed o (put_filter n p)) ≡ queues_of o
+pub queues-filter : (n : ℕ) (p : Option FilterInfo) (o : Option Client) → queues_of (with_change o (put_filter n p)) ≡ queues_of o
 queues-filter n p o = queues-changed (put_filter n p) (go p) o
   where
     go : (p : Option FilterInfo) (c : Client) → (put_filter n p c).queues ≡ c.queues
@@ -131,13 +131,13 @@ opened-kept old turn name in_size out_size r accepted e =
 -- ---- a filter goes with its subscriptions
 
 pub filter-gone : (old : Sequencer) (turn : Turn) (n : ℕ) (r : Roster) (edges : List Edge) → refusal_in old turn (DeleteFilter n) ≡ None →
-    r ≡ with_client old.patchbay.clients turn.actor (changed (FinMap.get (clients_of old) turn.actor) (put_filter n None)) →
+    r ≡ with_client old.patchbay.clients turn.actor (with_change (FinMap.get (clients_of old) turn.actor) (put_filter n None)) →
     edges ≡ filter (λ e. not (touches (record { client = turn.actor; node = Filter n }) e)) old.patchbay.graph →
     GivesKept old (with_roster old r edges) (step_in old turn (DeleteFilter n)) Done []
 filter-gone old turn n r edges accepted e gone =
     let its : Option Client = FinMap.get (clients_of old) turn.actor in
-    let made : Roster = with_client old.patchbay.clients turn.actor (changed its (put_filter n None)) in
+    let made : Roster = with_client old.patchbay.clients turn.actor (with_change its (put_filter n None)) in
     let left : filter (λ e. not (loses turn.actor (same_node (Filter n)) e)) old.patchbay.graph ≡ edges = lost-with-node turn.actor (Filter n) old.patchbay.graph ∙ sym gone in
     roster-kept old turn (DeleteFilter n) made r edges accepted
     (deletes-filter old.files (state_of old) turn.moment turn.actor n ∙ ap (λ x. unless (refusal_in old turn (DeleteFilter n)) (state_of old) (done (state_with old made x) Done)) left) e
-    (queues_same (clients_of old) turn.actor (changed its (put_filter n None)) (queues-filter n None its))
+    (queues_same (clients_of old) turn.actor (with_change its (put_filter n None)) (queues-filter n None its))

@@ -16,7 +16,7 @@ use Rattle.seq_patchbay.specs.declared.patchbay.Patchbay.{Patchbay}
 use Rattle.seq_state.specs.declared.input.Command.TheVariants.{Close, DeletePort, DeleteQueue, DropOutput}
 use Rattle.seq_state.specs.declared.log.Reply.TheVariants.{Done}
 use Rattle.seq_state.specs.State.{Client, Pending, Queue, State, put, queues_of}
-use Rattle.seq_state.specs.Own.{changed, put_port, put_queue}
+use Rattle.seq_state.specs.Own.{with_change, put_port, put_queue}
 use Rattle.seq_state.specs.Table.{command_row}
 use Rattle.seq_state.specs.Step.{Stepped, row_of, loses}
 use Rattle.seq_state.proofs.Done.{done, closes, deletes-port, deletes-queue, drops-output, lost-with-client, lost-with-node}
@@ -70,17 +70,17 @@ not-false false e = cc
 
 -- ---- the same queues after it
 
-ports-kept : (port : ℕ) (o : Option Client) → queues_of (changed o (put_port port None)) ≡ queues_of o
+ports-kept : (port : ℕ) (o : Option Client) → queues_of (with_change o (put_port port None)) ≡ queues_of o
 ports-kept port None = refl
 ports-kept port (Some c) = refl
 
-pub port-moments : (clients : FinMap nat_cmp Client) (actor port : ℕ) (q : QueueAddr) → SameMoments clients (put clients actor (changed (FinMap.get clients actor) (put_port port None))) q
-port-moments clients actor port q = queues_same clients actor (changed (FinMap.get clients actor) (put_port port None)) (ports-kept port (FinMap.get clients actor)) q
+pub port-moments : (clients : FinMap nat_cmp Client) (actor port : ℕ) (q : QueueAddr) → SameMoments clients (put clients actor (with_change (FinMap.get clients actor) (put_port port None))) q
+port-moments clients actor port q = queues_same clients actor (with_change (FinMap.get clients actor) (put_port port None)) (ports-kept port (FinMap.get clients actor)) q
 
-pub queue-moments : (clients : FinMap nat_cmp Client) (actor queue : ℕ) (q : QueueAddr) → (q ≡ record { client = actor; queue = queue } → ⊥) → SameMoments clients (put clients actor (changed (FinMap.get clients actor) (put_queue queue None))) q
+pub queue-moments : (clients : FinMap nat_cmp Client) (actor queue : ℕ) (q : QueueAddr) → (q ≡ record { client = actor; queue = queue } → ⊥) → SameMoments clients (put clients actor (with_change (FinMap.get clients actor) (put_queue queue None))) q
 queue-moments clients actor queue q other = go (FinMap.get clients actor) refl
   where
-    go : (o : Option Client) → FinMap.get clients actor ≡ o → SameMoments clients (put clients actor (changed o (put_queue queue None))) q
+    go : (o : Option Client) → FinMap.get clients actor ≡ o → SameMoments clients (put clients actor (with_change o (put_queue queue None))) q
     go None e = queues_same clients actor None (ap queues_of (sym e)) q
     go (Some c) e = but_one clients actor queue c None e q other
 
@@ -119,11 +119,11 @@ module _ (old : Sequencer) (turn : Turn) (cells : Store Left) (agenda : Keys) (a
 
   pub port-gives : (port : ℕ) (clients : Roster) (graph : List Edge) → refusal_in old turn (DeletePort port) ≡ None → playbacks cells.cells old.steps ≡ filter (stays turn.actor (OfPort port)) (playbacks old.cells.cells old.steps) →
       AreKeys (clients_of old) cells.cells agenda → graph ≡ filter (λ e. not (touches (record { client = turn.actor; node = Port port }) e)) old.patchbay.graph →
-      clients ≡ with_client old.patchbay.clients turn.actor (changed (FinMap.get (clients_of old) turn.actor) (put_port port None)) →
+      clients ≡ with_client old.patchbay.clients turn.actor (with_change (FinMap.get (clients_of old) turn.actor) (put_port port None)) →
       Gives old (record old { patchbay = record { clients = clients; graph = graph }; cells = cells }) agenda (step_in old turn (DeletePort port)) Done []
   port-gives port clients graph e left keys edges own =
       let s : State = state_of old in
-      let then : FinMap nat_cmp Client = put s.clients turn.actor (changed (FinMap.get s.clients turn.actor) (put_port port None)) in
+      let then : FinMap nat_cmp Client = put s.clients turn.actor (with_change (FinMap.get s.clients turn.actor) (put_port port None)) in
       let to : FinMap nat_cmp Client → List Edge → List Pending → Stepped = λ m es ps. done (record s { clients = m; edges = es; pending = ps }) Done in
       let same : AreKeys then cells.cells agenda = keys_stay s.clients then cells.cells agenda (λ q c at. port-moments s.clients turn.actor port c.1.queue) keys in
       gone-gives old (record { clients = clients; graph = graph }) cells agenda _
@@ -135,11 +135,11 @@ module _ (old : Sequencer) (turn : Turn) (cells : Store Left) (agenda : Keys) (a
 
   pub queue-gives : (queue : QueueAddr) (clients : Roster) → refusal_in old turn (DeleteQueue queue) ≡ None → playbacks cells.cells old.steps ≡ filter (stays turn.actor (OnQueue queue.queue)) (playbacks old.cells.cells old.steps) →
       AreKeys (clients_of old) cells.cells agenda → ((q : ℕ) (c : Cell) → FinMap.get cells.cells q ≡ Some c → stays turn.actor (OnQueue queue.queue) (pending_in c) ≡ true) →
-      clients ≡ with_client old.patchbay.clients turn.actor (changed (FinMap.get (clients_of old) turn.actor) (put_queue queue.queue None)) →
+      clients ≡ with_client old.patchbay.clients turn.actor (with_change (FinMap.get (clients_of old) turn.actor) (put_queue queue.queue None)) →
       Gives old (record old { patchbay = record old.patchbay { clients = clients }; cells = cells }) agenda (step_in old turn (DeleteQueue queue)) Done []
   queue-gives queue clients e left keys on own =
       let s : State = state_of old in
-      let then : FinMap nat_cmp Client = put s.clients turn.actor (changed (FinMap.get s.clients turn.actor) (put_queue queue.queue None)) in
+      let then : FinMap nat_cmp Client = put s.clients turn.actor (with_change (FinMap.get s.clients turn.actor) (put_queue queue.queue None)) in
       let to : FinMap nat_cmp Client → List Pending → Stepped = λ m ps. done (record s { clients = m; pending = ps }) Done in
       let same : AreKeys then cells.cells agenda = keys_stay s.clients then cells.cells agenda (λ q c at. queue-moments s.clients turn.actor queue.queue c.1.queue (off_queue turn.actor queue.queue (pending_in c) (on q c at))) keys in
       gone-gives old (record old.patchbay { clients = clients }) cells agenda _

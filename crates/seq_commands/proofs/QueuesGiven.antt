@@ -19,7 +19,7 @@ use Rattle.seq_state.specs.declared.log.Reply.{Reply}
 use Rattle.seq_state.specs.declared.log.Reply.TheVariants as replies
 use Rattle.seq_state.specs.Files.{File}
 use Rattle.seq_state.specs.State.{Client, Queue, put, queues_of}
-use Rattle.seq_state.specs.Own.{changed, put_queue, queue_of, queue_is, queue_map, queue_changed, queue_status, public, held_queue, file_queue}
+use Rattle.seq_state.specs.Own.{with_change, put_queue, queue_of, queue_is, queue_map, queue_changed, queue_status, public, held_queue, file_queue}
 use Rattle.seq_state.specs.Step.{moment_in, named_queue}
 use Rattle.seq_state.proofs.Done.{done, tells-queue}
 use Rattle.seq_settle.specs.Moments.{queue_at, moment_at, SameMoments}
@@ -76,7 +76,7 @@ module _ (clients : FinMap nat_cmp Client) (actor n : ℕ) (x : Option Queue) wh
       ∙ ap (λ o. moment_in (FinMap.get (queues_of o) n) accepted due) (sym (get-put_here clients actor (Some (put_queue n x c))))
 
   pub replaced-same : ((accepted : ℕ) (due : Due) → moment_in (queue_of (FinMap.get clients actor) n) accepted due ≡ moment_in x accepted due) →
-      (q : QueueAddr) → SameMoments clients (put clients actor (changed (FinMap.get clients actor) (put_queue n x))) q
+      (q : QueueAddr) → SameMoments clients (put clients actor (with_change (FinMap.get clients actor) (put_queue n x))) q
   replaced-same same q = go (FinMap.get clients actor) refl same
     where
       at : (c : Client) → FinMap.get clients actor ≡ Some c → ((accepted : ℕ) (due : Due) → moment_in (FinMap.get c.queues n) accepted due ≡ moment_in x accepted due) → (a b : Bool) →
@@ -91,7 +91,7 @@ module _ (clients : FinMap nat_cmp Client) (actor n : ℕ) (x : Option Queue) wh
           ap (λ a. moment_at clients a accepted due) is ∙ itself c here same accepted due ∙ ap (λ a. moment_at (put clients actor (Some (put_queue n x c))) a accepted due) (sym is)
 
       go : (o : Option Client) → FinMap.get clients actor ≡ o → ((accepted : ℕ) (due : Due) → moment_in (queue_of o n) accepted due ≡ moment_in x accepted due) →
-          SameMoments clients (put clients actor (changed o (put_queue n x))) q
+          SameMoments clients (put clients actor (with_change o (put_queue n x))) q
       go None e h = queues_same clients actor None (sym (ap queues_of e)) q
       go (Some c) e h = at c e h (eqb q.client actor) (eqb q.queue n) refl refl
 

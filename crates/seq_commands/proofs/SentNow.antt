@@ -18,7 +18,7 @@ use Rattle.seq_state.specs.declared.log.Reply.{Reply}
 use Rattle.seq_state.specs.declared.log.Reply.TheVariants.{Done, Messages}
 use Rattle.seq_state.specs.declared.refusal.Refusal.TheVariants.{NotOpen, NoNode}
 use Rattle.seq_state.specs.State.{PortInfo, Client, Pool, State, filters_of, put}
-use Rattle.seq_state.specs.Own.{changed, has_port, put_port, port_fed, port_of, fed_of}
+use Rattle.seq_state.specs.Own.{with_change, has_port, put_port, port_fed, port_of, fed_of}
 use Rattle.seq_state.specs.Copies.{filter_at, passed_by, and_then, carried, copy}
 use Rattle.seq_state.specs.Table.{from_port, command_row, first_refusal}
 use Rattle.seq_state.specs.Step.{Stepped, port_addr, offered, delivered, sent, stepped, send_copies}
@@ -75,17 +75,17 @@ module _ (a b : FinMap nat_cmp Client) (same : SameFilters a b) where
   all-same edges moment client port (m ∷ ms) =
       ap (λ ds. ds ++ copies_of_all a edges moment client port ms) (copies-same edges moment client port m) ∙ ap (λ ds. copies_of b edges moment client port m ++ ds) (all-same edges moment client port ms)
 
-put_port-filters : (n : ℕ) (o : Option PortInfo) (c : Option Client) → filters_of (changed c (put_port n o)) ≡ filters_of c
+put_port-filters : (n : ℕ) (o : Option PortInfo) (c : Option Client) → filters_of (with_change c (put_port n o)) ≡ filters_of c
 put_port-filters n None None = refl
 put_port-filters n None (Some c) = refl
 put_port-filters n (Some p) None = refl
 put_port-filters n (Some p) (Some c) = refl
 
 -- a port's stream changes no filter
-ports-apart : (clients : FinMap nat_cmp Client) (actor n : ℕ) (o : Option PortInfo) → SameFilters (put clients actor (changed (FinMap.get clients actor) (put_port n o))) clients
-ports-apart clients actor n o c = ap filters_of (get-put clients actor (changed (FinMap.get clients actor) (put_port n o)) c) ∙ go (eqb c actor) refl
+ports-apart : (clients : FinMap nat_cmp Client) (actor n : ℕ) (o : Option PortInfo) → SameFilters (put clients actor (with_change (FinMap.get clients actor) (put_port n o))) clients
+ports-apart clients actor n o c = ap filters_of (get-put clients actor (with_change (FinMap.get clients actor) (put_port n o)) c) ∙ go (eqb c actor) refl
   where
-    go : (b : Bool) → eqb c actor ≡ b → filters_of (cond b (changed (FinMap.get clients actor) (put_port n o)) (FinMap.get clients c)) ≡ filters_of (FinMap.get clients c)
+    go : (b : Bool) → eqb c actor ≡ b → filters_of (cond b (with_change (FinMap.get clients actor) (put_port n o)) (FinMap.get clients c)) ≡ filters_of (FinMap.get clients c)
     go true e = put_port-filters n o (FinMap.get clients actor) ∙ ap (λ x. filters_of (FinMap.get clients x)) (sym (eqb-true c actor e))
     go false e = refl
 
@@ -102,7 +102,7 @@ module _ (s : Sequencer) (t : Turn) where
 
   -- the state without what is sent
   abbrev pub fed_state : ℕ → List ℕ → State
-  fed_state port bytes = record (state_of s) { clients = put (clients_of s) t.actor (changed its (put_port port (port_fed bytes (port_of its port)))) }
+  fed_state port bytes = record (state_of s) { clients = put (clients_of s) t.actor (with_change its (put_port port (port_fed bytes (port_of its port)))) }
 
   abbrev pub fed_messages : ℕ → List ℕ → List (List ℕ)
   fed_messages port bytes = reading (fed_of (port_of its port) ++ bytes)
@@ -153,13 +153,13 @@ sent-kept old r edges step cs ds reply is clients pools graph same agenda now wh
 }
 
 pub bytes-kept : (old : Sequencer) (turn : Turn) (port : ℕ) (bytes : List ℕ) (fed : Roster) (r : Roster) (edges : List Edge) (messages : List (List ℕ)) (count : ℕ) → refusal_in old turn (Bytes port bytes) ≡ None →
-    fed ≡ with_client old.patchbay.clients turn.actor (changed (FinMap.get (clients_of old) turn.actor) (put_port port (port_fed bytes (port_of (FinMap.get (clients_of old) turn.actor) port)))) →
+    fed ≡ with_client old.patchbay.clients turn.actor (with_change (FinMap.get (clients_of old) turn.actor) (put_port port (port_fed bytes (port_of (FinMap.get (clients_of old) turn.actor) port)))) →
     messages ≡ fed_messages old turn port bytes → count ≡ length (fed_messages old turn port bytes) →
     r.clients ≡ fed.clients → edges ≡ old.patchbay.graph → r.pools ≡ offered fed.pools (copies_of_all fed.clients old.patchbay.graph turn.moment turn.actor port messages) →
     GivesKept old (record old { patchbay = record { clients = r; graph = edges } }) (step_in old turn (Bytes port bytes)) (Messages count) (step_in old turn (Bytes port bytes)).delivered
 bytes-kept old turn port bytes fed r edges messages count accepted is told number clients graph pools =
     let its : Option Client = FinMap.get (clients_of old) turn.actor in
-    let after : Option Client = changed its (put_port port (port_fed bytes (port_of its port))) in
+    let after : Option Client = with_change its (put_port port (port_fed bytes (port_of its port))) in
     let cs : FinMap nat_cmp Client = put (clients_of old) turn.actor after in
     let old_pools : FinMap nat_cmp Pool = old.patchbay.clients.pools in
     let all : FinMap nat_cmp Client → List (List ℕ) → List Delivery = λ x ms. copies_of_all x old.patchbay.graph turn.moment turn.actor port ms in
@@ -170,7 +170,7 @@ bytes-kept old turn port bytes fed r edges messages count accepted is told numbe
     graph (queues_same (clients_of old) turn.actor after (queues-port port (port_fed bytes (port_of its port)) its))
 
 pub bytes-sent : (old : Sequencer) (turn : Turn) (port : ℕ) (bytes : List ℕ) (fed : Roster) (messages : List (List ℕ)) → refusal_in old turn (Bytes port bytes) ≡ None →
-    fed ≡ with_client old.patchbay.clients turn.actor (changed (FinMap.get (clients_of old) turn.actor) (put_port port (port_fed bytes (port_of (FinMap.get (clients_of old) turn.actor) port)))) →
+    fed ≡ with_client old.patchbay.clients turn.actor (with_change (FinMap.get (clients_of old) turn.actor) (put_port port (port_fed bytes (port_of (FinMap.get (clients_of old) turn.actor) port)))) →
     messages ≡ fed_messages old turn port bytes →
     delivered fed.pools (copies_of_all fed.clients old.patchbay.graph turn.moment turn.actor port messages) ≡ (step_in old turn (Bytes port bytes)).delivered
 bytes-sent old turn port bytes fed messages accepted is told =

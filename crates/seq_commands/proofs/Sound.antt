@@ -14,7 +14,7 @@ use Rattle.seq_state.specs.declared.refusal.Refusal.{Refusal}
 use Rattle.seq_state.specs.declared.refusal.Refusal.TheVariants as refusal
 use Rattle.seq_state.specs.Files.{File}
 use Rattle.seq_state.specs.State.{PortInfo, FilterInfo, Queue, Client, Playback, Pending, State, start, queues_of, put}
-use Rattle.seq_state.specs.Own.{Own, changed, put_port, port_fed, port_of, put_filter, filter_ruled, filter_of, has_queue, queue_of, put_queue, queue_map, clocked, public, new_port, new_filter, held_queue, one_tempo, file_queue, file_at}
+use Rattle.seq_state.specs.Own.{Own, with_change, put_port, port_fed, port_of, put_filter, filter_ruled, filter_of, has_queue, queue_of, put_queue, queue_map, clocked, public, new_port, new_filter, held_queue, one_tempo, file_queue, file_at}
 use Rattle.seq_state.specs.Table.{Asked, Condition, first_refusal, command_row, queue_named, visible, not_open, bad_name, bad_sizes, no_port, bad_ppq, bad_tempo, no_file, not_shared, bad_time, division_differs, out_full}
 use Rattle.seq_state.specs.Step.{playback_after, is_left, settle, Stepped, drops, pending_of, with_own, named_queue, unless, asked, row_of, refusal_of, effect_of, command_step}
 use Rattle.seq_state.specs.Laws.{has_ticks}
@@ -44,7 +44,7 @@ none-there : (owner : ℕ) (client after : Option Client) (gone : ℕ → Bool) 
 none-there owner None after gone closed c n g e = absurd (none-seen c owner n e)
 none-there owner (Some x) after gone closed c n g e = cc
 
-others-change : (owner : ℕ) (client : Option Client) (f : Client → Client) (gone : ℕ → Bool) → ((x : Client) → (f x).queues ≡ x.queues) → StaySeen owner client (changed client f) gone
+others-change : (owner : ℕ) (client : Option Client) (f : Client → Client) (gone : ℕ → Bool) → ((x : Client) → (f x).queues ≡ x.queues) → StaySeen owner client (with_change client f) gone
 others-change owner None f gone h c n g e = e
 others-change owner (Some x) f gone h c n g e = ap (λ qs. sees c owner (FinMap.get qs n)) (h x) ∙ e
 
@@ -61,7 +61,7 @@ put_queue-queues n None x = refl
 put_queue-queues n (Some q) x = refl
 
 one-changes : (owner : ℕ) (client : Option Client) (k : ℕ) (o : Option Queue) (gone : ℕ → Bool) →
-    ((c : ℕ) → gone k ≡ false → sees c owner (queue_of client k) ≡ true → sees c owner o ≡ true) → StaySeen owner client (changed client (put_queue k o)) gone
+    ((c : ℕ) → gone k ≡ false → sees c owner (queue_of client k) ≡ true → sees c owner o ≡ true) → StaySeen owner client (with_change client (put_queue k o)) gone
 one-changes owner None k o gone h c n g e = e
 one-changes owner (Some x) k o gone h c n g e =
     ap (λ qs. sees c owner (FinMap.get qs n)) (put_queue-queues k o x) ∙ ap (sees c owner) (get-put x.queues k o n) ∙ go (eqb n k) refl
@@ -73,7 +73,7 @@ one-changes owner (Some x) k o gone h c n g e =
     go false t = e
 
 -- a queue under a number that was free
-one-more : (owner : ℕ) (client : Option Client) (k : ℕ) (o : Option Queue) (gone : ℕ → Bool) → has_queue client k ≡ false → StaySeen owner client (changed client (put_queue k o)) gone
+one-more : (owner : ℕ) (client : Option Client) (k : ℕ) (o : Option Queue) (gone : ℕ → Bool) → has_queue client k ≡ false → StaySeen owner client (with_change client (put_queue k o)) gone
 one-more owner client k o gone free = one-changes owner client k o gone (λ c g e. absurd (go c (queue_of client k) free e))
   where
     go : (c : ℕ) (was : Option Queue) → is_some was ≡ false → sees c owner was ≡ true → ⊥
@@ -82,7 +82,7 @@ one-more owner client k o gone free = one-changes owner client k o gone (λ c g 
 
 -- a queue that is there changes, and stays shared where it was
 one-goes-on : (owner : ℕ) (client : Option Client) (k : ℕ) (f : Queue → Queue) (gone : ℕ → Bool) → ((q : Queue) → q.shared ≡ true → (f q).shared ≡ true) →
-    StaySeen owner client (changed client (put_queue k (queue_map f (queue_of client k)))) gone
+    StaySeen owner client (with_change client (put_queue k (queue_map f (queue_of client k)))) gone
 one-goes-on owner client k f gone shared =
     one-changes owner client k (queue_map f (queue_of client k)) gone (λ c g e. mapped c (queue_of client k) e)
   where

@@ -11,7 +11,7 @@ use agenda_heap::Agenda;
 use memory::OutOfMemory;
 use seq_state::{Command, Delivery, Reply};
 
-impl Sequencer<'_> {
+impl Sequencer<'_, '_> {
     /// Carries out a command that is accepted. `rank` is its number among all inputs, and `steps` counts it already.
     pub(crate) fn carry_out<A: Agenda>(
         &mut self,

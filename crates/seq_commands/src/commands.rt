@@ -12,7 +12,7 @@ use agenda_heap::Agenda;
 use memory::OutOfMemory;
 use seq_state::{Command, Delivery, Input, Refusal, Reply};
 
-impl Sequencer<'_> {
+impl Sequencer<'_, '_> {
     /// Takes one input: sends all that is due by its moment, and then carries its command out or refuses it. What came to
     /// ports is added to `out`.
     ///

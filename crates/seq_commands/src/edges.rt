@@ -9,7 +9,7 @@ use crate::sequencer::{Sequencer, Turn};
 use memory::OutOfMemory;
 use node_table::Addr;
 
-impl Sequencer<'_> {
+impl Sequencer<'_, '_> {
     /// Subscribes the target to the source.
     pub(crate) fn connect(
         &mut self,

@@ -13,11 +13,11 @@ use std::marker::Model;
 
 /// The files that clients may play, by number from 0.
 #[derive(Drop)]
-pub struct Files<'b> {
-    files: &'b [SmfFile<'b>],
+pub struct Files<'f, 'b> {
+    files: &'f [SmfFile<'b>],
 }
 
-impl<'b> Model for Files<'b> {
+impl<'f, 'b> Model for Files<'f, 'b> {
     ghost use Rattle.std.specs.Prelude.{List, map};
     ghost use Rattle.smf_grammar.specs.Played.{PlayedFile, played};
 
@@ -26,8 +26,8 @@ impl<'b> Model for Files<'b> {
     ghost view = { λ f. map played f.files.now };
 }
 
-impl<'b> Files<'b> {
-    pub fn new(files: &'b [SmfFile<'b>]) -> Files<'b>
+impl<'f, 'b> Files<'f, 'b> {
+    pub fn new(files: &'f [SmfFile<'b>]) -> Files<'f, 'b>
         ensures files { result ≡ map played files.now }
         ensures ticks { list_all has_ticks result ≡ true }
     {
@@ -39,7 +39,7 @@ impl<'b> Files<'b> {
     }
 
     /// The file with this number, if there is one.
-    pub fn get(&self, number: u32) -> Option<&'b SmfFile<'b>>
+    pub fn get(&self, number: u32) -> Option<&'f SmfFile<'b>>
         ensures { option_map played (option_copied result) ≡ file_at self.now number }
     {
         self.files.get(number as usize)

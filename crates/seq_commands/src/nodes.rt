@@ -11,7 +11,7 @@ use memory::OutOfMemory;
 use node_table::{Addr, Caps, FilterNo, Node, PortNo};
 use route_filter::{Rule, RuleArgs};
 
-impl Sequencer<'_> {
+impl Sequencer<'_, '_> {
     /// Opens the actor.
     pub(crate) fn open(
         &mut self,

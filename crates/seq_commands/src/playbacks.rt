@@ -22,7 +22,7 @@ use seq_settle::{Accepted, Events, Which, add_playback, drop_playbacks};
 use seq_state::DueAt;
 use tempo_clock::Due;
 
-impl<'b> Sequencer<'b> {
+impl<'f, 'b> Sequencer<'f, 'b> {
     /// Drops all that the actor has still to send. It takes no memory.
     pub(crate) fn drop_output<A: Agenda>(&mut self, agenda: &mut A, turn: Turn)
         requires whole { IsWhole self.old (A.content agenda.old) turn.moment }

@@ -10,7 +10,7 @@ use crate::sequencer::{Sequencer, Turn};
 use memory::{Items, OutOfMemory};
 use seq_state::{Arrival, Reply};
 
-impl Sequencer<'_> {
+impl Sequencer<'_, '_> {
     /// Takes the oldest of what waits in the actor's input pool. Memory is for the answer alone.
     pub(crate) fn receive(&mut self, turn: Turn, max: u32) -> Result<Items<Arrival>, OutOfMemory>
         requires accepted { refusal_in self.old turn (Command.Receive max) ≡ None }

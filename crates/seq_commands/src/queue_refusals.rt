@@ -18,7 +18,7 @@ use seq_clients::Queue;
 use seq_state::{DueAt, Refusal};
 use tempo_clock::{is_ppq, is_tempo};
 
-impl Sequencer<'_> {
+impl Sequencer<'_, '_> {
     #[tactic(auto, unfolding(seq_state::specs::Table::command_row))]
     pub(crate) fn create_queue_refusal(
         &self,

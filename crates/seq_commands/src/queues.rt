@@ -30,7 +30,7 @@ fn one_tempo(alloc: Global, ppq: u32, tempo: u32) -> Result<TempoMap, OutOfMemor
     }
 }
 
-impl Sequencer<'_> {
+impl Sequencer<'_, '_> {
     /// Makes a private queue that is held at 0.
     pub(crate) fn create_queue(
         &mut self,

@@ -15,7 +15,7 @@ use patch_graph::{MOST_SOURCES, PatchGraph};
 use route_filter::RuleArgs;
 use seq_state::Refusal;
 
-impl Sequencer<'_> {
+impl Sequencer<'_, '_> {
     #[tactic(auto, unfolding(seq_state::specs::Table::command_row))]
     pub(crate) fn open_refusal(
         &self,

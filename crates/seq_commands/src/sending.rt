@@ -12,7 +12,7 @@ use node_table::PortNo;
 use seq_settle::Desk;
 use seq_state::{Delivery, Reply};
 
-impl Sequencer<'_> {
+impl Sequencer<'_, '_> {
     /// Feeds the stream of a port, and sends what messages are whole now.
     pub(crate) fn bytes(
         &mut self,

@@ -29,18 +29,18 @@ pub struct Turn {
 ///
 /// When what is to be sent is due stands in an agenda beside it, which each call that needs it is given.
 #[derive(Drop)]
-pub struct Sequencer<'b> {
+pub struct Sequencer<'f, 'b> {
     pub(crate) alloc: Global,
     pub(crate) patchbay: Patchbay,
     pub(crate) cells: Cells<'b>,
-    pub(crate) files: Files<'b>,
+    pub(crate) files: Files<'f, 'b>,
     /// How many inputs it has taken.
     pub(crate) steps: u64,
 }
 
-impl<'b> Sequencer<'b> {
+impl<'f, 'b> Sequencer<'f, 'b> {
     /// Nobody is open. It takes no memory yet.
-    pub fn new(alloc: Global, files: Files<'b>) -> Sequencer<'b>
+    pub fn new(alloc: Global, files: Files<'f, 'b>) -> Sequencer<'f, 'b>
         ensures state { state_of result ≡ start }
         ensures files { result.files ≡ files.entry }
         ensures steps { result.steps ≡ 0 }

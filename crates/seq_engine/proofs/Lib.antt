@@ -1,8 +1,4 @@
-pub mod Mapped
-pub mod Outcomes
-pub mod Keeping
-pub mod Arms
-pub mod Sending
 pub mod Logs
+pub mod Lasting
 pub mod Heard
-pub mod Texts
+pub mod Idle

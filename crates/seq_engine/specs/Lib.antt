@@ -1,4 +1,2 @@
-pub mod Turns
 pub mod Seen
-pub mod Clients
-pub mod Listing
+pub mod Ending

@@ -1,47 +1,70 @@
 //! An engine takes inputs one at a time.
 
-ghost use Rattle.std.specs.Prelude.{◌≡◌, ◌≤◌, ◌<◌, ◌+◌, ◌-◌, ◌^◌, ◌↔◌, true, false, IsTrue, IsOk, IsErrOf, IfOk, OnOk, OnErr};
-ghost use Rattle.seq_engine.specs.Listing.{listing};
-ghost use Rattle.seq_engine.specs.Turns.{takes_away};
-ghost use Rattle.seq_ports.specs.State.{start};
-ghost use Rattle.seq_ports.specs.Step.{step, settle, IsRefusal};
+ghost use Rattle.std.specs.Prelude.{◌≡◌, ◌≤◌, ◌<◌, ◌+◌, ◌-◌, ◌^◌, ◌↔◌, [], map, true, false, IsTrue, IsOk, IsErrOf, IfOk, OnOk, OnErr};
+ghost use Rattle.std.specs.List.{list_all};
+ghost use Rattle.std.specs.FinMap as finmap;
+ghost use Rattle.smf_grammar.specs.Played.{played};
+ghost use Rattle.seq_patchbay.specs.Listing.{listing};
+ghost use Rattle.seq_commands.specs.Turns.{takes_none};
+ghost use Rattle.seq_state.specs.State.{start};
+ghost use Rattle.seq_state.specs.Step.{due, step, settle, IsRefusal};
+ghost use Rattle.seq_state.specs.Laws.{has_ticks, Bounded};
 
 use crate::fault::EngineFault;
-use crate::patchbay::{Patchbay, StepOut, Turn};
-use seq_ports::{Delivery, Input};
+use agenda_heap::Agenda;
+use memory::Items;
+use seq_commands::{Files, Sequencer};
+use seq_state::{Delivery, Input, Reply};
+use smf_files::SmfFile;
 use std::alloc::Global;
 use std::marker::Model;
 
+/// What one input gives.
+#[derive(Drop)]
+pub struct StepOut {
+    pub reply: Reply,
+    /// What came to ports on the way to the moment of the input, and then what the command sent.
+    pub delivered: Items<Delivery>,
+}
+
 /// A sequencer. Moments are nanoseconds, and never fall from one call to the next.
 #[derive(Drop)]
-pub struct Engine {
+pub struct Engine<'f, 'b, A: Agenda> {
     alloc: Global,
-    patchbay: Patchbay,
+    sequencer: Sequencer<'f, 'b>,
+    agenda: A,
     moment: u64,
-    steps: u64,
     failed: bool,
 }
 
-impl Model for Engine {
+impl<'f, 'b, A: Agenda> Model for Engine<'f, 'b, A> {
+    ghost use Rattle.std.specs.Prelude.{◌≡◌, false};
+    ghost use Rattle.seq_commands.specs.Whole.{state_of, IsWhole};
     ghost use Rattle.seq_engine.specs.Seen.{Seen, coded_seen};
 
     ghost Value = { Seen };
 
     ghost coded = { coded_seen };
 
-    ghost view = { λ e. record { state = e.patchbay; moment = e.moment; steps = e.steps; failed = e.failed } };
+    ghost view = { λ e.
+        record { files = e.sequencer.files; state = state_of e.sequencer; moment = e.moment; steps = e.sequencer.steps; failed = e.failed } };
+
+    ghost invariant = { λ e. e.failed ≡ false → IsWhole e.sequencer (A.content e.agenda) e.moment };
 }
 
-impl Engine {
-    /// An engine with no clients, at moment 0. It takes no memory yet.
-    pub fn new(alloc: Global) -> Engine
-        ensures { result ≡ record { state = start; moment = 0; steps = 0; failed = false } }
+impl<'f, 'b, A: Agenda> Engine<'f, 'b, A> {
+    /// An engine with no clients, at moment 0, whose clients may play these files. It takes no memory yet.
+    pub fn new(alloc: Global, files: &'f [SmfFile<'b>], agenda: A) -> Engine<'f, 'b, A>
+        requires empty { A.content agenda ≡ finmap.empty }
+        ensures first { result
+            ≡ record { files = map played files.now; state = start; moment = 0; steps = 0; failed = false } }
+        ensures ticks { list_all has_ticks result.files ≡ true }
     {
         Engine {
             alloc,
-            patchbay: Patchbay::new(alloc),
+            sequencer: Sequencer::new(alloc, Files::new(files)),
+            agenda,
             moment: 0,
-            steps: 0,
             failed: false,
         }
     }
@@ -57,24 +80,33 @@ impl Engine {
     pub fn steps(&self) -> u64
         ensures { result ≡ self.now.steps }
     {
-        self.steps
+        self.sequencer.steps()
     }
 
-    /// Takes one input: settles to its moment, and then carries its command out or refuses it.
+    /// Takes one input: sends all that is due by its moment, and then carries its command out or refuses it.
     ///
-    /// A refused command takes no memory, nor do Close, DeletePort and Disconnect. After want of memory the engine answers `Failed` to every further input; its
-    /// moment and its number of steps stay what they were.
+    /// Where nothing is due, a refused command takes no memory, nor does one that only takes away or asks. After want of
+    /// memory the engine answers `Failed` to every further input; its moment and its number of steps stay what they were.
     pub fn step(&mut self, input: &Input) -> Result<StepOut, EngineFault>
         requires in_time { self.old.moment ≤ input.now.moment }
         requires counted { self.old.steps < 2 ^ 64 - 1 }
 
-        ensures state { OnOk result (self.new ≡ record { state = (step self.old.state input.now).state; moment = input.now.moment; steps = self.old.steps + 1; failed = false }) }
-        ensures reply { IfOk result (λ out. out.reply ≡ (step self.old.state input.now).reply) }
-        ensures delivered { IfOk result (λ out. out.delivered ≡ (step self.old.state input.now).delivered) }
+        ensures state { OnOk result (self.new ≡ record self.old {
+          state = (step self.old.files self.old.state input.now).state;
+          moment = input.now.moment;
+          steps = self.old.steps + 1;
+        }) }
+        ensures reply { IfOk result (λ out. out.reply ≡ (step self.old.files self.old.state input.now).reply) }
+        ensures delivered { IfOk result (λ out.
+            out.delivered ≡ (step self.old.files self.old.state input.now).delivered) }
 
-        // Memory is asked for a command alone that is not refused and takes nothing away.
-        ensures quiet { self.old.failed ≡ false → IsRefusal (step self.old.state input.now).reply → IsOk result }
-        ensures freely { self.old.failed ≡ false → takes_away input.now.command ≡ true → IsOk result }
+        ensures quiet { self.old.failed ≡ false → due self.old.state input.now.moment ≡ [] →
+            IsRefusal (step self.old.files self.old.state input.now).reply → IsOk result }
+        ensures freely { self.old.failed ≡ false → due self.old.state input.now.moment ≡ [] →
+            takes_none input.now.command ≡ true → IsOk result }
+
+        // Each pool keeps to its size, and each node to its number of sources.
+        ensures bounded { OnOk result (Bounded self.new.state) }
         ensures failed { IsErrOf result EngineFault.Failed ↔ IsTrue self.old.failed }
         ensures fails { OnErr result (self.new.failed ≡ true) }
         ensures same_now { OnErr result (self.new.moment ≡ self.old.moment) }
@@ -83,24 +115,29 @@ impl Engine {
         if self.failed {
             return Err(EngineFault::Failed);
         }
-        let turn = Turn {
-            moment: input.moment,
-            actor: input.actor,
-        };
         self.failed = true;
-        let out = self.patchbay.command(turn, &input.command)?;
+        let mut delivered = Vec::new(self.alloc);
+        let reply = self
+            .sequencer
+            .step(&mut self.agenda, input, &mut delivered)?;
         self.failed = false;
         self.moment = input.moment;
-        self.steps += 1;
-        Ok(out)
+        Ok(StepOut {
+            reply,
+            delivered: Items::new(delivered),
+        })
     }
 
     /// Sends what is due by a moment, and answers what came to ports.
     pub fn settle(&mut self, moment: u64) -> Result<Vec<Delivery>, EngineFault>
         requires { self.old.moment ≤ moment }
 
-        ensures state { OnOk result (self.new ≡ record { state = (settle self.old.state moment).state; moment = moment; steps = self.old.steps; failed = false }) }
+        ensures state { OnOk result (self.new ≡ record self.old {
+          state = (settle self.old.state moment).state;
+          moment = moment;
+        }) }
         ensures delivered { IfOk result (λ ds. ds.items ≡ (settle self.old.state moment).delivered) }
+        ensures idle { self.old.failed ≡ false → due self.old.state moment ≡ [] → IsOk result }
         ensures failed { IsErrOf result EngineFault.Failed ↔ IsTrue self.old.failed }
         ensures fails { OnErr result (self.new.failed ≡ true) }
         ensures same_now { OnErr result (self.new.moment ≡ self.old.moment) }
@@ -109,19 +146,25 @@ impl Engine {
         if self.failed {
             return Err(EngineFault::Failed);
         }
+        self.failed = true;
+        let mut delivered = Vec::new(self.alloc);
+        self.sequencer
+            .settle(&mut self.agenda, moment, &mut delivered)?;
+        self.failed = false;
         self.moment = moment;
-        Ok(Vec::new(self.alloc))
+        Ok(delivered)
     }
 
-    /// Who is there, as text: a line for each open client by number, with its ports by number, and then one for each
-    /// subscription, the oldest first. Want of memory here changes nothing.
+    /// Who is there, as text: a line for each open client by number, each with its ports, filters and queues by number, and
+    /// then one for each subscription, the oldest first. Want of memory here changes nothing.
     pub fn listing(&self) -> Result<Vec<u8>, EngineFault>
-        ensures text { IfOk result (λ text. text.items ≡ listing self.now.state) }
+        ensures text { IfOk result (λ text.
+            text.items ≡ listing self.now.state.clients self.now.state.edges) }
         ensures failed { IsErrOf result EngineFault.Failed ↔ IsTrue self.now.failed }
     {
         if self.failed {
             return Err(EngineFault::Failed);
         }
-        Ok(self.patchbay.listing()?)
+        Ok(self.sequencer.listing()?)
     }
 }

@@ -1,20 +1,24 @@
 //! The run of a whole list of inputs.
 
 ghost use Rattle.std.specs.Prelude.{◌≡◌, ℕ, Bool, [], ◌∷◌, ◌++◌, map, option_to_list, IsTrue, ◌↔◌, IfOk, IfErr, OnOk};
-ghost use Rattle.seq_engine.specs.Listing.{listing};
-ghost use Rattle.seq_ports.specs.State.{start};
-ghost use Rattle.seq_ports.specs.Step.{plain, state_after, IsTimed};
-ghost use Rattle.seq_ports.specs.Circle.{IsClosed, only, view};
-ghost use Rattle.seq_ports.specs.Heard.{port_of, comes_to, message_at, port_bytes};
+ghost use Rattle.std.specs.FinMap as finmap;
 ghost use Rattle.midi_wire.specs.Writings.{written_after, status_after_all};
+ghost use Rattle.smf_grammar.specs.Played.{played};
+ghost use Rattle.seq_state.specs.State.{start};
+ghost use Rattle.seq_state.specs.Step.{plain, state_after, IsTimed};
+ghost use Rattle.seq_state.specs.Laws.{Bounded, NoReturn, NeverFall, deliveries_of};
+ghost use Rattle.seq_state.specs.Circle.{IsClosed, only, view};
+ghost use Rattle.seq_state.specs.Heard.{port_at, comes_to, message_at, port_bytes};
+ghost use Rattle.seq_engine.specs.Ending.{listing_of};
 
-use crate::engine::Engine;
+use crate::engine::{Engine, StepOut};
 use crate::fault::EngineFault;
-use crate::patchbay::StepOut;
+use agenda_heap::Agenda;
 use memory::{Items, OutOfMemory};
 use midi_wire::StreamWriter;
 use node_table::PortAddr;
-use seq_ports::{Delivery, Input, LogEntry};
+use seq_state::{Delivery, Input, LogEntry};
+use smf_files::SmfFile;
 use std::alloc::Global;
 
 /// What a run gives.
@@ -82,23 +86,42 @@ pub fn is_timed(inputs: &[Input], until: u64) -> bool
 /// Takes all inputs from the beginning, in order, and then settles to a last moment.
 ///
 /// The moments of the inputs never fall, and `until` is not before the last. The only fault is want of memory.
-pub fn run(alloc: Global, inputs: &[Input], until: u64) -> Result<RunLog, EngineFault>
-    requires { IsTimed inputs.now until }
+pub fn run<'f, 'b, A: Agenda + Drop>(
+    alloc: Global,
+    files: &'f [SmfFile<'b>],
+    agenda: A,
+    inputs: &[Input],
+    until: u64,
+) -> Result<RunLog, EngineFault>
+    requires timed { IsTimed inputs.now until }
+    requires empty { A.content agenda ≡ finmap.empty }
 
     // The run is the plain reading of its commands.
-    ensures plain { IfOk result (λ log. log.entries ≡ plain inputs.now until) }
+    ensures plain { IfOk result (λ log.
+        log.entries ≡ plain (map played files.now) inputs.now until) }
 
-    ensures listing { IfOk result (λ log. log.listing ≡ listing (state_after start inputs.now)) }
+    ensures listing { IfOk result (λ log.
+        log.listing ≡ listing_of (state_after (map played files.now) start inputs.now)) }
 
     // What the owner of a closed circle of clients sees is what it sees of the plain reading of the circle's commands
     // alone, whatever all others do.
-    ensures isolated { IfOk result (λ log. (owner : ℕ) (member : ℕ → Bool) → IsClosed owner member inputs.now →
-        view owner member inputs.now log.entries ≡ view owner member (only member inputs.now) (plain (only member inputs.now) until)) }
-    ensures heard_alone { IfOk result (λ log. (owner : ℕ) (member : ℕ → Bool) (port : ℕ) → IsClosed owner member inputs.now →
-        port_bytes (port_of owner port) log.entries ≡ port_bytes (port_of owner port) (plain (only member inputs.now) until)) }
+    ensures isolated { IfOk result (λ log. (owner : ℕ) (member : ℕ → Bool) →
+        IsClosed (map played files.now) owner member inputs.now →
+        view owner member inputs.now log.entries
+        ≡ view owner member (only member inputs.now) (plain (map played files.now) (only member inputs.now) until)) }
+    ensures heard_alone { IfOk result (λ log. (owner : ℕ) (member : ℕ → Bool) (port : ℕ) →
+        IsClosed (map played files.now) owner member inputs.now →
+        port_bytes (port_at owner port) log.entries
+        ≡ port_bytes (port_at owner port) (plain (map played files.now) (only member inputs.now) until)) }
+
+    // The moments of what is delivered never fall, each pool keeps to its size, and no chain of filters comes back.
+    ensures rising { IfOk result (λ log. NeverFall (deliveries_of log.entries)) }
+    ensures bounded { OnOk result (Bounded (state_after (map played files.now) start inputs.now)) }
+    ensures no_return { OnOk result
+        (NoReturn (state_after (map played files.now) start inputs.now).edges) }
     ensures out_of_memory { IfErr result (λ e. e ≡ EngineFault.OutOfMemory) }
 {
-    let mut engine = Engine::new(alloc);
+    let mut engine = Engine::new(alloc, files, agenda);
     let mut entries = Vec::new(alloc);
     for (index, input) in inputs.iter().enumerate() {
         let out = engine.step(input)?;

@@ -1,16 +1,40 @@
--- The copies of a message, by the nodes that it goes through.
-use Rattle.std.proofs.Common.{◌≡◌, ℕ, List, [], ◌∷◌, ◌++◌, map, Option, Some, None, refl, ap, ◌∙◌}
-use Rattle.std.specs.List.{filter_map}
+-- The copies of a message that goes on from node to node are those of its paths.
+use Rattle.std.proofs.Common.{◌≡◌, ℕ, zero, suc, ◌-◌, Bool, true, false, if◌then◌else◌, List, [], ◌∷◌, ◌++◌, map, Option, Some, None, refl, sym, ap, ◌∙◌, append-nil, append_assoc}
+use Rattle.std.specs.List.{filter_map, flat_map}
+use Rattle.std.specs.Option.{option_to_list}
 use Rattle.std.specs.Ordering.{nat_cmp}
+use Rattle.std.specs.FinMap
 use Rattle.std.specs.FinMap.{FinMap}
 use Rattle.node_table.specs.declared.number.Addr.{Addr}
-use Rattle.node_table.specs.declared.number.PortAddr.{PortAddr}
+use Rattle.node_table.specs.declared.number.Node.{Node}
+use Rattle.node_table.specs.declared.number.Node.TheVariants.{Port, Filter}
+use Rattle.node_table.specs.Addresses.{is_filter, is_filter_node}
 use Rattle.patch_graph.specs.declared.edge.Edge.{Edge}
-use Rattle.patch_graph.specs.Cursor.{at_port}
-use Rattle.patch_graph.specs.Paths.{paths, end_of, nodes_of, routes}
+use Rattle.patch_graph.specs.Cursor.{tails}
+use Rattle.patch_graph.specs.Index.{targets_of}
+use Rattle.patch_graph.specs.Paths.{hops, paths, end_of, nodes_of, routes}
+use Rattle.patch_graph.proofs.Walked.{routes-tails}
 use Rattle.seq_state.specs.State.{Client, State}
+use Rattle.seq_state.specs.declared.log.Delivery.{Delivery}
 use Rattle.seq_state.specs.Copies.{filter_at, passed_by, and_then, carried, copy, copies}
-use Rattle.seq_patchbay.specs.Carrying.{carried_by, last_of, copy_along}
+use Rattle.seq_settle.specs.Sends.{copies_of}
+use Rattle.seq_state.specs.Step.{port_addr}
+use Rattle.seq_patchbay.specs.Carrying.{of_some, copies_by, spread}
+
+-- ---- along a path
+
+-- what nodes, one after another, let through
+abbrev carried_by : FinMap nat_cmp Client → List Addr → List ℕ → Option (List ℕ)
+carried_by clients [] message = Some message
+carried_by clients (a ∷ rest) message = and_then (passed_by (filter_at clients a.client a.node) message) (carried_by clients rest)
+
+abbrev last_of : Addr → List Addr → Addr
+last_of a [] = a
+last_of a (b ∷ bs) = last_of b bs
+
+-- what comes of a message at the end of a route
+abbrev copy_along : FinMap nat_cmp Client → ℕ → Addr → List ℕ → List Addr → Option Delivery
+copy_along clients moment source message route = copy moment (last_of source route) (carried_by clients route message)
 
 and-then : (o : Option (List ℕ)) (f g : List ℕ → Option (List ℕ)) → ((m : List ℕ) → f m ≡ g m) → and_then o f ≡ and_then o g
 and-then None f g same = refl
@@ -34,22 +58,82 @@ filter_map-map {X} {Y} {Z} f g h same (x ∷ xs) = ap (λ o. with o (filter_map 
     with (Some z) zs = z ∷ zs
 
 -- a copy for each route, the oldest path first
-pub copies-routes : (s : State) (moment : ℕ) (source : Addr) (message : List ℕ) → copies s moment source message ≡ filter_map (copy_along s.clients moment source message) (routes s.edges source)
+copies-routes : (s : State) (moment : ℕ) (source : Addr) (message : List ℕ) → copies s moment source message ≡ filter_map (copy_along s.clients moment source message) (routes s.edges source)
 copies-routes s moment source message =
     filter_map-map (copy_along s.clients moment source message) nodes_of (λ p. copy moment (end_of source p) (carried s.clients p message))
     (λ p. ap (copy moment (end_of source p)) (carried-nodes s.clients p message) ∙ ap (λ t. copy moment t (carried_by s.clients (nodes_of p) message)) (end-node source p)) (paths s.edges source)
 
-carried-front : (clients : FinMap nat_cmp Client) (front : List Addr) (p : PortAddr) (message : List ℕ) → carried_by clients (front ++ at_port p ∷ []) message ≡ carried_by clients front message
-carried-front clients [] p message = refl
-carried-front clients (a ∷ rest) p message =
-    and-then (passed_by (filter_at clients a.client a.node) message) (carried_by clients (rest ++ at_port p ∷ [])) (carried_by clients rest) (carried-front clients rest p)
+-- ---- from node to node
 
-last-front : (a : Addr) (front : List Addr) (b : Addr) → last_of a (front ++ b ∷ []) ≡ b
-last-front a [] b = refl
-last-front a (c ∷ cs) b = last-front c cs b
+filter_map-cons : {X Z : Type 0} (f : X → Option Z) (x : X) (xs : List X) → filter_map f (x ∷ xs) ≡ option_to_list (f x) ++ filter_map f xs
+filter_map-cons {X} {Z} f x xs = go (f x) refl
+  where
+    go : (o : Option Z) → f x ≡ o → filter_map f (x ∷ xs) ≡ option_to_list (f x) ++ filter_map f xs
+    go None e = cc
+    go (Some z) e = cc
 
--- the last node is a port, which lets all through
-pub copy-front : (clients : FinMap nat_cmp Client) (moment : ℕ) (source : Addr) (message : List ℕ) (front : List Addr) (p : PortAddr) →
-    copy_along clients moment source message (front ++ at_port p ∷ []) ≡ copy moment (at_port p) (carried_by clients front message)
-copy-front clients moment source message front p =
-    ap (λ t. copy moment t (carried_by clients (front ++ at_port p ∷ []) message)) (last-front source front (at_port p)) ∙ ap (copy moment (at_port p)) (carried-front clients front p message)
+filter_map-append : {X Z : Type 0} (f : X → Option Z) (xs ys : List X) → filter_map f (xs ++ ys) ≡ filter_map f xs ++ filter_map f ys
+filter_map-append f [] ys = refl
+filter_map-append f (x ∷ xs) ys =
+    filter_map-cons f x (xs ++ ys) ∙ ap (λ zs. option_to_list (f x) ++ zs) (filter_map-append f xs ys)
+    ∙ sym (append_assoc (option_to_list (f x)) (filter_map f xs) (filter_map f ys)) ∙ ap (λ zs. zs ++ filter_map f ys) (sym (filter_map-cons f x xs))
+
+filter_map-flat_map : {T X Z : Type 0} (f : X → Option Z) (g : T → List X) (h : T → List Z) → ((t : T) → filter_map f (g t) ≡ h t) → (ts : List T) → filter_map f (flat_map g ts) ≡ flat_map h ts
+filter_map-flat_map f g h same [] = refl
+filter_map-flat_map f g h same (t ∷ ts) =
+    filter_map-append f (g t) (flat_map g ts) ∙ ap (λ zs. zs ++ filter_map f (flat_map g ts)) (same t) ∙ ap (λ zs. h t ++ zs) (filter_map-flat_map f g h same ts)
+
+filter_map-never : {X Z : Type 0} (f : X → Option Z) → ((x : X) → f x ≡ None) → (xs : List X) → filter_map f xs ≡ []
+filter_map-never f never [] = refl
+filter_map-never f never (x ∷ xs) = filter_map-cons f x xs ∙ ap (λ o. option_to_list o ++ filter_map f xs) (never x) ∙ filter_map-never f never xs
+
+port-passes : (clients : FinMap nat_cmp Client) (client : ℕ) (node : Node) (message : List ℕ) → is_filter_node node ≡ false → passed_by (filter_at clients client node) message ≡ Some message
+port-passes clients client (Port n) message e = refl
+port-passes clients client (Filter n) message e = cc
+
+module _ (clients : FinMap nat_cmp Client) (edges : List Edge) (moment : ℕ) where
+  -- what comes of a message along routes
+  abbrev along : Addr → List ℕ → List (List Addr) → List Delivery
+  along a message rs = filter_map (copy_along clients moment a message) rs
+
+  abbrev onward : List (List Addr) → Addr → Option (List ℕ) → List Delivery
+  onward rs t o = filter_map (λ r. copy moment (last_of t r) (and_then o (carried_by clients r))) rs
+
+  through-filter : (rs : List (List Addr)) (behind : List ℕ → List Delivery) (t : Addr) → ((m : List ℕ) → along t m rs ≡ behind m) → (o : Option (List ℕ)) → onward rs t o ≡ of_some behind o
+  through-filter rs behind t same None = filter_map-never _ (λ r. refl) rs
+  through-filter rs behind t same (Some m) = same m
+
+  pub spread-tails : (n : ℕ) (targets : List Addr) (a : Addr) (message : List ℕ) → along a message (tails n edges targets) ≡ spread clients edges moment n targets message
+  unfolding tails spread
+  spread-tails zero targets a message = refl
+  spread-tails (suc n) targets a message =
+      filter_map-flat_map (copy_along clients moment a message) _ _ (λ t. one t (λ m. spread-tails n (targets_of edges t) t m) (is_filter t) refl) targets
+    where
+      behind : Addr → List ℕ → List Delivery
+      behind t m = spread clients edges moment n (targets_of edges t) m
+
+      one : (t : Addr) → ((m : List ℕ) → along t m (tails n edges (targets_of edges t)) ≡ spread clients edges moment n (targets_of edges t) m) → (b : Bool) → is_filter t ≡ b →
+          along a message (if is_filter t then map (λ r. t ∷ r) (tails n edges (targets_of edges t)) else (t ∷ []) ∷ []) ≡ copies_by clients edges moment (λ ts m. spread clients edges moment n ts m) message t
+      one t further true e =
+          let rs : List (List Addr) = tails n edges (targets_of edges t) in
+          ap (λ b. along a message (if b then map (λ r. t ∷ r) rs else (t ∷ []) ∷ [])) e
+          ∙ sym (filter_map-map (copy_along clients moment a message) (λ r. t ∷ r) (λ r. copy_along clients moment a message (t ∷ r)) (λ r. refl) rs)
+          ∙ through-filter rs (behind t) t further (passed_by (filter_at clients t.client t.node) message)
+          ∙ sym (ap (λ b. if b then of_some (behind t) (passed_by (filter_at clients t.client t.node) message) else option_to_list (copy moment t (Some message))) e)
+      one t further false e =
+          ap (λ b. along a message (if b then map (λ r. t ∷ r) (tails n edges (targets_of edges t)) else (t ∷ []) ∷ [])) e
+          ∙ filter_map-cons (copy_along clients moment a message) (t ∷ []) []
+          ∙ ap (λ o. option_to_list (copy moment t (and_then o (carried_by clients []))) ++ []) (port-passes clients t.client t.node message e)
+          ∙ append-nil (option_to_list (copy moment t (Some message)))
+          ∙ sym (ap (λ b. if b then of_some (behind t) (passed_by (filter_at clients t.client t.node) message) else option_to_list (copy moment t (Some message))) e)
+
+-- a message that goes to the targets of a port comes to what all its paths make of it
+pub spread-copies : (clients : FinMap nat_cmp Client) (edges : List Edge) (moment client port : ℕ) (targets : List Addr) (message bytes : List ℕ) →
+    targets ≡ targets_of edges (port_addr client port) → bytes ≡ message → spread clients edges moment 8 targets bytes ≡ copies_of clients edges moment client port message
+unfolding hops
+spread-copies clients edges moment client port targets message bytes e f =
+    let source : Addr = port_addr client port in
+    ap (λ ts. spread clients edges moment 8 ts bytes) e ∙ ap (spread clients edges moment 8 (targets_of edges source)) f
+    ∙ sym (spread-tails clients edges moment hops (targets_of edges source) source message)
+    ∙ ap (filter_map (copy_along clients moment source message)) (sym (routes-tails edges source))
+    ∙ sym (copies-routes (record { clients = clients; pools = FinMap.empty; edges = edges; pending = [] }) moment source message)

@@ -1,31 +1,29 @@
 -- How what is sent comes together, copy by copy.
-use Rattle.std.proofs.Common.{◌≡◌, ℕ, suc, ◌+◌, ◌<◌, ◌≤◌, true, false, cond, List, [], ◌∷◌, ◌++◌, length, take, drop, get_or, slice_index_or, Option, Some, None, refl, sym, ap, ◌∙◌, append-nil, append_assoc, add-one, drop-cons}
+use Rattle.std.proofs.Common.{◌≡◌, ℕ, zero, suc, ◌+◌, ◌-◌, ◌<◌, Bool, true, false, cond, if◌then◌else◌, List, [], ◌∷◌, ◌++◌, length, take, drop, get_or, slice_index_or, Option, Some, None, refl, sym, ap, ◌∙◌, arith, append-nil, append_assoc, add-one, drop-cons}
 use Rattle.std.specs.Option.{option_map, option_to_list}
-use Rattle.std.specs.List.{filter_map, flat_map}
+use Rattle.std.specs.List.{flat_map}
 use Rattle.std.specs.Ordering.{nat_cmp}
 use Rattle.std.specs.FinMap
 use Rattle.std.specs.FinMap.{FinMap}
-use Rattle.std.proofs.lemmas.List.{drop_all, take_more}
-use Rattle.route_filter.specs.Passing.{passed}
+use Rattle.std.proofs.lemmas.List.{take_more}
 use Rattle.route_filter.specs.declared.rule_args.RuleArgs.{RuleArgs}
 use Rattle.cell_pools.specs.Pools.{after_offer}
+use Rattle.node_table.specs.Addresses.{is_filter_node}
 use Rattle.node_table.specs.declared.number.Addr.{Addr}
 use Rattle.node_table.specs.declared.number.Node.{Node}
 use Rattle.node_table.specs.declared.number.Node.TheVariants.{Port, Filter}
-use Rattle.node_table.specs.declared.number.PortAddr.{PortAddr}
 use Rattle.patch_graph.specs.Cursor.{at_port}
-use Rattle.patch_graph.specs.Paths.{routes}
+use Rattle.patch_graph.specs.Index.{targets_of}
 use Rattle.patch_graph.specs.declared.edge.Edge.{Edge}
 use Rattle.seq_state.specs.declared.log.Delivery.{Delivery}
 use Rattle.seq_state.specs.State.{Client, FilterInfo, Pool, put}
 use Rattle.seq_state.specs.Own.{filter_of}
-use Rattle.seq_state.specs.Copies.{filter_at, passed_by, and_then, copy}
-use Rattle.seq_state.specs.Step.{port_addr, has_room, arrival, offer, offered, delivered}
+use Rattle.seq_state.specs.Copies.{filter_at, passed_by, delivery, copy}
+use Rattle.seq_state.specs.Step.{has_room, arrival, offer, offered, delivered}
 use Rattle.seq_state.proofs.Lists.{flat_map-append}
 use Rattle.seq_state.proofs.Settling.{offered-append, delivered-append}
 use Rattle.seq_settle.specs.Sends.{copies_of}
-use Rattle.seq_patchbay.specs.Carrying.{carried_by, copy_along, copies_of_all}
-use Rattle.seq_patchbay.proofs.Routes.{copies-routes, copy-front}
+use Rattle.seq_patchbay.specs.Carrying.{let_through, of_some, copies_by, spread, copies_of_all}
 
 -- ---- one copy
 
@@ -45,13 +43,10 @@ delivered-none pools d e = ap (λ b. cond b (d ∷ []) []) e
 
 -- ---- filters
 
-pub ruled : (o : Option FilterInfo) (r : RuleArgs) (message : List ℕ) → Some r ≡ option_map (λ f. f.rule) o → passed r message ≡ passed_by o message
-ruled None r message e = cc
-ruled (Some f) r message e = let same : r ≡ f.rule = cc in ap (λ x. passed x message) same
-
-pub unruled : (o : Option FilterInfo) (message : List ℕ) → None ≡ option_map (λ (f : FilterInfo). f.rule) o → Some message ≡ passed_by o message
-unruled None message e = refl
-unruled (Some f) message e = cc
+-- what the rule of a node lets through is what the node lets through
+pub let-through : (o : Option FilterInfo) (r : Option RuleArgs) (message : List ℕ) → r ≡ option_map (λ f. f.rule) o → let_through r message ≡ passed_by o message
+let-through None r message e = ap (λ x. let_through x message) e
+let-through (Some f) r message e = ap (λ x. let_through x message) e
 
 pub filter-node : (clients : FinMap nat_cmp Client) (c n : ℕ) (node : Node) → node ≡ Filter n → filter_of (FinMap.get clients c) n ≡ filter_at clients c node
 filter-node clients c n node e = ap (filter_at clients c) (sym e)
@@ -59,78 +54,46 @@ filter-node clients c n node e = ap (filter_at clients c) (sym e)
 pub port-node : (clients : FinMap nat_cmp Client) (c n : ℕ) (node : Node) → node ≡ Port n → None ≡ option_map (λ f. f.rule) (filter_at clients c node)
 port-node clients c n node e = ap (λ x. option_map (λ f. f.rule) (filter_at clients c x)) (sym e)
 
--- ---- filters, one after another
+-- ---- node by node
 
-module _ (clients : FinMap nat_cmp Client) (filters : List Addr) where
-  -- the next filter, and those behind it
-  next-of : (i : ℕ) (f : Addr) → i < length filters → f ≡ slice_index_or filters i f → drop i filters ≡ f ∷ drop (i + 1) filters
-  next-of i f l e = drop-cons filters i f l ∙ ap (λ x. x ∷ drop (suc i) filters) (sym e) ∙ ap (λ k. f ∷ drop k filters) (sym (add-one i))
+module _ (clients : FinMap nat_cmp Client) (edges : List Edge) (moment : ℕ) where
+  pub spread-none : (n : ℕ) (targets : List Addr) (message : List ℕ) → n ≡ 0 → spread clients edges moment n targets message ≡ []
+  unfolding spread
+  spread-none n targets message e = ap (λ k. spread clients edges moment k targets message) e
 
-  passes : Addr → List ℕ → Option (List ℕ)
-  passes f m = passed_by (filter_at clients f.client f.node) m
+  pub spread-hops : (n : ℕ) (targets : List Addr) (message : List ℕ) → (n ≡ 0 → ⊥) →
+      spread clients edges moment n targets message ≡ flat_map (copies_by clients edges moment (λ ts m. spread clients edges moment (n - 1) ts m) message) targets
+  unfolding spread
+  spread-hops zero targets message some = absurd (some refl)
+  spread-hops (suc k) targets message some =
+      ap (λ j. flat_map (copies_by clients edges moment (λ ts m. spread clients edges moment j ts m) message) targets) (let e : k ≡ suc k - 1 = omega arith in e)
 
-  pub carried-next : (i : ℕ) (f : Addr) (message was now : List ℕ) → i < length filters → f ≡ slice_index_or filters i f →
-      carried_by clients filters message ≡ carried_by clients (drop i filters) was → passed_by (filter_at clients f.client f.node) was ≡ Some now →
-      carried_by clients filters message ≡ carried_by clients (drop (i + 1) filters) now
-  carried-next i f message was now l e so p =
-      so ∙ ap (λ fs. carried_by clients fs was) (next-of i f l e) ∙ ap (λ o. and_then o (carried_by clients (drop (i + 1) filters))) p
+  module _ (behind : List Addr → List ℕ → List Delivery) (message : List ℕ) (node : Addr) where
+    abbrev cases : Bool → List Delivery
+    cases b = if b then of_some (behind (targets_of edges node)) (passed_by (filter_at clients node.client node.node) message) else option_to_list (copy moment node (Some message))
 
-  pub carried-stop : (i : ℕ) (f : Addr) (message was : List ℕ) → i < length filters → f ≡ slice_index_or filters i f →
-      carried_by clients filters message ≡ carried_by clients (drop i filters) was → passed_by (filter_at clients f.client f.node) was ≡ None →
-      None ≡ carried_by clients filters message
-  carried-stop i f message was l e so p =
-      sym (so ∙ ap (λ fs. carried_by clients fs was) (next-of i f l e) ∙ ap (λ o. and_then o (carried_by clients (drop (i + 1) filters))) p)
+    pub by-port : (port : ℕ) → node.node ≡ Port port → copies_by clients edges moment behind message node ≡ option_to_list (copy moment (at_port (record { client = node.client; port = port })) (Some message))
+    by-port port e = ap (λ n. cases (is_filter_node n)) e ∙ ap (λ n. option_to_list (delivery moment node.client n message)) e
 
-  pub carried-end : (i : ℕ) (message was : List ℕ) → length filters ≤ i → carried_by clients filters message ≡ carried_by clients (drop i filters) was →
-      Some was ≡ carried_by clients filters message
-  carried-end i message was l so = sym (so ∙ ap (λ fs. carried_by clients fs was) (drop_all i filters l))
+    pub by-filter : (filter : ℕ) → node.node ≡ Filter filter → (o : Option (List ℕ)) → passed_by (filter_at clients node.client node.node) message ≡ o →
+        copies_by clients edges moment behind message node ≡ of_some (behind (targets_of edges node)) o
+    by-filter filter e o p = ap (λ n. cases (is_filter_node n)) e ∙ ap (of_some (behind (targets_of edges node))) p
 
--- ---- a route
+-- ---- one after another
 
-last-same : (a b : Addr) (xs ys : List Addr) → xs ++ a ∷ [] ≡ ys ++ b ∷ [] → xs ≡ ys
-last-same a b [] [] e = refl
-last-same a b [] (y ∷ []) e = cc
-last-same a b [] (y ∷ z ∷ ys) e = cc
-last-same a b (x ∷ []) [] e = cc
-last-same a b (x ∷ z ∷ xs) [] e = cc
-last-same a b (x ∷ xs) (y ∷ ys) e = let head : x ≡ y = cc in let tail : xs ++ a ∷ [] ≡ ys ++ b ∷ [] = cc in ap (λ z. z ∷ xs) head ∙ ap (λ zs. y ∷ zs) (last-same a b xs ys tail)
-
--- the copy at the end of a route, by the filters before its last node
-pub at-end : (clients : FinMap nat_cmp Client) (moment : ℕ) (source : Addr) (message : List ℕ) (route filters front : List Addr) (last : Addr) (target : PortAddr) →
-    route ≡ filters ++ last ∷ [] → route ≡ front ++ at_port target ∷ [] → copy_along clients moment source message route ≡ copy moment (at_port target) (carried_by clients filters message)
-at-end clients moment source message route filters front last target e f =
-    ap (copy_along clients moment source message) f ∙ copy-front clients moment source message front target
-    ∙ ap (λ xs. copy moment (at_port target) (carried_by clients xs message)) (last-same (at_port target) last front filters (sym f ∙ e))
-
--- ---- route by route
-
-module _ {X : Type 0} (f : X → Option Delivery) where
-  split : (x : X) (xs : List X) → filter_map f (x ∷ xs) ≡ option_to_list (f x) ++ filter_map f xs
-  split x xs = go (f x) refl
-    where
-      go : (o : Option Delivery) → f x ≡ o → filter_map f (x ∷ xs) ≡ option_to_list (f x) ++ filter_map f xs
-      go None e = cc
-      go (Some d) e = cc
-
-  -- the copies that are still to be offered come to what all copies come to
-  pub offered-next : (pools pools' goal : FinMap nat_cmp Pool) (x : X) (was xs : List X) → was ≡ x ∷ xs → pools' ≡ offered pools (option_to_list (f x)) →
-      offered pools (filter_map f was) ≡ goal → offered pools' (filter_map f xs) ≡ goal
-  offered-next pools pools' goal x was xs e o g =
-      ap (λ p. offered p (filter_map f xs)) o ∙ offered-append pools (option_to_list (f x)) (filter_map f xs) ∙ ap (offered pools) (sym (split x xs) ∙ ap (filter_map f) (sym e)) ∙ g
-
-  pub delivered-next : (pools pools' : FinMap nat_cmp Pool) (out out' goal : List Delivery) (x : X) (was xs : List X) → was ≡ x ∷ xs → pools' ≡ offered pools (option_to_list (f x)) →
-      out' ≡ out ++ delivered pools (option_to_list (f x)) → out ++ delivered pools (filter_map f was) ≡ goal → out' ++ delivered pools' (filter_map f xs) ≡ goal
-  delivered-next pools pools' out out' goal x was xs e o s g =
-      ap (λ ds. ds ++ delivered pools' (filter_map f xs)) s ∙ append_assoc out (delivered pools (option_to_list (f x))) (delivered pools' (filter_map f xs))
-      ∙ ap (λ ds. out ++ ds) (ap (λ p. delivered pools (option_to_list (f x)) ++ delivered p (filter_map f xs)) o ∙ delivered-append pools (option_to_list (f x)) (filter_map f xs)
-      ∙ ap (delivered pools) (sym (split x xs) ∙ ap (filter_map f) (sym e))) ∙ g
-
--- the copies of all routes are all copies
-pub all-routes : (clients : FinMap nat_cmp Client) (edges : List Edge) (moment client port : ℕ) (message : List ℕ) (rs : List (List Addr)) → rs ≡ routes edges (port_addr client port) →
-    filter_map (copy_along clients moment (port_addr client port) message) rs ≡ copies_of clients edges moment client port message
-all-routes clients edges moment client port message rs e =
-    ap (filter_map (copy_along clients moment (port_addr client port) message)) e
-    ∙ sym (copies-routes (record { clients = clients; pools = FinMap.empty; edges = edges; pending = [] }) moment (port_addr client port) message)
+-- what is still to be sent comes to what was to be sent, once the copies of the next node were offered
+pub sent-one : (f : Addr → List Delivery) (targets : List Addr) (i : ℕ) (t : Addr) (now : List Delivery) → i < length targets → t ≡ slice_index_or targets i t → f t ≡ now →
+    (pools pools' all : FinMap nat_cmp Pool) (out out' whole : List Delivery) → pools' ≡ offered pools now → out' ≡ out ++ delivered pools now →
+    offered pools (flat_map f (drop i targets)) ≡ all → out ++ delivered pools (flat_map f (drop i targets)) ≡ whole →
+    (offered pools' (flat_map f (drop (i + 1) targets)) ≡ all) × (out' ++ delivered pools' (flat_map f (drop (i + 1) targets)) ≡ whole)
+sent-one f targets i t now l e same pools pools' all out out' whole o s p q =
+    let rest : List Delivery = flat_map f (drop (i + 1) targets) in
+    let next : flat_map f (drop i targets) ≡ now ++ rest =
+    ap (flat_map f) (drop-cons targets i t l ∙ ap (λ x. x ∷ drop (suc i) targets) (sym e)) ∙ ap (λ k. f t ++ flat_map f (drop k targets)) (sym (add-one i)) ∙ ap (λ ds. ds ++ rest) same in (
+      ap (λ z. offered z rest) o ∙ offered-append pools now rest ∙ ap (offered pools) (sym next) ∙ p,
+      ap (λ ds. ds ++ delivered pools' rest) s ∙ append_assoc out (delivered pools now) (delivered pools' rest)
+          ∙ ap (λ ds. out ++ ds) (ap (λ z. delivered pools now ++ delivered z rest) o ∙ delivered-append pools now rest ∙ ap (delivered pools) (sym next)) ∙ q,
+    )
 
 -- ---- message by message
 
@@ -142,10 +105,10 @@ module _ (clients : FinMap nat_cmp Client) (edges : List Edge) (moment client po
       ap (flat_map f) (take_more messages i m l ∙ ap (λ x. take i messages ++ x ∷ []) (sym e))
       ∙ flat_map-append f (take i messages) (m ∷ []) ∙ ap (λ xs. flat_map f (take i messages) ++ xs) (append-nil (f m))
 
-  pub offered-more : (i : ℕ) (m : List ℕ) → i < length messages → m ≡ get_or messages i m → (was now then : FinMap nat_cmp Pool) →
-      now ≡ offered was (copies_of_all clients edges moment client port (take i messages)) → then ≡ offered now (copies_of clients edges moment client port m) →
-      then ≡ offered was (copies_of_all clients edges moment client port (take (i + 1) messages))
-  offered-more i m l e was now then a b =
+  pub offered-more : (i : ℕ) (m : List ℕ) → i < length messages → m ≡ get_or messages i m → (was now after : FinMap nat_cmp Pool) →
+      now ≡ offered was (copies_of_all clients edges moment client port (take i messages)) → after ≡ offered now (copies_of clients edges moment client port m) →
+      after ≡ offered was (copies_of_all clients edges moment client port (take (i + 1) messages))
+  offered-more i m l e was now after a b =
       b ∙ ap (λ p. offered p (copies_of clients edges moment client port m)) a
       ∙ offered-append was (copies_of_all clients edges moment client port (take i messages)) (copies_of clients edges moment client port m) ∙ ap (offered was) (sym (copies-more i m l e))
 

@@ -1,29 +1,43 @@
--- What comes of a message on a way through filters.
-use Rattle.std.specs.Prelude.{ℕ, List, [], ◌∷◌, Option, Some}
+-- What comes of a message that goes on to nodes.
+use Rattle.std.specs.Prelude.{ℕ, zero, suc, if◌then◌else◌, List, [], Option, Some, None}
+use Rattle.std.specs.Option.{option_to_list}
 use Rattle.std.specs.List.{flat_map}
 use Rattle.std.specs.Ordering.{nat_cmp}
 use Rattle.std.specs.FinMap.{FinMap}
+use Rattle.node_table.specs.Addresses.{is_filter}
 use Rattle.node_table.specs.declared.number.Addr.{Addr}
 use Rattle.patch_graph.specs.declared.edge.Edge.{Edge}
+use Rattle.patch_graph.specs.Index.{targets_of}
+use Rattle.route_filter.specs.Passing.{passed}
+use Rattle.route_filter.specs.declared.rule_args.RuleArgs.{RuleArgs}
 use Rattle.seq_state.specs.declared.log.Delivery.{Delivery}
 use Rattle.seq_state.specs.State.{Client}
-use Rattle.seq_state.specs.Copies.{filter_at, passed_by, and_then, copy}
+use Rattle.seq_state.specs.Copies.{filter_at, passed_by, copy}
 use Rattle.seq_settle.specs.Sends.{copies_of}
 
--- what nodes, one after another, let through
-abbrev pub carried_by : FinMap nat_cmp Client → List Addr → List ℕ → Option (List ℕ)
-carried_by clients [] message = Some message
-carried_by clients (a ∷ rest) message =
-    and_then (passed_by (filter_at clients a.client a.node) message) (carried_by clients rest)
+-- what a rule lets through of a message, and all where there is no rule
+abbrev pub let_through : Option RuleArgs → List ℕ → Option (List ℕ)
+let_through None message = Some message
+let_through (Some rule) message = passed rule message
 
-abbrev pub last_of : Addr → List Addr → Addr
-last_of a [] = a
-last_of a (b ∷ bs) = last_of b bs
+-- what comes of a message, if there is one
+abbrev pub of_some : (List ℕ → List Delivery) → Option (List ℕ) → List Delivery
+of_some copies None = []
+of_some copies (Some message) = copies message
 
--- what comes of a message at the end of a route
-abbrev pub copy_along : FinMap nat_cmp Client → ℕ → Addr → List ℕ → List Addr → Option Delivery
-copy_along clients moment source message route =
-    copy moment (last_of source route) (carried_by clients route message)
+-- the copies of a message that goes to a node: one at a port, and those behind a filter of what that lets through
+abbrev pub copies_by : FinMap nat_cmp Client → List Edge → ℕ → (List Addr → List ℕ → List Delivery) → List ℕ → Addr →
+    List Delivery
+copies_by clients edges moment behind message node =
+    if is_filter node
+    then of_some (behind (targets_of edges node)) (passed_by (filter_at clients node.client node.node) message)
+    else option_to_list (copy moment node (Some message))
+
+-- the copies of a message that goes to nodes, along at most n edges
+unfoldable pub spread : FinMap nat_cmp Client → List Edge → ℕ → ℕ → List Addr → List ℕ → List Delivery
+spread clients edges moment zero targets message = []
+spread clients edges moment (suc n) targets message =
+    flat_map (copies_by clients edges moment (λ ts m. spread clients edges moment n ts m) message) targets
 
 -- the copies of messages that leave a port one after another
 abbrev pub copies_of_all : FinMap nat_cmp Client → List Edge → ℕ → ℕ → ℕ → List (List ℕ) →

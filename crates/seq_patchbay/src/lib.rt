@@ -1,6 +1,7 @@
 //! The open clients with the subscriptions between their nodes, what goes along these, and who is there as text.
 #![tactic(auto)]
 
+mod carried;
 mod listing;
 mod patchbay;
 mod sending;

@@ -5,11 +5,12 @@ ghost use Rattle.seq_state.specs.Step.{offered, delivered};
 ghost use Rattle.seq_clients.specs.Roster.{nobody};
 ghost use Rattle.seq_patchbay.specs.Carrying.{copies_of_all};
 
-use crate::sending::send_along;
+use crate::sending::spread;
 use memory::OutOfMemory;
 use midi_wire::Message;
 use node_table::{Addr, ClientId, Node, PortNo, QueueAddr};
-use patch_graph::PatchGraph;
+use patch_graph::{HOPS, PatchGraph};
+use route_filter::VoiceMessage;
 use seq_clients::Clients;
 use seq_settle::Desk;
 use seq_state::Delivery;
@@ -85,10 +86,14 @@ impl Desk for Patchbay {
             client,
             node: Node::Port(port),
         };
-        let mut routes = self.graph.routes(&source);
-        while let Some(route) = routes.next() {
-            send_along(&mut self.clients, moment, &source, &route, message, out)?;
+        let clients = &mut self.clients;
+        let graph = &self.graph;
+        let targets = graph.targets(&source);
+        // Mostly there is one way by each of them.
+        out.reserve(targets.len())?;
+        match VoiceMessage::of(message) {
+            Some(voice) => spread(clients, graph, moment, HOPS, targets, &voice, out),
+            None => spread(clients, graph, moment, HOPS, targets, message, out),
         }
-        Ok(())
     }
 }

@@ -1,74 +1,66 @@
 //! What goes along the subscriptions.
 
-ghost use Rattle.std.specs.Prelude.{◌≡◌, ◌++◌, Some, IfOk, OnOk};
-ghost use Rattle.std.specs.Option.{option_map, option_to_list};
+ghost use Rattle.std.specs.Prelude.{◌≡◌, ◌++◌, Some, OnOk};
+ghost use Rattle.std.specs.Option.{option_copied, option_map, option_to_list};
 ghost use Rattle.patch_graph.specs.Cursor.{at_port};
-ghost use Rattle.seq_state.specs.Copies.{filter_at, passed_by, copy};
+ghost use Rattle.seq_state.specs.Copies.{filter_at, copy};
 ghost use Rattle.seq_state.specs.Step.{offered, delivered};
-ghost use Rattle.seq_patchbay.specs.Carrying.{carried_by, copy_along};
+ghost use Rattle.seq_patchbay.specs.Carrying.{spread};
 
+use crate::carried::Carried;
 use memory::OutOfMemory;
 use midi_wire::Message;
-use node_table::{Addr, PortAddr};
-use patch_graph::Route;
+use node_table::{Addr, Node, PortAddr};
+use patch_graph::PatchGraph;
 use route_filter::Rule;
 use seq_clients::Clients;
 use seq_state::{Arrival, Delivery};
 
-/// Sends a message along a route: a copy to the port at its end, where the filters let it pass and the pool has room.
-pub(crate) fn send_along(
+/// Sends a message on to nodes, along at most `hops` edges: a copy to each port whose client's pool has room, and what each
+/// filter lets through on to the nodes behind it.
+pub(crate) fn spread<M: Carried + Drop>(
     clients: &mut Clients,
+    graph: &PatchGraph,
     moment: u64,
-    source: &Addr,
-    route: &Route,
-    message: &Message,
+    hops: usize,
+    targets: &[Addr],
+    message: &M,
     out: &mut Vec<Delivery>,
 ) -> Result<(), OutOfMemory>
     ensures clients { OnOk result (clients.new.clients ≡ clients.old.clients) }
-    ensures pools { let c = copy_along clients.old.clients moment source.now message.now route.now in
-        OnOk result (clients.new.pools ≡ offered clients.old.pools (option_to_list c)) }
-    ensures sent { let c = copy_along clients.old.clients moment source.now message.now route.now in
-        OnOk result (out.new.items ≡ out.old.items ++ delivered clients.old.pools (option_to_list c)) }
+    ensures pools { let c = clients.old in
+        let ds = spread c.clients graph.now moment hops targets.now (M.bytes message.now) in
+        OnOk result (clients.new.pools ≡ offered c.pools ds) }
+    ensures sent { let c = clients.old in
+        let ds = spread c.clients graph.now moment hops targets.now (M.bytes message.now) in
+        OnOk result (out.new.items ≡ out.old.items ++ delivered c.pools ds) }
 {
-    let target = route.last();
-    match carry(clients, route.filters(), message)? {
-        Some(message) => deliver(clients, moment, target, message, out),
-        None => Ok(()),
+    if hops == 0 {
+        return Ok(());
     }
-}
-
-/// What the filters, one after another, let through of a message.
-fn carry(
-    clients: &Clients,
-    filters: &[Addr],
-    message: &Message,
-) -> Result<Option<Message>, OutOfMemory>
-    ensures { IfOk result (λ m. m ≡ carried_by clients.now.clients filters.now message.now) }
-{
-    let mut carried = message.duplicate()?;
-    for filter in filters {
-        match pass(clients, filter, carried) {
-            Some(passed) => carried = passed,
-            None => return Ok(None),
+    for target in targets {
+        match target.node {
+            Node::Port(port) => {
+                let client = target.client;
+                let end = PortAddr { client, port };
+                deliver(clients, moment, end, message.to_message()?, out)?;
+            }
+            Node::Filter(_) => {
+                if let Some(passed) = message.through(rule_at(clients, target))? {
+                    let behind = graph.targets(target);
+                    spread(clients, graph, moment, hops - 1, behind, &passed, out)?;
+                }
+            }
         }
     }
-    Ok(Some(carried))
-}
-
-/// What a node passes on of a message.
-fn pass(clients: &Clients, node: &Addr, message: Message) -> Option<Message>
-    ensures { result ≡ passed_by (filter_at clients.now.clients node.now.client node.now.node) message }
-{
-    match rule_at(clients, node) {
-        Some(rule) => rule.pass(message),
-        None => Some(message),
-    }
+    Ok(())
 }
 
 /// The rule of a node, where that is a filter that is there.
-fn rule_at(clients: &Clients, node: &Addr) -> Option<Rule>
+#[inline]
+fn rule_at<'c>(clients: &'c Clients, node: &Addr) -> Option<&'c Rule>
     ensures { let f = filter_at clients.now.clients node.now.client node.now.node in
-        result ≡ option_map (λ f. f.rule) f }
+        option_copied result ≡ option_map (λ f. f.rule) f }
 {
     clients.rule(node.client, node.node.filter()?)
 }

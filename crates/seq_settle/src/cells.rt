@@ -61,6 +61,7 @@ fn drop_spent(cells: &mut CellStore<Playing<'_>>, key: CellKey, head: &Head)
 }
 
 /// Drops a cell, if it is there.
+#[inline(always)]
 pub(crate) fn drop_cell(cells: &mut CellStore<Playing<'_>>, key: CellKey)
     ensures { IsTaken cells.old cells.new key }
 {

@@ -13,6 +13,7 @@ use cell_pools::CellKey;
 use memory::OutOfMemory;
 
 /// The key of a cell's first event, where it has one that has a moment. A command has one cell, so its place is 0.
+#[inline(always)]
 pub(crate) fn key_of<D: Desk>(desk: &D, head: &Head) -> Option<DueKey>
     ensures { result ≡ key_of_head (D.clients desk.now) head.now }
 {
@@ -26,6 +27,7 @@ pub(crate) fn key_of<D: Desk>(desk: &D, head: &Head) -> Option<DueKey>
 }
 
 /// Gives a cell that has no key this one, if it is one.
+#[inline(always)]
 pub(crate) fn add_key<A: Agenda>(
     agenda: &mut A,
     cell: CellKey,

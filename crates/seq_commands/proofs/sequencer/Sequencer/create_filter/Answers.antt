@@ -2,7 +2,7 @@ use Rattle.std.proofs.Common.{◌≡◌, Some, sym, ap, ◌∙◌}
 use Rattle.std.proofs.lemmas.Result.{on_ok_weaker}
 use Rattle.std.specs.FinMap.{get}
 use Rattle.seq_state.specs.declared.input.Command.TheVariants.{CreateFilter}
-use Rattle.seq_state.specs.Own.{changed, put_filter, new_filter}
+use Rattle.seq_state.specs.Own.{with_change, put_filter, new_filter}
 use Rattle.seq_state.proofs.Done.{creates-filter}
 use Rattle.seq_clients.specs.Roster.{with_client}
 use Rattle.seq_commands.specs.Whole.{clients_of, state_of}
@@ -26,6 +26,6 @@ returns c =
     let its = get (clients_of c.args.self.now) c.args.turn.actor in
     let made = Some (new_filter c.args.caps c.args.rule.now) in
     let same : c.in-Some.rule ≡ c.args.rule.now = rule-made c.args.rule.now c.in-Some.rule (sym c.new.ensures ∙ c.in-Some.is) in
-    on_ok_weaker c.create_filter.result (λ e. nodes-kept c.args.self.now c.args.turn (CreateFilter c.args.filter c.args.caps c.args.rule.now) (changed its (put_filter c.args.filter made)) _ c.requires.accepted
+    on_ok_weaker c.create_filter.result (λ e. nodes-kept c.args.self.now c.args.turn (CreateFilter c.args.filter c.args.caps c.args.rule.now) (with_change its (put_filter c.args.filter made)) _ c.requires.accepted
     (creates-filter c.args.self.now.files (state_of c.args.self.now) c.args.turn.moment c.args.turn.actor c.args.filter c.args.caps c.args.rule.now)
-    (e ∙ ap (λ x. with_client c.args.self.now.patchbay.clients c.args.turn.actor (changed its (put_filter c.args.filter (Some (new_filter c.args.caps x))))) same) (queues-filter c.args.filter made its)) c.create_filter.ensures.ok
+    (e ∙ ap (λ x. with_client c.args.self.now.patchbay.clients c.args.turn.actor (with_change its (put_filter c.args.filter (Some (new_filter c.args.caps x))))) same) (queues-filter c.args.filter made its)) c.create_filter.ensures.ok

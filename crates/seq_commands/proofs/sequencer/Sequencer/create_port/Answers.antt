@@ -2,7 +2,7 @@ use Rattle.std.proofs.Common.{Some}
 use Rattle.std.proofs.lemmas.Result.{on_ok_weaker}
 use Rattle.std.specs.FinMap.{get}
 use Rattle.seq_state.specs.declared.input.Command.TheVariants.{CreatePort}
-use Rattle.seq_state.specs.Own.{changed, put_port, new_port}
+use Rattle.seq_state.specs.Own.{with_change, put_port, new_port}
 use Rattle.seq_state.proofs.Done.{creates-port}
 use Rattle.seq_commands.specs.Whole.{clients_of, state_of}
 use Rattle.seq_commands.proofs.ClientsAccepted.{accepted-port}
@@ -22,5 +22,5 @@ pub returns : goal.returns
 returns c =
     let its = get (clients_of c.args.self.now) c.args.turn.actor in
     let made = Some (new_port c.args.name.now c.args.caps) in
-    on_ok_weaker c.create_port.result (λ e. nodes-kept c.args.self.now c.args.turn (CreatePort c.args.port c.args.name.now c.args.caps) (changed its (put_port c.args.port made)) _ c.requires.accepted
+    on_ok_weaker c.create_port.result (λ e. nodes-kept c.args.self.now c.args.turn (CreatePort c.args.port c.args.name.now c.args.caps) (with_change its (put_port c.args.port made)) _ c.requires.accepted
     (creates-port c.args.self.now.files (state_of c.args.self.now) c.args.turn.moment c.args.turn.actor c.args.port c.args.name.now c.args.caps) e (queues-port c.args.port made its)) c.create_port.ensures.ok

@@ -1,6 +1,6 @@
 use Rattle.std.proofs.Common.{◌≡◌, take}
 use Rattle.midi_wire.specs.Writings.{written, status_in_force}
-use Rattle.seq_ports.specs.Heard.{messages_at}
+use Rattle.seq_state.specs.Heard.{messages_at}
 use Rattle.seq_engine.proofs.runs.RunLog.port_bytes.Given as goal
 
 -- the messages that came to the port so far are written

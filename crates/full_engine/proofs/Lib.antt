@@ -1,4 +1,0 @@
-pub mod Logs
-pub mod Lasting
-pub mod Heard
-pub mod Idle

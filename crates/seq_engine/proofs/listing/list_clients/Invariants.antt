@@ -1,7 +1,0 @@
-use Rattle.std.proofs.Common.{◌≡◌, ◌++◌, ◌-◌}
-use Rattle.std.specs.FinMap as map
-use Rattle.seq_engine.specs.Listing.{client_lines, texts}
-use Rattle.seq_engine.proofs.listing.list_clients.Given as goal
-
-abbrev pub invariant-loop-number : goal.invariant-loop-number
-invariant-loop-number l = l.out.items ≡ l.initial.out.items ++ texts 128 (l.number - 128) (λ n. client_lines n (map.get l.fn.clients n))

@@ -1,0 +1,168 @@
+//! Runs, and what clients hear of them.
+
+use super::lines::Lines;
+use crate::*;
+use agenda_heap::{HeapAgenda, SortedAgenda};
+use midi_wire::Message;
+use smf_files::SmfFile;
+use std::alloc::Global;
+use std::ops::RangeInclusive;
+use std::process::Abort;
+use std::test::Fail;
+
+/// The run of these lines without files. Both agendas give one log.
+pub fn ran(rt: &impl Abort, alloc: Global, lines: &Lines, until: u64) -> Result<RunLog, Fail> {
+    ran_with(rt, alloc, &[], lines.inputs()?, until)
+}
+
+/// The run of these lines with one file.
+pub fn ran_on(
+    rt: &impl Abort,
+    alloc: Global,
+    file: &[u8],
+    lines: &Lines,
+    until: u64,
+) -> Result<RunLog, Fail> {
+    let files = [SmfFile::read(alloc, file)?];
+    ran_with(rt, alloc, &files, lines.inputs()?, until)
+}
+
+fn ran_with(
+    rt: &impl Abort,
+    alloc: Global,
+    files: &[SmfFile<'_>],
+    inputs: &[Input],
+    until: u64,
+) -> Result<RunLog, Fail> {
+    assert!(rt; is_timed(inputs, until));
+    let log = run(alloc, files, HeapAgenda::new(alloc), inputs, until)?;
+    let sorted = run(alloc, files, SortedAgenda::new(alloc), inputs, until)?;
+    assert_eq!(rt; log.entries.len(), sorted.entries.len());
+    for client in 128..132 {
+        let heard = heard_by(alloc, &sorted, client)?;
+        assert_log(rt, alloc, &log, client, heard.as_str())?;
+    }
+    assert_eq!(rt; log.listing.as_slice(), sorted.listing.as_slice());
+    Ok(log)
+}
+
+/// What a client hears of a run, a line for each reply to one of its own lines and for each delivery at its ports.
+pub fn heard_by(alloc: Global, log: &RunLog, client: u8) -> Result<String, Fail> {
+    let mut text = String::new(alloc);
+    let mut line = 0u64;
+    for entry in log.entries.as_slice() {
+        match entry {
+            LogEntry::Delivered(delivery) => {
+                if delivery.target.client.number() == client {
+                    let port = delivery.target.port;
+                    add_message(alloc, &mut text, delivery.moment, port, &delivery.message)?;
+                }
+            }
+            LogEntry::Replied {
+                moment,
+                client: actor,
+                reply,
+                ..
+            } => {
+                if actor.number() == client {
+                    line = line.wrapping_add(1);
+                    text.push_str(format!(in alloc; "{moment} line {line} ")?.as_str())?;
+                    add_reply(alloc, &mut text, reply)?;
+                }
+            }
+        }
+    }
+    Ok(text)
+}
+
+/// Adds a message at a port.
+fn add_message(
+    alloc: Global,
+    text: &mut String,
+    moment: u64,
+    port: PortNo,
+    message: &Message,
+) -> Result<(), Fail> {
+    let port = port.number();
+    text.push_str(format!(in alloc; "{moment} port {port}")?.as_str())?;
+    let mut bytes = Vec::new(alloc);
+    message.append_to(&mut bytes)?;
+    for byte in bytes.as_slice() {
+        text.push_str(format!(in alloc; " {byte:02X}")?.as_str())?;
+    }
+    text.push_str("\n")?;
+    Ok(())
+}
+
+/// Adds a reply.
+fn add_reply(alloc: Global, text: &mut String, reply: &Reply) -> Result<(), Fail> {
+    let line = match reply {
+        Reply::Done => String::from_str(alloc, "ok")?,
+        Reply::Messages(count) => format!(in alloc; "ok {count}")?,
+        Reply::Queue {
+            running,
+            tick,
+            nanos,
+        } => {
+            let state = if *running { "running" } else { "stopped" };
+            format!(in alloc; "ok {state} {tick} {nanos}")?
+        }
+        Reply::Received(arrivals) => return add_arrivals(alloc, text, arrivals.as_slice()),
+        Reply::Pools {
+            waiting,
+            lost,
+            used,
+        } => format!(in alloc; "ok waiting {waiting} lost {lost} used {used}")?,
+        Reply::Refused(number) => {
+            let refusal = Refusal::from_number(*number).ok_or("a refusal")?;
+            format!(in alloc; "refused {refusal}")?
+        }
+    };
+    text.push_str(line.as_str())?;
+    text.push_str("\n")?;
+    Ok(())
+}
+
+/// Adds what was received.
+fn add_arrivals(alloc: Global, text: &mut String, arrivals: &[Arrival]) -> Result<(), Fail> {
+    let count = arrivals.len();
+    text.push_str(format!(in alloc; "ok {count}\n")?.as_str())?;
+    for arrival in arrivals {
+        text.push_str("got ")?;
+        add_message(alloc, text, arrival.moment, arrival.port, &arrival.message)?;
+    }
+    Ok(())
+}
+
+/// A client hears this.
+pub fn assert_log(
+    rt: &impl Abort,
+    alloc: Global,
+    log: &RunLog,
+    client: u8,
+    wanted: &str,
+) -> Result<(), Fail> {
+    let heard = heard_by(alloc, log, client)?;
+    assert_eq!(rt; heard.as_str(), wanted);
+    Ok(())
+}
+
+/// The log of lines that are all carried out at one moment.
+pub fn all_done(alloc: Global, moment: u64, lines: RangeInclusive<u64>) -> Result<String, Fail> {
+    let mut text = String::new(alloc);
+    for line in lines {
+        text.push_str(format!(in alloc; "{moment} line {line} ok\n")?.as_str())?;
+    }
+    Ok(text)
+}
+
+/// This came to port 0 of a client, byte for byte.
+pub fn assert_bytes(rt: &impl Abort, log: &RunLog, client: u8, wanted: &[u8]) -> Result<(), Fail> {
+    let port = PortAddr {
+        client: ClientId::new(client).ok_or("a client number")?,
+        port: PortNo::new(0).ok_or("a port number")?,
+    };
+    let bytes = log.port_bytes(port)?;
+    assert_eq!(rt; bytes.as_slice(), wanted);
+    Ok(())
+}

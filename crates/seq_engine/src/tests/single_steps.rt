@@ -1,0 +1,106 @@
+//! An engine that is taken step by step, and what it says of want of memory.
+
+use super::lines::Lines;
+use super::logs::heard_by;
+use crate::*;
+use agenda_heap::HeapAgenda;
+use std::alloc::Global;
+use std::process::Abort;
+use std::test::Fail;
+
+#[test]
+fn settles_with_nothing_due(rt: HostRuntime) -> Result<(), Fail> {
+    let alloc = rt.alloc();
+    let mut engine = Engine::new(alloc, &[], HeapAgenda::new(alloc));
+    assert_idle(&rt, &mut engine)
+}
+
+/// A new engine has nothing to send.
+fn assert_idle(rt: &impl Abort, engine: &mut Engine<'_, '_, HeapAgenda>) -> Result<(), Fail> {
+    assert_eq!(rt; engine.now(), 0);
+    assert_eq!(rt; engine.steps(), 0);
+    assert_eq!(rt; engine.settle(10)?.len(), 0);
+    assert_eq!(rt; engine.now(), 10);
+    assert_eq!(rt; engine.steps(), 0);
+    assert_eq!(rt; engine.listing()?.len(), 0);
+    Ok(())
+}
+
+/// A note that is scheduled for 6, and one that is sent at 9.
+fn one_due_and_one_sent(alloc: Global) -> Lines {
+    let mut lines = Lines::new(alloc);
+    lines.sender();
+    lines.listener();
+    lines.by(128);
+    lines.queue(1, 0, 480, 500_000);
+    lines.start(1, 128, 0);
+    lines.schedule(1, 128, DueAt::Nanos(5), b"\x90\x01\x40");
+    lines.send(9, 0, b"\x90\x02\x40");
+    lines
+}
+
+/// A step's deliveries are those of the settling before it, and then those of its command.
+#[test]
+fn settles_before_the_command(rt: HostRuntime) -> Result<(), Fail> {
+    let alloc = rt.alloc();
+    let lines = one_due_and_one_sent(alloc);
+    let mut engine = Engine::new(alloc, &[], HeapAgenda::new(alloc));
+    assert_taken(&rt, &mut engine, &lines)
+}
+
+/// Each input is taken, and the last delivers at 6 and 9.
+fn assert_taken(
+    rt: &impl Abort,
+    engine: &mut Engine<'_, '_, HeapAgenda>,
+    lines: &Lines,
+) -> Result<(), Fail> {
+    for input in lines.inputs()? {
+        assert_step(rt, engine, input)?;
+    }
+    assert_eq!(rt; engine.now(), 9);
+    assert_eq!(rt; engine.steps(), 9);
+    Ok(())
+}
+
+fn assert_step(
+    rt: &impl Abort,
+    engine: &mut Engine<'_, '_, HeapAgenda>,
+    input: &Input,
+) -> Result<(), Fail> {
+    assert!(rt; engine.now() <= input.moment);
+    assert!(rt; engine.steps() < u64::MAX);
+    let out = engine.step(input)?;
+    match out.delivered.as_slice() {
+        [] => assert!(rt; input.moment < 9),
+        [first, second] => {
+            assert_eq!(rt; first.moment, 6);
+            assert_eq!(rt; second.moment, 9);
+        }
+        _ => panic!(rt; "one delivery, or more than two"),
+    }
+    Ok(())
+}
+
+/// A run of nothing has an empty log.
+#[test]
+fn nobody_says_anything(rt: HostRuntime) -> Result<(), Fail> {
+    let alloc = rt.alloc();
+    let log = run(alloc, &[], HeapAgenda::new(alloc), &[], u64::MAX)?;
+    assert_eq!(rt; log.entries.len(), 0);
+    assert_eq!(rt; log.listing.len(), 0);
+    assert_eq!(rt; heard_by(alloc, &log, 128)?.as_str(), "");
+    Ok(())
+}
+
+#[test]
+fn faults_print(rt: HostRuntime) -> Result<(), Fail> {
+    assert_eq!(rt;
+        format!(in rt.alloc(); "{}", EngineFault::OutOfMemory)?.as_str(),
+        "out of memory"
+    );
+    assert_eq!(rt;
+        format!(in rt.alloc(); "{}", EngineFault::Failed)?.as_str(),
+        "an earlier call found no memory"
+    );
+    Ok(())
+}

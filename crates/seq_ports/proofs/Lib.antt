@@ -1,2 +1,0 @@
-pub mod Kin
-pub mod Heard
