@@ -1,0 +1,33 @@
+-- What a file of a port's messages says.
+use Rattle.std.specs.Prelude.{ℕ, Bool, ◌&&◌, if◌then◌else◌, List, [], ◌∷◌, Option, Some, None}
+use Rattle.std.specs.List.{filter_map}
+use Rattle.midi_wire.specs.Messages.{begins}
+use Rattle.midi_wire.specs.Writings.{status_of}
+use Rattle.node_table.specs.declared.number.PortAddr.{PortAddr}
+use Rattle.port_record.specs.declared.recording.TheConstants.{PPQ, TEMPO}
+use Rattle.seq_state.specs.declared.log.Delivery.{Delivery}
+use Rattle.seq_state.specs.declared.log.LogEntry.{LogEntry}
+use Rattle.seq_state.specs.declared.log.LogEntry.TheVariants.{Delivered, Replied}
+use Rattle.seq_state.specs.Heard.{comes_to}
+use Rattle.smf_grammar.specs.declared.event.Event.{Event}
+use Rattle.smf_grammar.specs.Texts.{stands_in_files}
+use Rattle.tempo_clock.specs.Ticks.{Tempos, tick_at}
+
+-- 480 ticks per quarter note of half a second: 960 ticks a second
+abbrev pub recording_clock : Tempos
+recording_clock = record { division = PPQ; entries = record { tick = 0; tempo = TEMPO } ∷ [] }
+
+-- a delivery that a file can hold: a message of a channel or an exclusive one
+abbrev pub is_recorded : PortAddr → Delivery → Bool
+is_recorded port d = comes_to port d && stands_in_files (begins (status_of d.message))
+
+-- the event of an entry, where it came to this port
+abbrev pub event_at : PortAddr → LogEntry → Option Event
+event_at port (Delivered d) =
+    if is_recorded port d
+    then Some (record { tick = tick_at recording_clock d.moment; message = d.message }) else None
+event_at port (Replied place moment client reply) = None
+
+-- what came to a port, each at the last tick that has come by its moment
+abbrev pub recorded : PortAddr → List LogEntry → List Event
+recorded port log = filter_map (event_at port) log

@@ -1,0 +1,9 @@
+//! What came to a port, as a Standard MIDI File.
+#![tactic(auto)]
+
+mod recording;
+#[cfg(test)]
+mod tests;
+
+pub use recording::record_file;
+pub use smf_files::WriteFault;

@@ -1,0 +1,103 @@
+//! Numbers in words.
+
+ghost use Rattle.std.specs.Prelude.{◌≡◌, ◌≤◌, ◌<◌, ◌^◌, ℤ};
+ghost use Rattle.script_text.specs.Numbers as says;
+
+use node_table::{Caps, ClientId, FilterNo, PortNo, QueueNo};
+
+/// The number that 1 to 20 decimal digits say, where it fits.
+pub fn number_of(word: &[u8]) -> Option<u64>
+    ensures { result ≡ says.u64 word.now }
+{
+    if word.is_empty() || word.len() > 20 {
+        return None;
+    }
+    let mut value = 0u64;
+    for byte in word {
+        if *byte < b'0' || *byte > b'9' {
+            return None;
+        }
+        value = value.checked_mul(10)?.checked_add(u64::from(*byte - b'0'))?;
+    }
+    Some(value)
+}
+
+/// The number that a word says, where it is not greater.
+pub(crate) fn up_to(word: &[u8], most: u64) -> Option<u64>
+    ensures { result ≡ says.up_to most word.now }
+{
+    let value = number_of(word)?;
+    if value <= most { Some(value) } else { None }
+}
+
+pub(crate) fn u32_of(word: &[u8]) -> Option<u32>
+    ensures { result ≡ says.u32 word.now }
+{
+    let value = up_to(word, 4_294_967_295)?;
+    Some(value as u32)
+}
+
+pub(crate) fn u16_of(word: &[u8]) -> Option<u16>
+    ensures { result ≡ says.u16 word.now }
+{
+    let value = up_to(word, 65_535)?;
+    Some(value as u16)
+}
+
+pub(crate) fn u8_of(word: &[u8]) -> Option<u8>
+    ensures { result ≡ says.u8 word.now }
+{
+    let value = up_to(word, 255)?;
+    Some(value as u8)
+}
+
+/// A number of semitones, with a minus or none.
+pub(crate) fn shift_of(word: &[u8]) -> Option<i16>
+    ensures { result ≡ says.shift word.now }
+{
+    if let [b'-', digits @ ..] = word {
+        let value = up_to(digits, 32_768)?;
+        Some((-(value as i32)) as i16)
+    } else {
+        let value = up_to(word, 32_767)?;
+        Some(value as i16)
+    }
+}
+
+/// The port whose number, 0 to 15, a word says.
+pub fn port_of(word: &[u8]) -> Option<PortNo>
+    ensures { result ≡ says.node_number word.now }
+{
+    let value = up_to(word, 15)?;
+    PortNo::new(value as u8)
+}
+
+pub(crate) fn filter_of(word: &[u8]) -> Option<FilterNo>
+    ensures { result ≡ says.node_number word.now }
+{
+    let value = up_to(word, 15)?;
+    FilterNo::new(value as u8)
+}
+
+pub(crate) fn queue_no_of(word: &[u8]) -> Option<QueueNo>
+    ensures { result ≡ says.queue_number word.now }
+{
+    let value = up_to(word, 7)?;
+    QueueNo::new(value as u8)
+}
+
+/// The client whose number, 128 to 191, a word says.
+pub fn client_of(word: &[u8]) -> Option<ClientId>
+    ensures { result ≡ says.client_number word.now }
+{
+    let value = up_to(word, 191)?;
+    ClientId::new(value as u8)
+}
+
+/// A sum of capabilities.
+pub(crate) fn caps_of(word: &[u8]) -> Option<Caps>
+    ensures { result ≡ says.caps word.now }
+{
+    let value = up_to(word, 255)?;
+    Caps::new(value as u8)
+}

@@ -1,0 +1,290 @@
+//! A cursor over the words of a line.
+
+ghost use Rattle.std.specs.Prelude.{◌≡◌, ◌≤◌, ◌∷◌, length, [], Some, None, IfSome, IfNone, IfOk, IfErr, IsErrOf, map, OnOk, OnErr, true, false};
+ghost use Rattle.script_text.specs.Words.{is_blank, words};
+ghost use Rattle.std.specs.List.{position, position_or_len, prefix_len};
+ghost use Rattle.script_text.specs.Table.{taken, no_more, maybe, file};
+ghost use Rattle.script_text.specs.Numbers.{some_bytes};
+ghost use Rattle.script_text.specs.Numbers as says;
+ghost use Rattle.script_text.specs.declared.script.TheConstants.{MOST_FILES};
+
+use crate::address::{addr_of, due_of, hex_byte, place_of, queue_of};
+use crate::number::{
+    caps_of, filter_of, number_of, port_of, queue_no_of, shift_of, u8_of, u16_of, u32_of,
+};
+use crate::unread::Unread;
+use node_table::{Addr, Caps, FilterNo, PortNo, QueueAddr, QueueNo};
+use seq_state::DueAt;
+use smallvec::SmallVec;
+use std::alloc::Global;
+use std::marker::Model;
+
+/// So many bytes of a line take no memory: most messages have three or less.
+const SHORT: usize = 8;
+
+/// The words of a line that are left.
+#[derive(Drop)]
+pub(crate) struct Words<'b> {
+    rest: &'b [u8],
+}
+
+impl<'b> Model for Words<'b> {
+    ghost use Rattle.std.specs.Prelude.{List, ℕ};
+    ghost use Rattle.script_text.specs.Words.{words};
+
+    ghost Value = { List (List ℕ) };
+
+    ghost view = { λ w. words w.rest.now };
+}
+
+fn is_blank(byte: u8) -> bool
+    ensures { result ≡ is_blank byte }
+{
+    byte == b' ' || byte == b'\t'
+}
+
+/// How many blanks stand at the front.
+fn blanks(bytes: &[u8]) -> usize
+    ensures value { result ≡ prefix_len is_blank bytes.now }
+    ensures within { result ≤ length bytes.now }
+{
+    let mut n = 0;
+    while n < bytes.len() && is_blank(bytes[n]) {
+        n += 1;
+    }
+    n
+}
+
+fn first_blank(bytes: &[u8]) -> Option<usize>
+    ensures { result ≡ position is_blank bytes.now }
+{
+    bytes.iter().position(|b| is_blank(*b))
+}
+
+/// How long the word at the front is.
+fn word_len(bytes: &[u8]) -> usize
+    ensures value { result ≡ position_or_len is_blank bytes.now }
+    ensures within { result ≤ length bytes.now }
+{
+    first_blank(bytes).unwrap_or(bytes.len())
+}
+
+impl<'b> Words<'b> {
+    pub(crate) fn new(line: &'b [u8]) -> Words<'b>
+        ensures { result ≡ words line.now }
+    {
+        Words { rest: line }
+    }
+
+    /// The next word.
+    pub(crate) fn word(&mut self) -> Option<&'b [u8]>
+        ensures some { IfSome result (λ w. self.old ≡ w.now ∷ self.new) }
+        ensures none { IfNone result (self.old ≡ []) }
+    {
+        let line = &self.rest[blanks(self.rest)..];
+        if line.is_empty() {
+            return None;
+        }
+        let (word, rest) = line.split_at(word_len(line));
+        self.rest = rest;
+        Some(word)
+    }
+
+    /// The next word, whatever it is.
+    pub(crate) fn any(&mut self) -> Result<&'b [u8], Unread>
+        ensures ok { IfOk result (λ w. taken says.any self.old ≡ Some (w.now, self.new)) }
+        ensures err { OnErr result (taken says.any self.old ≡ None) }
+        ensures only { IfErr result (λ e. e ≡ Unread.Unreadable) }
+    {
+        let word = self.word().ok_or(Unread::Unreadable)?;
+        Ok(word)
+    }
+
+    /// No word is left.
+    pub(crate) fn end(&mut self) -> Result<(), Unread>
+        ensures ok { OnOk result (no_more self.old ≡ true) }
+        ensures err { OnErr result (no_more self.old ≡ false) }
+        ensures only { IfErr result (λ e. e ≡ Unread.Unreadable) }
+    {
+        match self.word() {
+            Some(_) => Err(Unread::Unreadable),
+            None => Ok(()),
+        }
+    }
+
+    /// A number of 64 bits.
+    pub(crate) fn u64(&mut self) -> Result<u64, Unread>
+        ensures ok { IfOk result (λ x. taken says.u64 self.old ≡ Some (x, self.new)) }
+        ensures err { OnErr result (taken says.u64 self.old ≡ None) }
+        ensures only { IfErr result (λ e. e ≡ Unread.Unreadable) }
+    {
+        let word = self.word().ok_or(Unread::Unreadable)?;
+        let value = number_of(word).ok_or(Unread::Unreadable)?;
+        Ok(value)
+    }
+
+    /// A number of 32 bits.
+    pub(crate) fn u32(&mut self) -> Result<u32, Unread>
+        ensures ok { IfOk result (λ x. taken says.u32 self.old ≡ Some (x, self.new)) }
+        ensures err { OnErr result (taken says.u32 self.old ≡ None) }
+        ensures only { IfErr result (λ e. e ≡ Unread.Unreadable) }
+    {
+        let word = self.word().ok_or(Unread::Unreadable)?;
+        let value = u32_of(word).ok_or(Unread::Unreadable)?;
+        Ok(value)
+    }
+
+    /// A number of 16 bits.
+    pub(crate) fn u16(&mut self) -> Result<u16, Unread>
+        ensures ok { IfOk result (λ x. taken says.u16 self.old ≡ Some (x, self.new)) }
+        ensures err { OnErr result (taken says.u16 self.old ≡ None) }
+        ensures only { IfErr result (λ e. e ≡ Unread.Unreadable) }
+    {
+        let word = self.word().ok_or(Unread::Unreadable)?;
+        let value = u16_of(word).ok_or(Unread::Unreadable)?;
+        Ok(value)
+    }
+
+    /// A number of 8 bits.
+    pub(crate) fn u8(&mut self) -> Result<u8, Unread>
+        ensures ok { IfOk result (λ x. taken says.u8 self.old ≡ Some (x, self.new)) }
+        ensures err { OnErr result (taken says.u8 self.old ≡ None) }
+        ensures only { IfErr result (λ e. e ≡ Unread.Unreadable) }
+    {
+        let word = self.word().ok_or(Unread::Unreadable)?;
+        let value = u8_of(word).ok_or(Unread::Unreadable)?;
+        Ok(value)
+    }
+
+    /// A number of semitones.
+    pub(crate) fn shift(&mut self) -> Result<i16, Unread>
+        ensures ok { IfOk result (λ x. taken says.shift self.old ≡ Some (x, self.new)) }
+        ensures err { OnErr result (taken says.shift self.old ≡ None) }
+        ensures only { IfErr result (λ e. e ≡ Unread.Unreadable) }
+    {
+        let word = self.word().ok_or(Unread::Unreadable)?;
+        let value = shift_of(word).ok_or(Unread::Unreadable)?;
+        Ok(value)
+    }
+
+    /// The number of a port.
+    pub(crate) fn port(&mut self) -> Result<PortNo, Unread>
+        ensures ok { IfOk result (λ x. taken says.node_number self.old ≡ Some (x, self.new)) }
+        ensures err { OnErr result (taken says.node_number self.old ≡ None) }
+        ensures only { IfErr result (λ e. e ≡ Unread.Unreadable) }
+    {
+        let word = self.word().ok_or(Unread::Unreadable)?;
+        let value = port_of(word).ok_or(Unread::Unreadable)?;
+        Ok(value)
+    }
+
+    /// The number of a filter.
+    pub(crate) fn filter(&mut self) -> Result<FilterNo, Unread>
+        ensures ok { IfOk result (λ x. taken says.node_number self.old ≡ Some (x, self.new)) }
+        ensures err { OnErr result (taken says.node_number self.old ≡ None) }
+        ensures only { IfErr result (λ e. e ≡ Unread.Unreadable) }
+    {
+        let word = self.word().ok_or(Unread::Unreadable)?;
+        let value = filter_of(word).ok_or(Unread::Unreadable)?;
+        Ok(value)
+    }
+
+    /// The number of a queue.
+    pub(crate) fn queue_no(&mut self) -> Result<QueueNo, Unread>
+        ensures ok { IfOk result (λ x. taken says.queue_number self.old ≡ Some (x, self.new)) }
+        ensures err { OnErr result (taken says.queue_number self.old ≡ None) }
+        ensures only { IfErr result (λ e. e ≡ Unread.Unreadable) }
+    {
+        let word = self.word().ok_or(Unread::Unreadable)?;
+        let value = queue_no_of(word).ok_or(Unread::Unreadable)?;
+        Ok(value)
+    }
+
+    /// Capabilities.
+    pub(crate) fn caps(&mut self) -> Result<Caps, Unread>
+        ensures ok { IfOk result (λ x. taken says.caps self.old ≡ Some (x, self.new)) }
+        ensures err { OnErr result (taken says.caps self.old ≡ None) }
+        ensures only { IfErr result (λ e. e ≡ Unread.Unreadable) }
+    {
+        let word = self.word().ok_or(Unread::Unreadable)?;
+        let value = caps_of(word).ok_or(Unread::Unreadable)?;
+        Ok(value)
+    }
+
+    /// The address of a node.
+    pub(crate) fn addr(&mut self) -> Result<Addr, Unread>
+        ensures ok { IfOk result (λ x. taken says.addr self.old ≡ Some (x, self.new)) }
+        ensures err { OnErr result (taken says.addr self.old ≡ None) }
+        ensures only { IfErr result (λ e. e ≡ Unread.Unreadable) }
+    {
+        let word = self.word().ok_or(Unread::Unreadable)?;
+        let value = addr_of(word).ok_or(Unread::Unreadable)?;
+        Ok(value)
+    }
+
+    /// The address of a queue.
+    pub(crate) fn queue(&mut self) -> Result<QueueAddr, Unread>
+        ensures ok { IfOk result (λ x. taken says.queue self.old ≡ Some (x, self.new)) }
+        ensures err { OnErr result (taken says.queue self.old ≡ None) }
+        ensures only { IfErr result (λ e. e ≡ Unread.Unreadable) }
+    {
+        let word = self.word().ok_or(Unread::Unreadable)?;
+        let value = queue_of(word).ok_or(Unread::Unreadable)?;
+        Ok(value)
+    }
+
+    /// A due time.
+    pub(crate) fn due(&mut self) -> Result<DueAt, Unread>
+        ensures ok { IfOk result (λ x. taken says.due self.old ≡ Some (x, self.new)) }
+        ensures err { OnErr result (taken says.due self.old ≡ None) }
+        ensures only { IfErr result (λ e. e ≡ Unread.Unreadable) }
+    {
+        let word = self.word().ok_or(Unread::Unreadable)?;
+        let value = due_of(word).ok_or(Unread::Unreadable)?;
+        Ok(value)
+    }
+
+    /// The number of a file, by its name.
+    pub(crate) fn file(&mut self, names: &[Vec<u8>]) -> Result<u32, Unread>
+        requires { length names.now ≤ MOST_FILES }
+        ensures ok { IfOk result (λ x.
+            taken (file (map (λ n. n.items) names.now)) self.old ≡ Some (x, self.new)) }
+        ensures err { OnErr result (taken (file (map (λ n. n.items) names.now)) self.old ≡ None) }
+        ensures only { IfErr result (λ e. e ≡ Unread.Unreadable) }
+    {
+        let word = self.word().ok_or(Unread::Unreadable)?;
+        Ok(place_of(names, word))
+    }
+
+    /// A last number of 8 bits, or nothing.
+    pub(crate) fn maybe_u8(&mut self) -> Result<Option<u8>, Unread>
+        ensures ok { IfOk result (λ x. maybe says.u8 self.old ≡ Some x) }
+        ensures err { OnErr result (maybe says.u8 self.old ≡ None) }
+        ensures only { IfErr result (λ e. e ≡ Unread.Unreadable) }
+    {
+        match self.word() {
+            None => Ok(None),
+            Some(word) => {
+                let value = u8_of(word).ok_or(Unread::Unreadable)?;
+                self.end()?;
+                Ok(Some(value))
+            }
+        }
+    }
+
+    /// The bytes that all words say, one or more.
+    pub(crate) fn bytes(&mut self, alloc: Global) -> Result<SmallVec<u8, SHORT>, Unread>
+        ensures ok { IfOk result (λ x. some_bytes self.old ≡ Some x.items) }
+        ensures err { IsErrOf result Unread.Unreadable → some_bytes self.old ≡ None }
+    {
+        let mut bytes = SmallVec::new(alloc);
+        while let Some(word) = self.word() {
+            let byte = hex_byte(word).ok_or(Unread::Unreadable)?;
+            bytes.push(byte)?;
+        }
+        if bytes.is_empty() {
+            return Err(Unread::Unreadable);
+        }
+        Ok(bytes)
+    }
+}

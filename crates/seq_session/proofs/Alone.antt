@@ -1,0 +1,102 @@
+-- What the texts of a session are, and that each log is isolated.
+use Rattle.std.proofs.Common.{◌≡◌, ℕ, ◌≤◌, ◌<◌, Bool, true, false, cond, eqb, List, [], ◌∷◌, ◌++◌, map, length, Option, Some, None, OnOk, Result, Ok, Err, refl, sym, ap, subst, ◌∙◌, arith}
+use Rattle.std.specs.List.{AllByRecursion}
+use Rattle.std.proofs.lemmas.Bool.{eq-eqb, ne_eqb}
+use Rattle.std.proofs.lemmas.List.{length-map}
+use Rattle.seq_state.specs.declared.log.LogEntry.{LogEntry}
+use Rattle.seq_state.specs.Step.{plain}
+use Rattle.script_text.specs.declared.reading.ScriptRead.{ScriptRead}
+use Rattle.script_text.proofs.Read.{script-client}
+use Rattle.seq_session.specs.declared.fault.SessionFault.{SessionFault}
+use Rattle.seq_session.specs.declared.fault.SessionFault.TheVariants.{OutOfMemory, Read, Write, WriteListing}
+use Rattle.seq_session.specs.declared.merged.Merged.{Merged}
+use Rattle.seq_session.specs.declared.source.Script.{Script}
+use Rattle.seq_session.specs.declared.source.ScriptSource.{ScriptSource}
+use Rattle.seq_session.specs.Rising.{RiseFrom, AreRising}
+use Rattle.seq_session.specs.Merging.{merged, inputs_of, lines_of}
+use Rattle.seq_session.specs.Logs.{log_text}
+use Rattle.seq_session.specs.AllLogs.{clients_read}
+use Rattle.seq_session.specs.Sessions.{Folder, read, session, log_of, all_logs, clients_of, script_for}
+use Rattle.seq_session.specs.Devices.{clients, script_told, told, AreOpen, Wrote, IsAlone, AreAlone, log_of_fault, IsReading, LogsTell}
+use Rattle.seq_session.proofs.Blamed.{none_told}
+use Rattle.seq_session.proofs.Isolated.{log_law}
+
+-- ---- the texts
+
+pub read-clients : (folder : Folder) (end : ℕ) (scripts : List Script) → clients_read (map (read folder end) scripts) ≡ clients_of scripts
+read-clients folder end [] = refl
+read-clients folder end (s ∷ scripts) =
+    ap (λ c. c ∷ clients_read (map (read folder end) scripts)) (script-client s.client folder.names end s.text)
+    ∙ ap (λ cs. s.client ∷ cs) (read-clients folder end scripts)
+
+each_text : (folder : Folder) (end : ℕ) (lines : List ℕ) (entries : List LogEntry) (scripts : List Script) →
+    map (λ r. log_text r lines entries) (map (read folder end) scripts) ≡ map (λ s. log_text (read folder end s) lines entries) scripts
+each_text folder end lines entries [] = refl
+each_text folder end lines entries (s ∷ scripts) = ap (λ ts. log_text (read folder end s) lines entries ∷ ts) (each_text folder end lines entries scripts)
+
+pub logs_made : (folder : Folder) (end : ℕ) (scripts : List Script) (reads : List ScriptRead) (m : Merged) (entries : List LogEntry) →
+    reads ≡ map (read folder end) scripts → m ≡ merged (map (read folder end) scripts) → entries ≡ plain folder.files m.inputs end → map (λ r. log_text r m.lines entries) reads ≡ all_logs folder end scripts
+logs_made folder end scripts reads m entries r e p =
+    ap (map (λ r. log_text r m.lines entries)) r
+    ∙ each_text folder end m.lines entries scripts
+    ∙ ap (λ es. map (λ s. log_text (read folder end s) m.lines es) scripts) p
+    ∙ ap (λ (n : Merged). map (λ s. log_text (read folder end s) n.lines (plain folder.files n.inputs end)) scripts) e
+
+-- ---- each log is isolated
+
+later_scripts : (s : Script) (low : ℕ) (ss xs : List Script) → s.client ≤ low → RiseFrom low (clients_of xs) → AllByRecursion (λ x. script_for x.client ss ≡ Some x) xs → AllByRecursion (λ x. script_for x.client (s ∷ ss) ≡ Some x) xs
+later_scripts s low ss [] l r h = tt
+later_scripts s low ss (x ∷ xs) l r h =
+    let m : low < x.client = r.0 in
+    (ap (λ b. cond b (Some s) (script_for x.client ss)) (ne_eqb s.client x.client (λ e. omega arith)) ∙ h.0, later_scripts s x.client ss xs (omega arith) r.1 h.1)
+
+own_from : (low : ℕ) (scripts : List Script) → RiseFrom low (clients_of scripts) → AllByRecursion (λ x. script_for x.client scripts ≡ Some x) scripts
+own_from low [] r = tt
+own_from low (s ∷ scripts) r =
+    (ap (λ b. cond b (Some s) (script_for s.client scripts)) (eq-eqb s.client s.client refl), later_scripts s s.client scripts scripts (omega arith) r.1 (own_from s.client scripts r.1))
+
+-- each client's script is the one that stands for it
+own_scripts : (scripts : List Script) → AreRising (clients_of scripts) → AllByRecursion (λ x. script_for x.client scripts ≡ Some x) scripts
+own_scripts [] r = tt
+own_scripts (s ∷ scripts) r =
+    (ap (λ b. cond b (Some s) (script_for s.client scripts)) (eq-eqb s.client s.client refl), later_scripts s s.client scripts scripts (omega arith) r (own_from s.client scripts r))
+
+module _ {W : Type 0} (folder : Folder) (end : ℕ) (taken : W → List ℕ) (scripts : List Script) (rise : AreRising (clients_of scripts)) where
+  each_alone : (owners : List Script) (olds news : List W) → AllByRecursion (λ x. script_for x.client scripts ≡ Some x) owners → Wrote taken olds news (map (log_of folder end scripts) owners) → AreAlone folder end taken scripts owners olds news
+  each_alone [] [] [] own h = tt
+  each_alone [] [] (n ∷ news) own h = h
+  each_alone [] (o ∷ olds) [] own h = h
+  each_alone [] (o ∷ olds) (n ∷ news) own h = h
+  each_alone (s ∷ owners) [] [] own h = h
+  each_alone (s ∷ owners) [] (n ∷ news) own h = h
+  each_alone (s ∷ owners) (o ∷ olds) [] own h = h
+  each_alone (s ∷ owners) (o ∷ olds) (n ∷ news) own h = (
+    record { gained = log_of folder end scripts s; appended = h.0; alone = λ member closed. log_law folder end s member scripts rise own.0 closed },
+    each_alone owners olds news own.1 h.1,
+  )
+
+  pub all_alone : (olds news : List W) → Wrote taken olds news (all_logs folder end scripts) → AreAlone folder end taken scripts scripts olds news
+  all_alone olds news h = each_alone scripts olds news (own_scripts scripts rise) h
+
+-- ---- before anything is written
+
+pub no_log : (e : SessionFault) → IsReading e → log_of_fault e ≡ None
+no_log OutOfMemory h = refl
+no_log (Read client) h = refl
+no_log (Write client) h = absurd h
+no_log WriteListing h = absurd h
+
+-- no log is blamed
+pub none_blamed : {R W : Type 0} (failed eager : W → Bool) (blamed : Option ℕ) (sources : List (ScriptSource R)) (logs : List W) →
+    blamed ≡ None → length logs ≡ length sources → AreOpen failed logs → LogsTell failed eager blamed (clients sources) logs
+none_blamed failed eager blamed sources logs b n s =
+    subst (λ bl. LogsTell failed eager bl (clients sources) logs) (sym b)
+    (none_told failed eager (clients sources) logs (n ∙ sym (length-map sources (λ s. s.client))) s)
+
+pub told-clients : {R : Type 0} (left : R → List ℕ) (sources : List (ScriptSource R)) → clients_of (told left sources) ≡ clients sources
+told-clients left [] = refl
+told-clients left (s ∷ sources) = ap (λ cs. s.client ∷ cs) (told-clients left sources)
+
+pub on_ok : {T E P : Type 0} (r : Result T E) → P → OnOk r P
+on_ok (Ok x) p = p
+on_ok (Err e) p = tt

@@ -1,0 +1,9 @@
+pub mod Rising
+pub mod Merging
+pub mod Logs
+pub mod AllLogs
+pub mod Sessions
+pub mod Blank
+pub mod Devices
+pub mod Laws
+pub mod Rows

@@ -1,0 +1,59 @@
+-- A session: scripts of clients, run together, and the log of each.
+use Rattle.std.specs.Prelude.{ℕ, ◌==◌, Bool, if◌then◌else◌, List, [], ◌∷◌, map, Option, Some, None}
+use Rattle.std.specs.List.{filter}
+use Rattle.seq_state.specs.declared.log.LogEntry.{LogEntry}
+use Rattle.seq_state.specs.Files.{File}
+use Rattle.seq_state.specs.State.{start}
+use Rattle.seq_state.specs.Step.{plain, state_after}
+use Rattle.seq_engine.specs.Ending.{listing_of}
+use Rattle.script_text.specs.declared.reading.ScriptRead.{ScriptRead}
+use Rattle.script_text.specs.declared.reading.ScriptInput.{ScriptInput}
+use Rattle.script_text.specs.Scripts.{script}
+use Rattle.seq_session.specs.declared.source.Script.{Script}
+use Rattle.seq_session.specs.Merging.{in_order, inputs_of, lines_of}
+use Rattle.seq_session.specs.Logs.{log_text}
+
+-- The files of a run, with their names.
+pub record Folder : Type 0 where
+  pub names : List (List ℕ)
+  pub files : List File
+
+abbrev pub read : Folder → ℕ → Script → ScriptRead
+read folder end s = script s.client folder.names end s.text
+
+-- the inputs of the session, in order, with their lines
+abbrev pub session : Folder → ℕ → List Script → List ScriptInput
+session folder end scripts = in_order (map (read folder end) scripts)
+
+-- what happens
+abbrev pub happens : Folder → ℕ → List Script → List LogEntry
+happens folder end scripts = plain folder.files (inputs_of (session folder end scripts)) end
+
+-- the log of one of the scripts
+abbrev pub log_of : Folder → ℕ → List Script → Script → List ℕ
+log_of folder end scripts s =
+    log_text (read folder end s) (lines_of (session folder end scripts))
+    (happens folder end scripts)
+
+-- each script's log
+abbrev pub all_logs : Folder → ℕ → List Script → List (List ℕ)
+all_logs folder end scripts = map (log_of folder end scripts) scripts
+
+-- who is there at the end, as text
+abbrev pub listing_after : Folder → ℕ → List Script → List ℕ
+listing_after folder end scripts =
+    listing_of (state_after folder.files start (inputs_of (session folder end scripts)))
+
+-- ---- scripts by client
+
+abbrev pub clients_of : List Script → List ℕ
+clients_of scripts = map (λ s. s.client) scripts
+
+-- the script of a client, if it has one
+abbrev pub script_for : ℕ → List Script → Option Script
+script_for client [] = None
+script_for client (s ∷ scripts) = if s.client == client then Some s else script_for client scripts
+
+-- the scripts of a circle
+abbrev pub only_scripts : (ℕ → Bool) → List Script → List Script
+only_scripts member scripts = filter (λ s. member s.client) scripts

@@ -1,0 +1,201 @@
+//! Sessions from the bytes of scripts to the bytes of logs.
+
+ghost use Rattle.std.specs.Prelude.{◌≡◌, ◌++◌, ℕ, true, false, map, length, IfOk, IfErr, OnOk, IsErrOf, IfSome};
+ghost use Rattle.std.specs.FinMap as finmap;
+ghost use Rattle.byte_io.specs.Moved.{GainsBytes};
+ghost use Rattle.seq_state.specs.State.{start};
+ghost use Rattle.seq_state.specs.Step.{plain, state_after, IsTimed};
+ghost use Rattle.seq_engine.specs.Ending.{listing_of};
+ghost use Rattle.seq_session.specs.Rising.{AreRising};
+ghost use Rattle.seq_session.specs.Merging.{inputs_of};
+ghost use Rattle.seq_session.specs.Sessions.{happens, all_logs, listing_after, clients_of};
+ghost use Rattle.seq_session.specs.Devices.{clients, told, AreSound, AllTell, AreOpen, TellAll, Wrote, WroteUpTo, AreAlone, reader_blamed, log_blamed, blames_listing, IsAmong, IsReading, ReadersTell, IsTold, LogsTell};
+
+use crate::fault::SessionFault;
+use crate::log::log_texts;
+use crate::merged::Merged;
+use crate::merging::merge;
+use crate::named_files::NamedFiles;
+use crate::parse::parse_all;
+use crate::reading::read_all;
+use crate::source::{Script, ScriptSource};
+use crate::writing::{write_listing, write_logs};
+use agenda_heap::Agenda;
+use byte_io::{Sink, Source};
+use memory::OutOfMemory;
+use seq_engine::{RunLog, run};
+use std::alloc::Global;
+
+/// Reads the script of each client, runs all of them together up to `until`, and writes each
+/// client's log, in the order of the scripts, and then the listing of who is there at the end.
+///
+/// The numbers of the clients rise, `logs` are as many as the scripts, no device has failed, and the
+/// agenda is empty. All is read, and the texts of all logs and of the listing are made, before
+/// anything is written. Of a script with more than `MOST_SCRIPT` bytes one byte more is read.
+///
+/// A sink that finds no memory has failed: that is `Write` or `WriteListing`. A reader that finds
+/// none is `Read`. `OutOfMemory` is want of memory anywhere else.
+pub fn run_sessions<'f, 'b, R: Source, W: Sink, A: Agenda + Drop>(
+    alloc: Global,
+    scripts: &mut [ScriptSource<R>],
+    files: &NamedFiles<'f, 'b>,
+    agenda: A,
+    until: u64,
+    logs: &mut [W],
+    listing: &mut W,
+) -> Result<(), SessionFault>
+    requires rising { AreRising (clients scripts.old) }
+    requires as_many { length logs.old ≡ length scripts.old }
+    requires readers { AreSound R.failed scripts.old }
+    requires writers { AreOpen W.failed logs.old }
+    requires listing { W.failed listing.old ≡ false }
+    requires empty { A.content agenda ≡ finmap.empty }
+
+    // Each log gains the client's log in the session of the scripts, and the listing who is there at the end.
+    ensures logs { AllTell R.tells scripts.old → TellAll W.tells logs.old
+        → OnOk result (Wrote W.taken logs.old logs.new
+        (all_logs files.now until (told R.left scripts.old))) }
+    ensures listing { AllTell R.tells scripts.old → W.tells listing.old ≡ true
+        → OnOk result (W.taken listing.new ≡ W.taken listing.old
+        ++ listing_after files.now until (told R.left scripts.old)) }
+
+    // Where a circle of clients is closed round the owner of a log, what the log gains tells what it tells in the session
+    // of the circle's scripts alone, whatever all others say.
+    ensures isolated { AllTell R.tells scripts.old → TellAll W.tells logs.old
+        → OnOk result (AreAlone files.now until W.taken
+        (told R.left scripts.old) (told R.left scripts.old) logs.old logs.new) }
+
+    // Before all is read, and the texts are made, nothing is written.
+    ensures unwritten { IfErr result (λ e. IsReading e
+        → (logs.new ≡ logs.old) × (listing.new ≡ listing.old)) }
+
+    // At a write fault the earlier logs are whole, that one has a front of its text, and nothing is written any more.
+    ensures part { AllTell R.tells scripts.old → TellAll W.tells logs.old
+        → IfSome (log_blamed result) (λ k. WroteUpTo W.taken k (clients scripts.old)
+        logs.old logs.new (all_logs files.now until (told R.left scripts.old))) }
+    ensures no_listing { IfSome (log_blamed result) (λ _. listing.new ≡ listing.old) }
+    ensures whole { AllTell R.tells scripts.old → TellAll W.tells logs.old
+        → blames_listing result ≡ true → Wrote W.taken logs.old logs.new
+        (all_logs files.now until (told R.left scripts.old)) }
+    ensures listing_part { AllTell R.tells scripts.old → W.tells listing.old ≡ true
+        → blames_listing result ≡ true → GainsBytes (W.taken listing.old) (W.taken listing.new)
+        (listing_after files.now until (told R.left scripts.old)) }
+
+    // A device is blamed where it failed in this call, or is a sink that may take no byte, and wherever it failed.
+    ensures clients { clients scripts.new ≡ clients scripts.old }
+    ensures reader_marks { ReadersTell R.failed (reader_blamed result) scripts.new }
+    ensures reader_blamed { IfSome (reader_blamed result) (λ k. IsAmong k (clients scripts.old)) }
+    ensures log_marks { LogsTell W.failed W.takes_some (log_blamed result)
+        (clients scripts.old) logs.new }
+    ensures log_blamed { IfSome (log_blamed result) (λ k. IsAmong k (clients scripts.old)) }
+    ensures listing_mark { IsTold (W.failed listing.new) (W.takes_some listing.new)
+        (blames_listing result) }
+{
+    let mut told = Vec::new(alloc);
+    read_all(alloc, scripts, &mut told)?;
+    let texts = run_texts(alloc, told.as_slice(), files, agenda, until)?;
+    write_logs(told.as_slice(), logs, texts.logs.as_slice())?;
+    write_listing(listing, texts.run.listing.as_slice())
+}
+
+/// Reads the script of each client and runs all of them together up to `until`, without their logs.
+///
+/// The numbers of the clients rise, no device has failed, and the agenda is empty. A reader that finds no memory is
+/// `Read`; `OutOfMemory` is want of memory anywhere else.
+pub fn run_scripts<'f, 'b, R: Source, A: Agenda + Drop>(
+    alloc: Global,
+    scripts: &mut [ScriptSource<R>],
+    files: &NamedFiles<'f, 'b>,
+    agenda: A,
+    until: u64,
+) -> Result<RunLog, SessionFault>
+    requires rising { AreRising (clients scripts.old) }
+    requires readers { AreSound R.failed scripts.old }
+    requires empty { A.content agenda ≡ finmap.empty }
+    ensures plain { AllTell R.tells scripts.old → IfOk result (λ log.
+        log.entries ≡ happens files.now until (told R.left scripts.old)) }
+    ensures listing { AllTell R.tells scripts.old → IfOk result (λ log.
+        log.listing ≡ listing_after files.now until (told R.left scripts.old)) }
+    ensures only { IfErr result IsReading }
+    ensures clients { clients scripts.new ≡ clients scripts.old }
+    ensures reader_marks { ReadersTell R.failed (reader_blamed result) scripts.new }
+    ensures reader_blamed { IfSome (reader_blamed result) (λ k. IsAmong k (clients scripts.old)) }
+{
+    let mut read = Vec::new(alloc);
+    read_all(alloc, scripts, &mut read)?;
+    Ok(run_told(alloc, read.as_slice(), files, agenda, until)?)
+}
+
+/// Runs the scripts.
+fn run_told<'f, 'b, A: Agenda + Drop>(
+    alloc: Global,
+    scripts: &[Script],
+    files: &NamedFiles<'f, 'b>,
+    agenda: A,
+    until: u64,
+) -> Result<RunLog, OutOfMemory>
+    requires empty { A.content agenda ≡ finmap.empty }
+    ensures plain { IfOk result (λ log. log.entries ≡ happens files.now until scripts.now) }
+    ensures listing { IfOk result (λ log. log.listing ≡ listing_after files.now until scripts.now) }
+{
+    let reads = parse_all(alloc, scripts, files, until)?;
+    let merged = merge(alloc, reads.as_slice())?;
+    run_merged(alloc, files, agenda, &merged, until)
+}
+
+/// What a session writes.
+#[derive(Drop)]
+struct SessionTexts {
+    /// The log of each client.
+    logs: Vec<Vec<u8>>,
+    /// The run, with its listing.
+    run: RunLog,
+}
+
+/// Runs the scripts, and makes the texts.
+fn run_texts<'f, 'b, A: Agenda + Drop>(
+    alloc: Global,
+    scripts: &[Script],
+    files: &NamedFiles<'f, 'b>,
+    agenda: A,
+    until: u64,
+) -> Result<SessionTexts, OutOfMemory>
+    requires rising { AreRising (clients_of scripts.now) }
+    requires empty { A.content agenda ≡ finmap.empty }
+    ensures logs { IfOk result (λ t.
+        map (λ l. l.items) t.logs.items ≡ all_logs files.now until scripts.now) }
+    ensures listing { IfOk result (λ t. t.run.listing ≡ listing_after files.now until scripts.now) }
+{
+    let reads = parse_all(alloc, scripts, files, until)?;
+    let merged = merge(alloc, reads.as_slice())?;
+    let run = run_merged(alloc, files, agenda, &merged, until)?;
+    let logs = log_texts(alloc, reads.as_slice(), &merged, &run)?;
+    Ok(SessionTexts { logs, run })
+}
+
+/// Runs the inputs of a session.
+fn run_merged<'f, 'b, A: Agenda + Drop>(
+    alloc: Global,
+    files: &NamedFiles<'f, 'b>,
+    agenda: A,
+    merged: &Merged,
+    until: u64,
+) -> Result<RunLog, OutOfMemory>
+    requires timed { IsTimed merged.now.inputs until }
+    requires empty { A.content agenda ≡ finmap.empty }
+    ensures plain { IfOk result (λ log.
+        log.entries ≡ plain files.now.files merged.now.inputs until) }
+    ensures listing { IfOk result (λ log.
+        log.listing ≡ listing_of (state_after files.now.files start merged.now.inputs)) }
+{
+    match run(
+        alloc,
+        files.files(),
+        agenda,
+        merged.inputs.as_slice(),
+        until,
+    ) {
+        Ok(log) => Ok(log),
+        Err(_) => Err(OutOfMemory),
+    }
+}

@@ -1,0 +1,208 @@
+//! Devices that fail.
+
+use super::devices::Devices;
+use super::sending::{FIRST_NOTE, LISTENER, SENDER};
+use super::session::{Session, assert_text};
+use super::strangers::HOSTILE_THIRD_SCRIPT;
+use crate::*;
+use agenda_heap::HeapAgenda;
+use byte_io::MemSink;
+use node_table::ClientId;
+use std::alloc::Global;
+use std::process::Abort;
+use std::test::Fail;
+
+/// The first note, beside a third script that is empty.
+fn devices(alloc: Global) -> Result<Devices, Fail> {
+    let mut devices = Devices::of(alloc, FIRST_NOTE.parts)?;
+    devices.add(alloc, 131, b"")?;
+    Ok(devices)
+}
+
+fn run_to_fault(alloc: Global, devices: &mut Devices) -> Result<Option<SessionFault>, Fail> {
+    run_to(alloc, devices, FIRST_NOTE.until)
+}
+
+/// Runs a session without files.
+fn run_to(alloc: Global, devices: &mut Devices, until: u64) -> Result<Option<SessionFault>, Fail> {
+    let files = NamedFiles::new(&[], &[]).ok_or("no files")?;
+    devices.run(alloc, &files, HeapAgenda::new(alloc), until)
+}
+
+fn client(number: u8) -> Result<ClientId, Fail> {
+    Ok(ClientId::new(number).ok_or("a client number")?)
+}
+
+#[test]
+fn reader_that_fails(rt: HostRuntime) -> Result<(), Fail> {
+    let alloc = rt.alloc();
+    let mut devices = devices(alloc)?;
+    if let Some(source) = devices.scripts.last_mut() {
+        source.reader.fail_at(0);
+    }
+    let fault = run_to_fault(alloc, &mut devices)?;
+    let client = client(131)?;
+    assert_eq!(rt; fault, Some(SessionFault::Read { client }));
+    for log in devices.logs.iter() {
+        assert_text(&rt, log.bytes(), "");
+    }
+    assert_text(&rt, devices.listing.bytes(), "");
+    Ok(())
+}
+
+/// A log takes ten bytes, and then fails.
+#[test]
+fn log_that_fails(rt: HostRuntime) -> Result<(), Fail> {
+    let alloc = rt.alloc();
+    let mut devices = devices(alloc)?;
+    if let Some(log) = devices.logs.get_mut(1) {
+        log.piece(10);
+        log.fail_at(1);
+    }
+    let fault = run_to_fault(alloc, &mut devices)?;
+    let client = client(129)?;
+    assert_eq!(rt; fault, Some(SessionFault::Write { client }));
+    let wanted = [SENDER.log, "0 line 1 o", ""];
+    for (log, wanted) in devices.logs.iter().zip(wanted.iter()) {
+        assert_text(&rt, log.bytes(), wanted);
+    }
+    assert_text(&rt, devices.listing.bytes(), "");
+    Ok(())
+}
+
+/// The listing takes no byte. All logs are whole.
+#[test]
+fn listing_that_takes_nothing(rt: HostRuntime) -> Result<(), Fail> {
+    let alloc = rt.alloc();
+    let mut devices = devices(alloc)?;
+    devices.listing.piece(0);
+    let fault = run_to_fault(alloc, &mut devices)?;
+    assert_eq!(rt; fault, Some(SessionFault::WriteListing));
+    let wanted = [SENDER.log, LISTENER.log, ""];
+    for (log, wanted) in devices.logs.iter().zip(wanted.iter()) {
+        assert_text(&rt, log.bytes(), wanted);
+    }
+    assert_text(&rt, devices.listing.bytes(), "");
+    Ok(())
+}
+
+/// What a session without a failure leaves.
+fn plain(rt: &impl Abort, alloc: Global, session: &Session) -> Result<Devices, Fail> {
+    let mut plain = Devices::of(alloc, session.parts)?;
+    assert!(rt; run_to(alloc, &mut plain, session.until)?.is_none());
+    Ok(plain)
+}
+
+/// The devices of a session whose sinks have room for what the plain run leaves, and take a byte at a time.
+fn bytewise(alloc: Global, session: &Session, plain: &Devices) -> Result<Devices, Fail> {
+    let mut devices = Devices::of(alloc, session.parts)?;
+    devices.logs.clear();
+    for log in plain.logs.iter() {
+        devices.logs.push(bytewise_sink(alloc, log.bytes().len())?)?;
+    }
+    devices.listing = bytewise_sink(alloc, plain.listing.bytes().len())?;
+    Ok(devices)
+}
+
+fn bytewise_sink(alloc: Global, room: usize) -> Result<MemSink, Fail> {
+    let mut sink = MemSink::new(alloc, room)?;
+    sink.piece(1);
+    Ok(sink)
+}
+
+/// A sink has taken the first bytes of a text, so many of them.
+fn assert_front(rt: &impl Abort, sink: &MemSink, text: &[u8], count: usize) {
+    let count = count.min(text.len());
+    assert_eq!(rt; sink.bytes(), &text[..count]);
+}
+
+/// The logs before a place are whole, that one has so many bytes, and the later ones have none.
+fn assert_logs(rt: &impl Abort, devices: &Devices, plain: &Devices, place: usize, count: usize) {
+    assert_eq!(rt; devices.logs.len(), plain.logs.len());
+    for (at, (log, whole)) in devices.logs.iter().zip(plain.logs.iter()).enumerate() {
+        let text = whole.bytes();
+        let taken = if at < place {
+            text.len()
+        } else if at == place {
+            count
+        } else {
+            0
+        };
+        assert_front(rt, log, text, taken);
+    }
+}
+
+/// Each of the two reads of each script fails: the first gives the script, the second tells its end.
+fn assert_reads(rt: &impl Abort, alloc: Global, session: &Session) -> Result<(), Fail> {
+    let plain = plain(rt, alloc, session)?;
+    for (place, part) in session.parts.iter().enumerate() {
+        for read in 0..2 {
+            let mut devices = bytewise(alloc, session, &plain)?;
+            if let Some(source) = devices.scripts.get_mut(place) {
+                source.reader.fail_at(read);
+            }
+            let fault = run_to(alloc, &mut devices, session.until)?;
+            let client = client(part.client)?;
+            assert_eq!(rt; fault, Some(SessionFault::Read { client }));
+            assert_logs(rt, &devices, &plain, 0, 0);
+            assert_front(rt, &devices.listing, b"", 0);
+        }
+    }
+    Ok(())
+}
+
+/// Each write of each log fails, a byte each.
+fn assert_log_writes(rt: &impl Abort, alloc: Global, session: &Session) -> Result<(), Fail> {
+    let plain = plain(rt, alloc, session)?;
+    for (place, part) in session.parts.iter().enumerate() {
+        for write in 0..part.log.len() {
+            let mut devices = bytewise(alloc, session, &plain)?;
+            if let Some(log) = devices.logs.get_mut(place) {
+                log.fail_at(write as u64);
+            }
+            let fault = run_to(alloc, &mut devices, session.until)?;
+            let client = client(part.client)?;
+            assert_eq!(rt; fault, Some(SessionFault::Write { client }));
+            assert_logs(rt, &devices, &plain, place, write);
+            assert_front(rt, &devices.listing, b"", 0);
+        }
+    }
+    Ok(())
+}
+
+/// Each write of the listing fails, a byte each; and then none does.
+fn assert_listing_writes(rt: &impl Abort, alloc: Global, session: &Session) -> Result<(), Fail> {
+    let plain = plain(rt, alloc, session)?;
+    let listing = plain.listing.bytes();
+    for write in 0..listing.len() + 1 {
+        let mut devices = bytewise(alloc, session, &plain)?;
+        devices.listing.fail_at(write as u64);
+        let fault = run_to(alloc, &mut devices, session.until)?;
+        if write < listing.len() {
+            assert_eq!(rt; fault, Some(SessionFault::WriteListing));
+        } else {
+            assert!(rt; fault.is_none());
+        }
+        assert_logs(rt, &devices, &plain, session.parts.len(), 0);
+        assert_front(rt, &devices.listing, listing, write);
+    }
+    Ok(())
+}
+
+#[test]
+fn each_read_fails(rt: HostRuntime) -> Result<(), Fail> {
+    assert_reads(&rt, rt.alloc(), &FIRST_NOTE)?;
+    assert_reads(&rt, rt.alloc(), &HOSTILE_THIRD_SCRIPT)
+}
+
+#[test]
+fn each_write_of_a_log_fails(rt: HostRuntime) -> Result<(), Fail> {
+    assert_log_writes(&rt, rt.alloc(), &FIRST_NOTE)?;
+    assert_log_writes(&rt, rt.alloc(), &HOSTILE_THIRD_SCRIPT)
+}
+
+#[test]
+fn each_write_of_the_listing_fails(rt: HostRuntime) -> Result<(), Fail> {
+    assert_listing_writes(&rt, rt.alloc(), &FIRST_NOTE)?;
+    assert_listing_writes(&rt, rt.alloc(), &HOSTILE_THIRD_SCRIPT)
+}

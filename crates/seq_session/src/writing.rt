@@ -1,0 +1,71 @@
+//! The logs of a session, written to their devices.
+
+ghost use Rattle.std.specs.Prelude.{◌≡◌, ◌++◌, true, false, is_err, map, length, OnOk, OnErr, IfErr, IfSome, IsSome};
+ghost use Rattle.byte_io.specs.Moved.{GainsBytes};
+ghost use Rattle.seq_session.specs.Rising.{AreRising};
+ghost use Rattle.seq_session.specs.Sessions.{clients_of};
+ghost use Rattle.seq_session.specs.Devices.{Wrote, WroteUpTo, IsTold, LogsTell, log_of_fault, log_blamed, IsAmong, AreOpen, TellAll};
+
+use crate::fault::SessionFault;
+use crate::source::Script;
+use byte_io::{Sink, write_all};
+use node_table::ClientId;
+
+/// Writes the log of a client.
+fn write_one<W: Sink>(client: ClientId, log: &mut W, text: &[u8]) -> Result<(), SessionFault>
+    requires sound { W.failed log.old ≡ false }
+    ensures written { W.tells log.old ≡ true
+        → OnOk result (W.taken log.new ≡ W.taken log.old ++ text.now) }
+    ensures part { W.tells log.old ≡ true
+        → OnErr result (GainsBytes (W.taken log.old) (W.taken log.new) text.now) }
+    ensures mark { IsTold (W.failed log.new) (W.takes_some log.new) (is_err result) }
+    ensures fault { IfErr result (λ e. e ≡ SessionFault.Write client) }
+{
+    if write_all(log, text).is_err() {
+        return Err(SessionFault::Write { client });
+    }
+    Ok(())
+}
+
+/// Writes the listing.
+pub(crate) fn write_listing<W: Sink>(listing: &mut W, text: &[u8]) -> Result<(), SessionFault>
+    requires sound { W.failed listing.old ≡ false }
+    ensures written { W.tells listing.old ≡ true
+        → OnOk result (W.taken listing.new ≡ W.taken listing.old ++ text.now) }
+    ensures part { W.tells listing.old ≡ true
+        → OnErr result (GainsBytes (W.taken listing.old) (W.taken listing.new) text.now) }
+    ensures mark { IsTold (W.failed listing.new) (W.takes_some listing.new) (is_err result) }
+    ensures fault { IfErr result (λ e. e ≡ SessionFault.WriteListing) }
+{
+    if write_all(listing, text).is_err() {
+        return Err(SessionFault::WriteListing);
+    }
+    Ok(())
+}
+
+/// Writes the logs in order. The scripts tell whose they are.
+pub(crate) fn write_logs<W: Sink>(
+    scripts: &[Script],
+    logs: &mut [W],
+    texts: &[Vec<u8>],
+) -> Result<(), SessionFault>
+    requires rising { AreRising (clients_of scripts.now) }
+    requires logs { length logs.old ≡ length scripts.now }
+    requires texts { length texts.now ≡ length scripts.now }
+    requires sound { AreOpen W.failed logs.old }
+    ensures wrote { TellAll W.tells logs.old
+        → OnOk result (Wrote W.taken logs.old logs.new (map (λ t. t.items) texts.now)) }
+    ensures part { TellAll W.tells logs.old
+        → IfSome (log_blamed result) (λ k. WroteUpTo W.taken k
+        (clients_of scripts.now) logs.old logs.new (map (λ t. t.items) texts.now)) }
+    ensures marks { LogsTell W.failed W.takes_some (log_blamed result)
+        (clients_of scripts.now) logs.new }
+    ensures blamed { IfSome (log_blamed result) (λ k. IsAmong k (clients_of scripts.now)) }
+    ensures only { IfErr result (λ e. IsSome (log_of_fault e)) }
+{
+    let Some((log, more)) = logs.split_first_mut() else {
+        return Ok(());
+    };
+    write_one(scripts[0].client, log, texts[0].as_slice())?;
+    write_logs(&scripts[1..], more, &texts[1..])
+}

@@ -1,0 +1,25 @@
+use Rattle.std.proofs.Common.{◌≡◌, [], ◌∷◌, refl}
+use Rattle.std.specs.Fmt.{digits}
+use Rattle.midi_wire.specs.Messages.{begins}
+use Rattle.seq_runs.specs.Rows.{equal_moments}
+use Rattle.seq_runs.proofs.EqualMoments as run
+use Rattle.seq_session.specs.Merging.{inputs_of, lines_of}
+use Rattle.seq_session.specs.Rows.{no_files, script}
+use Rattle.seq_session.specs.Sessions.{session}
+use Rattle.session_runs.specs.Rows.{tied, both_text}
+use Rattle.session_runs.proofs.Worked.{log_by}
+use Rattle.session_runs.proofs.rows.tied_session.Goals as goal
+
+said : inputs_of (session no_files 200 tied) ≡ equal_moments
+unfolding begins
+said = refl
+
+on_lines : lines_of (session no_files 200 tied) ≡ 1 ∷ 2 ∷ 3 ∷ 4 ∷ 1 ∷ 2 ∷ 3 ∷ 1 ∷ 2 ∷ 3 ∷ 4 ∷ 4 ∷ 5 ∷ 5 ∷ []
+unfolding begins
+on_lines = refl
+
+pub returns : goal.returns
+unfolding digits begins
+returns c = record {
+  hearer = log_by no_files 200 tied (script 129 both_text) equal_moments _ _ _ said on_lines run.run refl;
+}

@@ -1,0 +1,147 @@
+//! Bytes in hexadecimal.
+
+ghost use Rattle.std.specs.Prelude.{◌≡◌, [], ◌∷◌, ◌++◌, OnOk};
+ghost use Rattle.text_forms.specs.Hex.{digit, spaced, in_hex};
+
+use memory::OutOfMemory;
+
+/// The two digits of each byte. A look-up takes fewer instructions than a comparison.
+const PAIRS: &[u8; 512] = b"000102030405060708090A0B0C0D0E0F101112131415161718191A1B1C1D1E1F\
+    202122232425262728292A2B2C2D2E2F303132333435363738393A3B3C3D3E3F\
+    404142434445464748494A4B4C4D4E4F505152535455565758595A5B5C5D5E5F\
+    606162636465666768696A6B6C6D6E6F707172737475767778797A7B7C7D7E7F\
+    808182838485868788898A8B8C8D8E8F909192939495969798999A9B9C9D9E9F\
+    A0A1A2A3A4A5A6A7A8A9AAABACADAEAFB0B1B2B3B4B5B6B7B8B9BABBBCBDBEBF\
+    C0C1C2C3C4C5C6C7C8C9CACBCCCDCECFD0D1D2D3D4D5D6D7D8D9DADBDCDDDEDF\
+    E0E1E2E3E4E5E6E7E8E9EAEBECEDEEEFF0F1F2F3F4F5F6F7F8F9FAFBFCFDFEFF";
+
+/// Adds a space and two upper-case digits for each byte, as ` 90 3C 40`. After an error the text ends within them.
+// Most messages have three bytes or less. Where there is room for them, nothing here calls what grows the text, so that
+// no register has to be saved.
+pub fn push_spaced(text: &mut Vec<u8>, bytes: &[u8]) -> Result<(), OutOfMemory>
+    ensures { OnOk result (text.new.items ≡ text.old.items ++ spaced bytes.now) }
+{
+    if text.capacity() - text.len() >= 9 {
+        match bytes {
+            [a] => {
+                text.extend_from_slice(&spaced_one(*a))?;
+                return Ok(());
+            }
+            [a, b] => {
+                text.extend_from_slice(&spaced_two(*a, *b))?;
+                return Ok(());
+            }
+            [a, b, c] => {
+                text.extend_from_slice(&spaced_three(*a, *b, *c))?;
+                return Ok(());
+            }
+            _ => {}
+        }
+    }
+    push_any_spaced(text, bytes)
+}
+
+/// The same for any number of bytes.
+#[inline(never)]
+fn push_any_spaced(text: &mut Vec<u8>, bytes: &[u8]) -> Result<(), OutOfMemory>
+    ensures { OnOk result (text.new.items ≡ text.old.items ++ spaced bytes.now) }
+{
+    let mut rest = bytes;
+    while let [a, b, c, d, more @ ..] = rest {
+        text.extend_from_slice(&spaced_four(*a, *b, *c, *d))?;
+        rest = more;
+    }
+    for byte in rest {
+        text.extend_from_slice(&spaced_one(*byte))?;
+    }
+    Ok(())
+}
+
+/// Adds two upper-case digits for each byte, with one space between, as `90 3C 40`. After an error the text ends within
+/// them.
+pub fn push_in_hex(text: &mut Vec<u8>, bytes: &[u8]) -> Result<(), OutOfMemory>
+    ensures { OnOk result (text.new.items ≡ text.old.items ++ in_hex bytes.now) }
+{
+    if text.capacity() - text.len() >= 8 {
+        match bytes {
+            [a] => {
+                text.extend_from_slice(&pair(*a))?;
+                return Ok(());
+            }
+            [a, b] => {
+                let [s, t] = pair(*a);
+                let [u, v] = pair(*b);
+                text.extend_from_slice(&[s, t, b' ', u, v])?;
+                return Ok(());
+            }
+            [a, b, c] => {
+                let [s, t] = pair(*a);
+                let [u, v] = pair(*b);
+                let [w, x] = pair(*c);
+                text.extend_from_slice(&[s, t, b' ', u, v, b' ', w, x])?;
+                return Ok(());
+            }
+            _ => {}
+        }
+    }
+    push_any_in_hex(text, bytes)
+}
+
+/// The same for any number of bytes.
+#[inline(never)]
+fn push_any_in_hex(text: &mut Vec<u8>, bytes: &[u8]) -> Result<(), OutOfMemory>
+    ensures { OnOk result (text.new.items ≡ text.old.items ++ in_hex bytes.now) }
+{
+    if let [first, more @ ..] = bytes {
+        text.extend_from_slice(&pair(*first))?;
+        push_any_spaced(text, more)?;
+    }
+    Ok(())
+}
+
+#[inline(always)]
+fn spaced_one(a: u8) -> [u8; 3]
+    ensures { result ≡ spaced (a ∷ []) }
+{
+    let [s, t] = pair(a);
+    [b' ', s, t]
+}
+
+#[inline(always)]
+fn spaced_two(a: u8, b: u8) -> [u8; 6]
+    ensures { result ≡ spaced (a ∷ b ∷ []) }
+{
+    let [s, t] = pair(a);
+    let [u, v] = pair(b);
+    [b' ', s, t, b' ', u, v]
+}
+
+#[inline(always)]
+fn spaced_three(a: u8, b: u8, c: u8) -> [u8; 9]
+    ensures { result ≡ spaced (a ∷ b ∷ c ∷ []) }
+{
+    let [s, t] = pair(a);
+    let [u, v] = pair(b);
+    let [w, x] = pair(c);
+    [b' ', s, t, b' ', u, v, b' ', w, x]
+}
+
+#[inline(always)]
+fn spaced_four(a: u8, b: u8, c: u8, d: u8) -> [u8; 12]
+    ensures { result ≡ spaced (a ∷ b ∷ c ∷ d ∷ []) }
+{
+    let [s, t] = pair(a);
+    let [u, v] = pair(b);
+    let [w, x] = pair(c);
+    let [y, z] = pair(d);
+    [b' ', s, t, b' ', u, v, b' ', w, x, b' ', y, z]
+}
+
+/// The two digits of a byte.
+#[inline(always)]
+fn pair(byte: u8) -> [u8; 2]
+    ensures { result ≡ in_hex (byte ∷ []) }
+{
+    let at = byte as usize * 2;
+    [PAIRS[at], PAIRS[at + 1]]
+}

@@ -1,0 +1,12 @@
+//! The texts that several crates write: numbers in decimal, bytes in hexadecimal, addresses of ports.
+#![tactic(auto)]
+
+mod address;
+mod decimal;
+mod hex;
+#[cfg(test)]
+mod tests;
+
+pub use address::push_port_addr;
+pub use decimal::push_decimal;
+pub use hex::{push_in_hex, push_spaced};

@@ -1,0 +1,56 @@
+//! Each form written once, with ample memory.
+
+use crate::{push_decimal, push_in_hex, push_port_addr, push_spaced};
+use node_table::{ClientId, PortAddr, PortNo};
+use std::test::Fail;
+
+#[test]
+fn writes_numbers(rt: HostRuntime) -> Result<(), Fail> {
+    let mut text = Vec::from_slice(rt.alloc(), b"from ")?;
+    push_decimal(&mut text, 0)?;
+    text.extend_from_slice(b" to ")?;
+    push_decimal(&mut text, u64::MAX)?;
+    assert_eq!(rt;
+        text.as_slice(),
+        b"from 0 to 18446744073709551615".as_slice()
+    );
+    Ok(())
+}
+
+#[test]
+fn writes_bytes(rt: HostRuntime) -> Result<(), Fail> {
+    let mut text = Vec::from_slice(rt.alloc(), b"written")?;
+    push_spaced(&mut text, &[0x90, 0x0C, 0xAF])?;
+    text.push(b'\n')?;
+    push_in_hex(&mut text, &[0xF0, 0x7D, 0xF7])?;
+    push_in_hex(&mut text, &[])?;
+    assert_eq!(rt; text.as_slice(), b"written 90 0C AF\nF0 7D F7".as_slice());
+    Ok(())
+}
+
+/// One, two and more than three bytes take ways of their own, and so does a text without room.
+#[test]
+fn writes_bytes_of_each_count(rt: HostRuntime) -> Result<(), Fail> {
+    let mut text = Vec::new(rt.alloc());
+    push_in_hex(&mut text, &[0xF8])?;
+    push_spaced(&mut text, &[0xFE])?;
+    push_in_hex(&mut text, &[0xC5, 0x07])?;
+    push_spaced(&mut text, &[0xD0, 0x40])?;
+    push_in_hex(&mut text, &[0xF0, 0x01, 0x23, 0x45, 0x67, 0xF7])?;
+    push_spaced(&mut text, &[0x89, 0xAB, 0xCD, 0xEF, 0xF7])?;
+    assert_eq!(rt;
+        text.as_slice(),
+        b"F8 FEC5 07 D0 40F0 01 23 45 67 F7 89 AB CD EF F7".as_slice()
+    );
+    Ok(())
+}
+
+#[test]
+fn writes_addresses(rt: HostRuntime) -> Result<(), Fail> {
+    let mut text = Vec::new(rt.alloc());
+    if let (Some(client), Some(port)) = (ClientId::new(191), PortNo::new(15)) {
+        push_port_addr(&mut text, &PortAddr { client, port })?;
+    }
+    assert_eq!(rt; text.as_slice(), b"191:p15".as_slice());
+    Ok(())
+}
