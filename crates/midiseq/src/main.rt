@@ -1,9 +1,12 @@
 //! `midiseq`: a MIDI sequencer and patchbay on the command line.
 #![tactic(auto)]
 
+mod folder;
+mod sessions;
 mod words;
 
 use byte_io::{StdSink, StdSource};
+use clap::ArgMatches;
 use clap::error::ErrorKind;
 use std::process::ExitCode;
 use std::rt::{Env, Files};
@@ -43,7 +46,7 @@ fn read_words(rt: &(impl Env + AllocGlobal)) -> Result<Vec<String>, ProgramFault
 
 /// Does what the words say.
 fn program<'a>(
-    rt: &(impl Files + Input + Print + Eprint + AllocGlobal),
+    rt: &(impl Files + Input + Print + Eprint + AllocGlobal + Clone + Drop),
     words: &'a [String],
 ) -> Result<ExitCode, ProgramFault<'a>> {
     if words.len() <= 1 {
@@ -55,10 +58,7 @@ fn program<'a>(
             let Some((name, found)) = matches.subcommand() else {
                 return Err(ProgramFault::NoSubcommand);
             };
-            match Task::of_words(name, found.get_str("FILE").unwrap_or(STANDARD)) {
-                Some(task) => perform(rt, task),
-                None => Err(ProgramFault::NoSubcommand),
-            }
+            subcommand(rt, name, found)
         }
         Err(error) => {
             if error.kind() == ErrorKind::OutOfMemory {
@@ -71,6 +71,25 @@ fn program<'a>(
             Ok(ExitCode::from(error.exit_code() as u8))
         }
     }
+}
+
+fn subcommand<'a>(
+    rt: &(impl Files + Input + Print + Eprint + AllocGlobal + Clone + Drop),
+    name: &str,
+    found: &ArgMatches<'a>,
+) -> Result<ExitCode, ProgramFault<'a>> {
+    match name {
+        "run" => sessions::run(rt, found)?,
+        "record" => sessions::record(rt, found)?,
+        _ => {
+            let file = found.get_str("FILE").unwrap_or(STANDARD);
+            let Some(task) = Task::of_words(name, file) else {
+                return Err(ProgramFault::NoSubcommand);
+            };
+            return perform(rt, task);
+        }
+    }
+    Ok(ExitCode::SUCCESS)
 }
 
 /// Gives a tool its stream, and prints on standard output.

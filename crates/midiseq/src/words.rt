@@ -1,14 +1,15 @@
 //! The words of the command line.
 
-use clap::{Arg, Command};
+use clap::{Arg, ArgAction, Command};
 use std::alloc::{AllocError, Global};
 
 const VERSION: &str = "0.1.0";
 
 const EXAMPLES: &str = "\
-thru and wire take raw MIDI bytes, as they come from a cable; dump takes a
-Standard MIDI File (.mid). FILE may be - for standard input. `midiseq` alone
-does `thru -`: it waits for MIDI bytes on standard input.
+run and record take a script for each client: a command a line, each with its
+moment in nanoseconds. thru and wire take raw MIDI bytes, as they come from a
+cable; dump takes a Standard MIDI File (.mid). FILE may be - for standard
+input. `midiseq` alone does `thru -`: it waits for MIDI bytes on standard input.
 
 Examples:
   printf '\\x90\\x3C\\x40' | midiseq thru -
@@ -20,11 +21,17 @@ Examples:
       prints the messages of keys.raw, and then the stream written anew
   midiseq dump song.mid
       prints the tempos and the events of the file song.mid
+  midiseq run --until 1000000000 128=keys.txt 129=synth.txt
+      runs two scripts for a second, and prints the log of each client
+  midiseq record --until 1000000000 --port 129:0 --out take.mid 128=keys.txt \\
+      129=synth.txt
+      writes what came to port 0 of client 129 to the file take.mid
 
 Status:
   0  done, or help or the version was asked for
   1  a fault, told in one line on standard error: a file that cannot be read,
-     output that cannot be written, want of memory, a damaged file
+     output that cannot be written, want of memory, a damaged file, a recording
+     that no file can hold
   2  words that midiseq cannot follow";
 
 const THRU_HELP: &str = "\
@@ -71,15 +78,117 @@ Example:
       `480 90 3C 00` and `skipped 0`, each on a line, for one note that sounds
       for a quarter note";
 
+const RUN_HELP: &str = "\
+Each CLIENT=PATH is a client, 128 to 191, and the file of its script. A script
+has a command a line, with its moment in nanoseconds first; lines that begin
+with # are remarks. What is said at one moment goes by client and then by line.
+All that is due by N is sent before the run ends.
+
+For each client by number comes a line `client N` and its log: `skip LINE WHY`
+for each line of its script that is skipped; and in the order of the run
+`MOMENT port P HEX` for each message that comes to its port P, and
+`MOMENT line LINE` with `ok` or `refused NUMBER NAME` for each command that it
+said. With --list comes who is there at the end: clients, ports, filters, queues
+and subscriptions.
+
+The files in D whose names end in .mid can be played by these names; the first
+256 in byte order are taken. One that cannot be read, or is no Standard MIDI File,
+is left out, and `midiseq: left out NAME` on standard error tells so.
+
+Example, with these lines in keys.txt and synth.txt:
+  0 open keys 100 100             0 open synth 100 100
+  0 port 0 out 33                 0 port 0 in 66
+  5 send 0 90 3C 40               0 connect 128:p0 129:p0
+  midiseq run --until 10 128=keys.txt 129=synth.txt
+      prints `client 128`, `0 line 1 ok`, `0 line 2 ok`, `5 line 3 ok`,
+      `client 129`, `0 line 1 ok`, `0 line 2 ok`, `0 line 3 ok` and
+      `5 port 0 90 3C 40`, each on a line";
+
+const RECORD_HELP: &str = "\
+The scripts are run as by `midiseq run`, and what came to port N of CLIENT is
+written to FILE: a Standard MIDI File of format 0 with 480 ticks per quarter
+note of half a second, without system common and real time messages, or with
+--raw the messages as one MIDI stream. A port at which nothing arrived gives a
+file without messages. FILE is made or written over when all else is done.
+`cannot record` is told where more than 268,435,455 ticks lie between two
+messages, or the file would have more than 16,777,216 bytes.
+
+Example:
+  midiseq record --until 1000000000 --port 129:0 --out take.mid 128=keys.txt \\
+      129=synth.txt";
+
 /// The program's subcommands with their words.
 pub(crate) fn command<'a>(alloc: Global) -> Result<Command<'a>, AllocError> {
     Command::new(alloc, "midiseq")
         .about("A MIDI sequencer and patchbay: clients share it, and none disturbs another")
         .version(VERSION)
         .after_help(EXAMPLES)
+        .subcommand(run(alloc)?)?
+        .subcommand(record(alloc)?)?
         .subcommand(thru(alloc)?)?
         .subcommand(wire(alloc)?)?
         .subcommand(dump(alloc)?)
+}
+
+fn run<'a>(alloc: Global) -> Result<Command<'a>, AllocError> {
+    let list = Arg::new(alloc, "list")
+        .long("list")
+        .action(ArgAction::SetTrue)
+        .help("print who is there at the end, too");
+    Command::new(alloc, "run")
+        .about("Runs the scripts of clients together, and prints what each client hears")
+        .after_help(RUN_HELP)
+        .arg(until(alloc))?
+        .arg(dir(alloc))?
+        .arg(list)?
+        .arg(scripts(alloc))
+}
+
+fn record<'a>(alloc: Global) -> Result<Command<'a>, AllocError> {
+    let raw = Arg::new(alloc, "raw")
+        .long("raw")
+        .action(ArgAction::SetTrue)
+        .help("write the messages as one MIDI stream, and not as a file");
+    let port = Arg::new(alloc, "port")
+        .long("port")
+        .required(true)
+        .value_name("CLIENT:N")
+        .help("the port whose messages are recorded, as 129:0");
+    let out = Arg::new(alloc, "out")
+        .long("out")
+        .required(true)
+        .value_name("FILE")
+        .help("the file that is written");
+    Command::new(alloc, "record")
+        .about("Runs the scripts of clients together, and writes what comes to one port to a file")
+        .after_help(RECORD_HELP)
+        .arg(until(alloc))?
+        .arg(dir(alloc))?
+        .arg(raw)?
+        .arg(port)?
+        .arg(out)?
+        .arg(scripts(alloc))
+}
+
+fn until<'a>(alloc: Global) -> Arg<'a> {
+    Arg::new(alloc, "until")
+        .long("until")
+        .required(true)
+        .value_name("N")
+        .help("the moment at which the run ends, in nanoseconds from its beginning")
+}
+
+fn dir<'a>(alloc: Global) -> Arg<'a> {
+    Arg::new(alloc, "dir").long("dir").value_name("D").help(
+        "the folder whose Standard MIDI Files (.mid) scripts may play",
+    )
+}
+
+fn scripts<'a>(alloc: Global) -> Arg<'a> {
+    Arg::new(alloc, "CLIENT=PATH")
+        .action(ArgAction::Append)
+        .num_args(0..)
+        .help("a client, 128 to 191, and the file of its script")
 }
 
 fn thru<'a>(alloc: Global) -> Result<Command<'a>, AllocError> {

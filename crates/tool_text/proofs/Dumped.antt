@@ -1,10 +1,7 @@
 -- A text that is gathered and written piece by piece.
-use Rattle.std.proofs.Common.{◌≡◌, ◌≤◌, ◌<◌, ℕ, zero, suc, ◌+◌, ◌-◌, ◌*◌, ◌/◌, ◌%◌, ◌^◌, Bool, true, false, List, [], ◌∷◌, ◌++◌, ◌∙◌, length, take, drop, get_or, set, refl, arith, ap, sym, subst, append_assoc, pow-suc}
-use Rattle.std.specs.Prelude.{Result, Ok, Err, OnOk, OnErr, if◌then◌else◌, ◌==◌, nat_lt}
+use Rattle.std.proofs.Common.{◌≡◌, ◌<◌, ℕ, zero, suc, ◌+◌, ◌-◌, List, [], ◌∷◌, ◌++◌, ◌∙◌, length, drop, get_or, refl, arith, ap, sym, subst, append_assoc}
+use Rattle.std.specs.Prelude.{Result, Ok, Err, OnOk, OnErr}
 use Rattle.std.specs.List.{flat_map}
-use Rattle.std.specs.Fmt.{digit_glyph, digits_onto, digits, decimal}
-use Rattle.std.proofs.Math.ListN.{length-set}
-use Rattle.std.proofs.lemmas.Bool.Decides.{nat_tests}
 use Rattle.smf_grammar.specs.Files.{MidiFile}
 use Rattle.smf_grammar.specs.declared.event.Event.{Event}
 use Rattle.tempo_clock.specs.declared.entry.TempoEntry.{TempoEntry}
@@ -14,93 +11,6 @@ use Rattle.tool_text.specs.Dump.{head_line, tempo_line, event_line, skipped_line
 append-nil : (xs : List ℕ) → xs ++ [] ≡ xs
 append-nil [] = refl
 append-nil (x ∷ xs) = ap (λ (ys : List ℕ). x ∷ ys) (append-nil xs)
-
--- ---- digits
-
--- what is still to write of a number after the digits in acc, where twenty digits are enough and the place is their last
-unfoldable pub digits_left : ℕ → ℕ → List ℕ → List ℕ
-digits_left at left acc = digits_onto (45 + at) 10 false left acc
-
-pub digits-start : (n : ℕ) → decimal n ≡ digits_left 19 n []
-unfolding digits_left digits
-digits-start n = refl
-
--- one more digit, where more are left
-pub digits-more : (at left : ℕ) (acc : List ℕ) → 9 < left → digits_left (suc at) left acc ≡ digits_left at (left / 10) ((48 + left % 10) ∷ acc)
-unfolding digits_left
-digits-more at left acc h =
-    let fuel : 45 + suc at ≡ suc (45 + at) = omega arith in
-    let some : (left / 10 == 0) ≡ false = grind (arith, nat_tests) in
-    let low : nat_lt (left % 10) 10 ≡ true = grind (arith, nat_tests) in
-    ap (λ (k : ℕ). digits_onto k 10 false left acc) fuel
-    ∙ ap (λ (t : Bool). if t then (digit_glyph false (left % 10) ∷ acc) else digits_onto (45 + at) 10 false (left / 10) (digit_glyph false (left % 10) ∷ acc)) some
-    ∙ ap (λ (t : Bool). digits_onto (45 + at) 10 false (left / 10) ((if t then 48 + left % 10 else (if false then 55 + left % 10 else 87 + left % 10)) ∷ acc)) low
-
--- the last digit
-pub digits-last : (at left : ℕ) (acc : List ℕ) → left ≤ 9 → digits_left at left acc ≡ (48 + left) ∷ acc
-unfolding digits_left
-digits-last at left acc h =
-    let fuel : 45 + at ≡ suc (44 + at) = omega arith in
-    let none : (left / 10 == 0) ≡ true = grind (arith, nat_tests) in
-    let low : nat_lt (left % 10) 10 ≡ true = grind (arith, nat_tests) in
-    let same : left % 10 ≡ left = omega arith in
-    ap (λ (k : ℕ). digits_onto k 10 false left acc) fuel
-    ∙ ap (λ (t : Bool). if t then (digit_glyph false (left % 10) ∷ acc) else digits_onto (44 + at) 10 false (left / 10) (digit_glyph false (left % 10) ∷ acc)) none
-    ∙ ap (λ (t : Bool). (if t then 48 + left % 10 else (if false then 55 + left % 10 else 87 + left % 10)) ∷ acc) low
-    ∙ ap (λ (d : ℕ). (48 + d) ∷ acc) same
-
-pub drop-set : (xs : List ℕ) (i d : ℕ) → i < length xs → drop i (set xs i d) ≡ d ∷ drop (i + 1) xs
-drop-set [] i d h = absurd (omega arith)
-drop-set (x ∷ xs) zero d h = refl
-drop-set (x ∷ xs) (suc i) d h = let e : suc i + 1 ≡ suc (i + 1) = omega arith in drop-set xs i d (omega arith) ∙ ap (λ (k : ℕ). d ∷ drop k (x ∷ xs)) (sym e)
-
--- what the loop over digits keeps
-pub record Digits (number at left : ℕ) (digits' : List ℕ) : Type 0 where
-  pub written : decimal number ≡ digits_left at left (drop (at + 1) digits')
-  pub fits : left < 10 ^ (at + 1)
-  pub within : at < 20
-  pub size : length digits' ≡ 20
-
-pub digits-begin : (number : ℕ) (digits' : List ℕ) → number < 2 ^ 64 → length digits' ≡ 20 → drop 20 digits' ≡ [] → Digits number 19 number digits'
-digits-begin number digits' small size none = record { written = digits-start number ∙ ap (digits_left 19 number) (sym none); fits = omega arith; within = omega arith; size = size }
-
-pub digits-some : (number at left : ℕ) (digits' : List ℕ) → Digits number at left digits' → 9 < left → 1 ≤ at
-digits-some number zero left digits' w h = let f : left < 10 ^ 1 = w.fits in absurd (omega arith)
-digits-some number (suc at) left digits' w h = omega arith
-
-pub digits-step : (number at left : ℕ) (digits' : List ℕ) → Digits number at left digits' → 9 < left → Digits number (at - 1) (left / 10) (set digits' at (48 + left % 10))
-digits-step number zero left digits' w h = let f : left < 10 ^ 1 = w.fits in absurd (omega arith)
-digits-step number (suc at) left digits' w h =
-    let size : length digits' ≡ 20 = w.size in
-    let within : suc at < 20 = w.within in
-    let less : suc at - 1 ≡ at = omega arith in
-    let again : drop (suc at) (set digits' (suc at) (48 + left % 10)) ≡ (48 + left % 10) ∷ drop (suc at + 1) digits' = drop-set digits' (suc at) (48 + left % 10) (omega arith) in
-    let here : at + 1 ≡ suc at = omega arith in
-    let power : 10 ^ (suc at + 1) ≡ 10 ^ (at + 1) * 10 = (let e : suc at + 1 ≡ suc (at + 1) = omega arith in ap (λ (k : ℕ). 10 ^ k) e ∙ pow-suc 10 (at + 1)) in
-    let fits : left < 10 ^ (suc at + 1) = w.fits in
-    let n : length (set digits' (suc at) (48 + left % 10)) ≡ length digits' = length-set digits' (suc at) (48 + left % 10) in
-    subst (λ (k : ℕ). Digits number k (left / 10) (set digits' (suc at) (48 + left % 10))) (sym less) (record {
-      written = w.written ∙ digits-more at left (drop (suc at + 1) digits') h ∙ ap (digits_left at (left / 10)) (sym again ∙ ap (λ (k : ℕ). drop k (set digits' (suc at) (48 + left % 10))) (sym here));
-      fits = omega arith;
-      within = omega arith;
-      size = n ∙ size;
-    })
-
-take-rest : (xs : List ℕ) (i n : ℕ) → length xs ≤ i + n → take n (drop i xs) ≡ drop i xs
-take-rest [] zero zero h = refl
-take-rest [] zero (suc n) h = refl
-take-rest [] (suc i) zero h = refl
-take-rest [] (suc i) (suc n) h = refl
-take-rest (x ∷ xs) zero zero h = absurd (omega arith)
-take-rest (x ∷ xs) zero (suc n) h = ap (λ (ys : List ℕ). x ∷ ys) (take-rest xs zero n (omega arith))
-take-rest (x ∷ xs) (suc i) n h = take-rest xs i n (omega arith)
-
-pub digits-end : (number at left : ℕ) (digits' : List ℕ) → Digits number at left digits' → left ≤ 9 → decimal number ≡ take (20 - at) (drop at (set digits' at (48 + left)))
-digits-end number at left digits' w h =
-    let size : length digits' ≡ 20 = w.size in
-    let within : at < 20 = w.within in
-    let n : length (set digits' at (48 + left)) ≡ length digits' = length-set digits' at (48 + left) in
-    w.written ∙ digits-last at left (drop (at + 1) digits') h ∙ sym (take-rest (set digits' at (48 + left)) at (20 - at) (omega arith) ∙ drop-set digits' at (48 + left) (omega arith))
 
 -- ---- pieces
 

@@ -1,62 +1,72 @@
 -- What a piece of the stream gives and leaves.
-use Rattle.std.proofs.Common.{◌≡◌, ◌<◌, ◌≤◌, ◌+◌, ℕ, true, false, not, List, [], ◌∷◌, ◌++◌, length, map, Option, Some, None, refl, sym, ap, subst, ◌∙◌, arith, length-append}
+use Rattle.std.proofs.Common.{◌≡◌, ◌≤◌, ◌+◌, ◌*◌, ℕ, true, false, not, List, [], ◌∷◌, ◌++◌, length, map, drop, Option, Some, None, refl, sym, ap, subst, ◌∙◌, arith, append-nil}
 use Rattle.std.specs.Prelude.{is_some}
-use Rattle.std.specs.List.{flat_map}
+use Rattle.std.specs.List.{flat_map, filter_map}
 use Rattle.std.specs.Fmt.{digits}
 use Rattle.std.specs.Ordering.{nat_cmp}
 use Rattle.std.specs.Cmp.{nat_cmp_total}
 use Rattle.std.specs.FinMap
 use Rattle.std.proofs.lemmas.Bool.{false≢true}
+use Rattle.std.proofs.lemmas.List.{drop_all, length-map}
+use Rattle.cell_pools.specs.Pools.{empty_pool, most_waiting, is_size}
 use Rattle.midi_wire.specs.Readings.{reading, rest}
 use Rattle.midi_wire.proofs.Settled.{rests-in-two}
-use Rattle.seq_ports.specs.declared.input.Command.TheVariants.{Bytes}
-use Rattle.patch_graph.specs.declared.edge.Edge.{Edge}
-use Rattle.seq_state.specs.declared.log.Delivery.{Delivery}
-use Rattle.seq_ports.specs.Rows.{at}
-use Rattle.seq_ports.specs.State.{Client, PortInfo, State, start}
-use Rattle.seq_ports.specs.Own.{Own, own_command, first_refusal, port_of, has_port, fed_of, changed, feed_port}
 use Rattle.patch_graph.specs.Edges.{edge}
-use Rattle.seq_ports.specs.Step.{port_addr, send_copies, unless, after_own, with_own, refusal_of, step, state_after}
-use Rattle.seq_ports.proofs.Kin.{get-put}
-use Rattle.seq_engine.specs.Seen.{Seen}
-use Rattle.seq_engine.proofs.Arms.{none_lost}
+use Rattle.patch_graph.specs.Paths.{paths, chains, hops, end_of}
+use Rattle.patch_graph.specs.declared.edge.Edge.{Edge}
+use Rattle.seq_state.specs.declared.input.Command.TheVariants.{Bytes, Receive}
+use Rattle.seq_state.specs.declared.log.Arrival.{Arrival}
+use Rattle.seq_state.specs.declared.log.Delivery.{Delivery}
+use Rattle.seq_state.specs.declared.log.Reply.TheVariants.{Messages, Received}
+use Rattle.seq_state.specs.declared.refusal.Refusal.TheVariants as refusal
+use Rattle.seq_state.specs.State.{Client, PortInfo, Pool, State, put}
+use Rattle.seq_state.specs.Own.{port_of, has_port, fed_of, with_change, put_port, port_fed, oldest, without_oldest}
+use Rattle.seq_state.specs.Table.{first_refusal, from_port, command_row}
+use Rattle.seq_state.specs.Copies.{carried, copy, copies}
+use Rattle.seq_state.specs.Step.{port_addr, send_copies, offered, sent, stepped, Stepped, unless, refusal_of, step, state_after}
+use Rattle.seq_state.proofs.Effects.{get-put, step-takes}
+use Rattle.seq_state.proofs.Done.{feeds}
 use Rattle.tool_text.specs.Stream.{lines_of}
-use Rattle.tool_text.specs.Thru.{delivery_line, thru_line, stream_of, joining, IsJoined, IsFed}
-use Rattle.tool_text.proofs.Joined.{joined_state, joined_stream}
+use Rattle.tool_text.specs.Thru.{said, most_piece, passage, delivery_line, thru_line, stream_of, IsJoined}
+use Rattle.tool_text.proofs.Few.{piece-few}
+use Rattle.tool_text.proofs.Joined.{says}
+use Rattle.tool_text.proofs.Room.{came, waits, all-delivered, all-wait}
+
+-- ---- the first client's port
 
 -- who has a port is open
 open_with_port : (c : Option Client) → has_port c 0 ≡ true → is_some c ≡ true
 open_with_port None h = absurd (false≢true (sym (ap is_some (FinMap.get-empty {X = PortInfo} nat_cmp 0)) ∙ h))
 open_with_port (Some x) h = refl
 
-accepted : (s : State) (bytes : List ℕ) → IsJoined s → refusal_of s 128 (Bytes 0 bytes) ≡ None
-unfolding own_command
-accepted s bytes j =
-    let c : Option Client = FinMap.get s.clients 128 in
-    ap (λ b. first_refusal ((1, not b) ∷ (7, not (has_port c 0)) ∷ [])) (open_with_port c j.port)
-    ∙ ap (λ b. first_refusal ((1, false) ∷ (7, not b) ∷ [])) j.port
+-- the port goes on, and what still matters of its stream
+record IsFedPort (c : Option Client) (was : Option PortInfo) (bytes : List ℕ) : Type 0 where
+  port : has_port c 0 ≡ true
+  stream : fed_of (port_of c 0) ≡ rest (fed_of was ++ bytes)
 
-fed_port : (x : Client) (bytes : List ℕ) (o : Option PortInfo) → is_some o ≡ true →
-    (is_some (FinMap.get (feed_port bytes o 0 x).ports 0) ≡ true) × (fed_of (FinMap.get (feed_port bytes o 0 x).ports 0) ≡ rest (fed_of o ++ bytes))
+fed_port : (x : Client) (bytes : List ℕ) (o : Option PortInfo) → is_some o ≡ true → IsFedPort (Some (put_port 0 (port_fed bytes o) x)) o bytes
 fed_port x bytes None h = absurd (false≢true h)
 fed_port x bytes (Some p) h =
     let next : PortInfo = record p { fed = rest (p.fed ++ bytes) } in
     let found : FinMap.get (FinMap.insert x.ports 0 next) 0 ≡ Some next = FinMap.get-insert nat_cmp_total x.ports 0 next 0 in
-    (ap is_some found, ap fed_of found)
+    record { port = ap is_some found; stream = ap fed_of found }
 
-fed_client : (c : Option Client) (bytes : List ℕ) → has_port c 0 ≡ true →
-    (let next : Option Client = changed c (feed_port bytes (port_of c 0) 0) in (has_port next 0 ≡ true) × (fed_of (port_of next 0) ≡ rest (fed_of (port_of c 0) ++ bytes)))
+fed_client : (c : Option Client) (bytes : List ℕ) → has_port c 0 ≡ true → IsFedPort (with_change c (put_port 0 (port_fed bytes (port_of c 0)))) (port_of c 0) bytes
 fed_client None bytes h = absurd (false≢true (sym (ap is_some (FinMap.get-empty {X = PortInfo} nat_cmp 0)) ∙ h))
 fed_client (Some x) bytes h = fed_port x bytes (FinMap.get x.ports 0) h
 
--- a message as it comes to the port of the second client
-abbrev pub came : List ℕ → Delivery
-came message = record { moment = 0; target = record { client = 129; port = 0 }; message = message }
+-- ---- the copies along the one subscription
 
--- the copies along the one subscription
-one_each : (messages : List (List ℕ)) → send_copies (edge (port_addr 128 0) (port_addr 129 0) ∷ []) 0 128 (map (λ m. (0, m)) messages) ≡ map came messages
-one_each [] = refl
-one_each (m ∷ messages) = ap (λ ds. came m ∷ ds) (one_each messages)
+one_copy : (s : State) (message : List ℕ) → s.edges ≡ edge (port_addr 128 0) (port_addr 129 0) ∷ [] → copies s 0 (port_addr 128 0) message ≡ came message ∷ []
+unfolding paths chains hops
+one_copy s message e =
+    ap (λ (es : List Edge). filter_map (λ p. copy 0 (end_of (port_addr 128 0) p) (carried s.clients p message)) (paths es (port_addr 128 0))) e
+
+one_each : (s : State) (messages : List (List ℕ)) → s.edges ≡ edge (port_addr 128 0) (port_addr 129 0) ∷ [] → send_copies s 0 128 (map (from_port 0) messages) ≡ map came messages
+one_each s [] e = refl
+one_each s (m ∷ messages) e =
+    ap (λ ds. ds ++ send_copies s 0 128 (map (from_port 0) messages)) (one_copy s m e)
+    ∙ ap (λ ds. came m ∷ ds) (one_each s messages e)
 
 came_line : (m : List ℕ) → delivery_line (came m) ≡ thru_line m
 unfolding digits
@@ -66,64 +76,114 @@ pub came_lines : (messages : List (List ℕ)) → flat_map delivery_line (map ca
 came_lines [] = refl
 came_lines (m ∷ messages) = ap (λ text. text ++ flat_map delivery_line (map came messages)) (came_line m) ∙ ap (λ text. thru_line m ++ text) (came_lines messages)
 
-module _ (s : State) (bytes : List ℕ) (j : IsJoined s) where
-  abbrev own : Own
-  own = (own_command (FinMap.get s.clients 128) (Bytes 0 bytes)).own
+-- ---- a piece
 
-  pub fed_comes : (step s (at 0 128 (Bytes 0 bytes))).delivered ≡ map came (reading (stream_of s ++ bytes))
-  unfolding own_command
+module _ (s : State) (piece : List ℕ) (j : IsJoined s) (short : length piece ≤ most_piece) where
+  abbrev messages : List (List ℕ)
+  messages = reading (stream_of s ++ piece)
+
+  -- as many as may wait, or fewer
+  few : length messages ≤ most_waiting
+  few =
+      let completed : length messages ≤ 2 * length piece =
+      subst (λ r. length (reading (r ++ piece)) ≤ 2 * length piece) j.stream (piece-few (stream_of s) piece) in
+      omega arith
+
+  fits : 0 + length messages ≤ most_waiting
+  fits = omega (arith, few)
+
+  abbrev next : Option Client
+  next = with_change (FinMap.get s.clients 128) (put_port 0 (port_fed piece (port_of (FinMap.get s.clients 128) 0)))
+
+  -- the state with all messages waiting
+  abbrev waiting : State
+  waiting = record s { clients = put s.clients 128 next; pools = offered s.pools (map came messages) }
+
+  abbrev fed : List Delivery → Stepped
+  fed ds = stepped (sent (record s { clients = put s.clients 128 next }) ds) (Messages (length messages))
+
+  accepted : refusal_of [] s 0 128 (Bytes 0 piece) ≡ None
+  unfolding command_row
+  accepted =
+      let c : Option Client = FinMap.get s.clients 128 in
+      ap (λ b. first_refusal ((refusal.NotOpen, not b) ∷ (refusal.NoNode, not (has_port c 0)) ∷ [])) (open_with_port c j.port)
+      ∙ ap (λ b. first_refusal ((refusal.NotOpen, false) ∷ (refusal.NoNode, not b) ∷ [])) j.port
+
+  feeds-piece : step [] s (said 128 (Bytes 0 piece)) ≡ fed (map came messages)
+  feeds-piece =
+      says s 128 (Bytes 0 piece) j.pending
+      ∙ feeds [] s 0 128 0 piece
+      ∙ ap (λ o. unless o s (fed (send_copies s 0 128 (map (from_port 0) messages)))) accepted
+      ∙ ap fed (one_each s messages j.edges)
+
+  -- each message comes to the second client's port
+  pub fed_comes : (step [] s (said 128 (Bytes 0 piece))).delivered ≡ map came messages
   fed_comes =
-      let messages : List (List ℕ) = reading (stream_of s ++ bytes) in
-      ap (λ o. (unless o s (after_own s 0 128 own)).delivered) (accepted s bytes j)
-      ∙ ap (λ (es : List Edge). send_copies es 0 128 (map (λ m. (0, m)) messages)) j.edges
-      ∙ one_each messages
+      ap (λ (a : Stepped). a.delivered) feeds-piece
+      ∙ all-delivered messages s.pools (empty_pool most_waiting) j.pool fits
 
-  pub fed_delivers : flat_map delivery_line (step s (at 0 128 (Bytes 0 bytes))).delivered ≡ lines_of thru_line (stream_of s ++ bytes)
-  fed_delivers = ap (flat_map delivery_line) fed_comes ∙ came_lines (reading (stream_of s ++ bytes))
+  pub fed_delivers : flat_map delivery_line (step [] s (said 128 (Bytes 0 piece))).delivered ≡ lines_of thru_line (stream_of s ++ piece)
+  fed_delivers = ap (flat_map delivery_line) fed_comes ∙ came_lines messages
 
-  fed_state : (step s (at 0 128 (Bytes 0 bytes))).state ≡ with_own s 128 own
-  fed_state = ap (λ o. (unless o s (after_own s 0 128 own)).state) (accepted s bytes j)
+  -- ---- and the second client takes them
 
-  fed_here : FinMap.get (with_own s 128 own).clients 128 ≡ changed (FinMap.get s.clients 128) (feed_port bytes (port_of (FinMap.get s.clients 128) 0) 0)
-  unfolding own_command
-  fed_here = get-put s.clients 128 (changed (FinMap.get s.clients 128) (feed_port bytes (port_of (FinMap.get s.clients 128) 0) 0)) 128
+  sink-open : FinMap.get waiting.clients 129 ≡ FinMap.get s.clients 129
+  sink-open = get-put s.clients 128 next 129
 
-  fed_edges : (with_own s 128 own).edges ≡ s.edges
-  unfolding own_command
-  fed_edges = none_lost 128 s.edges
+  allowed : refusal_of [] waiting 0 129 (Receive most_waiting) ≡ None
+  unfolding command_row
+  allowed = ap (λ b. first_refusal ((refusal.NotOpen, not b) ∷ (refusal.BadSize, not (is_size most_waiting)) ∷ [])) (ap is_some sink-open ∙ j.sink)
 
-  pub fed_joined : IsJoined (step s (at 0 128 (Bytes 0 bytes))).state
-  fed_joined = subst IsJoined (sym fed_state) joined
+  abbrev emptied : State
+  emptied = record waiting { pools = put waiting.pools 129 (without_oldest most_waiting (FinMap.get waiting.pools 129)) }
+
+  abbrev received : Stepped
+  received = record { state = emptied; delivered = []; reply = Received (oldest most_waiting (FinMap.get waiting.pools 129)) }
+
+  takes-all : step [] waiting (said 129 (Receive most_waiting)) ≡ received
+  takes-all =
+      says waiting 129 (Receive most_waiting) j.pending
+      ∙ step-takes [] waiting 0 129 most_waiting
+      ∙ ap (λ o. unless o waiting received) allowed
+
+  after-piece : step [] (step [] s (said 128 (Bytes 0 piece))).state (said 129 (Receive most_waiting)) ≡ received
+  after-piece = ap (λ (a : Stepped). step [] a.state (said 129 (Receive most_waiting))) feeds-piece ∙ takes-all
+
+  pub none_more : (step [] (step [] s (said 128 (Bytes 0 piece))).state (said 129 (Receive most_waiting))).delivered ≡ []
+  none_more = ap (λ (a : Stepped). a.delivered) after-piece
+
+  passed : state_after [] s (passage piece) ≡ emptied
+  passed = ap (λ (a : Stepped). a.state) after-piece
+
+  first-client : FinMap.get emptied.clients 128 ≡ next
+  first-client = get-put s.clients 128 next 128
+
+  emptied-pool : FinMap.get emptied.pools 129 ≡ Some (empty_pool most_waiting)
+  emptied-pool =
+      let left : List Arrival → Option Pool = λ as_left. let p : Pool = record (empty_pool most_waiting) { waiting = as_left } in Some p in
+      let none : drop most_waiting (map waits messages) ≡ [] = drop_all most_waiting (map waits messages) (omega (arith, few, length-map messages waits)) in
+      get-put waiting.pools 129 (without_oldest most_waiting (FinMap.get waiting.pools 129)) 129
+      ∙ ap (without_oldest most_waiting) (all-wait messages s.pools (empty_pool most_waiting) j.pool fits)
+      ∙ ap left none
+
+  emptied-stream : stream_of emptied ≡ rest (stream_of s ++ piece)
+  emptied-stream = ap (λ c. fed_of (port_of c 0)) first-client ∙ (fed_client (FinMap.get s.clients 128) piece j.port).stream
+
+  emptied-joined : IsJoined emptied
+  emptied-joined = record {
+    port = ap (λ c. has_port c 0) first-client ∙ (fed_client (FinMap.get s.clients 128) piece j.port).port;
+    sink = ap is_some sink-open ∙ j.sink;
+    pool = emptied-pool;
+    edges = j.edges;
+    pending = j.pending;
+    stream = ap rest emptied-stream ∙ rest-rest (stream_of s ++ piece) ∙ sym emptied-stream;
+  }
     where
-      joined : IsJoined (with_own s 128 own)
-      joined = record { port = ap (λ c. has_port c 0) fed_here ∙ (fed_client (FinMap.get s.clients 128) bytes j.port).0; edges = fed_edges ∙ j.edges }
+      rest-rest : (bytes : List ℕ) → rest (rest bytes) ≡ rest bytes
+      rest-rest bytes = ap rest (sym (append-nil (rest bytes))) ∙ sym (rests-in-two bytes []) ∙ ap rest (append-nil bytes)
 
-  pub fed_stream : stream_of (step s (at 0 128 (Bytes 0 bytes))).state ≡ rest (stream_of s ++ bytes)
-  fed_stream = ap stream_of fed_state ∙ ap (λ c. fed_of (port_of c 0)) fed_here ∙ (fed_client (FinMap.get s.clients 128) bytes j.port).1
+  pub passed_joined : IsJoined (state_after [] s (passage piece))
+  passed_joined = subst IsJoined (sym passed) emptied-joined
 
--- ---- an engine that is fed piece by piece
-
-pub fed_nothing : (e : Seen) → e ≡ record { state = state_after start joining; moment = 0; steps = 5; failed = false } → IsFed e []
-unfolding rest
-fed_nothing e is =
-    let steps : e.steps ≡ 5 = ap (λ (x : Seen). x.steps) is in
-    record {
-      joined = subst IsJoined (sym (ap (λ (x : Seen). x.state) is)) joined_state;
-      early = ap (λ (x : Seen). x.moment) is;
-      counted = omega arith;
-      sound = ap (λ (x : Seen). x.failed) is;
-      stream = ap (λ (x : Seen). stream_of x.state) is ∙ joined_stream;
-    }
-
-pub fed_more : (e e' : Seen) (read piece : List ℕ) → IsFed e read → 0 < length piece → IsJoined e'.state → stream_of e'.state ≡ rest (stream_of e.state ++ piece) → (e'.moment ≡ 0) × (e'.steps ≡ e.steps + 1) × (e'.failed ≡ false) → IsFed e' (read ++ piece)
-fed_more e e' read piece f some joined stream early =
-    let was : e.steps ≤ 5 + length read = f.counted in
-    let more : e'.steps ≡ e.steps + 1 = early.1 in
-    let longer : length (read ++ piece) ≡ length read + length piece = length-append read piece in
-    record {
-      joined = joined;
-      early = early.0;
-      counted = omega arith;
-      sound = early.2;
-      stream = stream ∙ ap (λ r. rest (r ++ piece)) f.stream ∙ sym (rests-in-two read piece);
-    }
+  pub passed_stream : stream_of (state_after [] s (passage piece)) ≡ rest (stream_of s ++ piece)
+  passed_stream = ap stream_of passed ∙ emptied-stream

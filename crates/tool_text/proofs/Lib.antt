@@ -1,6 +1,10 @@
+pub mod Few
+pub mod Cut
+pub mod Room
 pub mod Joined
 pub mod Fed
 pub mod Passing
+pub mod OnTheWay
 pub mod Passed
 pub mod Copied
 pub mod Dumped

@@ -1,15 +1,13 @@
 -- A stream that is read in pieces and printed as it comes.
-use Rattle.std.proofs.Common.{◌≡◌, ℕ, ◌+◌, ◌-◌, ◌<◌, ◌≤◌, ◌++◌, ◌∙◌, Bool, true, false, List, [], ◌∷◌, length, refl, sym, ap, arith, append_assoc, append-nil, length-append}
-use Rattle.std.specs.Prelude.{Result, Ok, Err, OnOk, OnErr}
-use Rattle.std.specs.Result.{is_err}
+use Rattle.std.proofs.Common.{◌≡◌, ℕ, ◌+◌, ◌<◌, ◌++◌, ◌∙◌, Bool, true, List, [], ◌∷◌, length, refl, sym, ap, arith, append_assoc, append-nil}
+use Rattle.std.specs.Prelude.{Result, Ok, Err, OnOk}
 use Rattle.std.specs.List.{flat_map}
-use Rattle.std.proofs.lemmas.Bool.{false≢true}
 use Rattle.std.proofs.lemmas.List.Concat.{flat_map-append}
 use Rattle.byte_io.specs.Moved.{GainsBytes}
 use Rattle.midi_wire.specs.Readings.{reading, rest}
 use Rattle.midi_wire.proofs.Settled.{reads-in-two}
 use Rattle.tool_text.specs.Limits.{most_bytes}
-use Rattle.tool_text.specs.Stream.{lines_of, whole_text, HasRoom, StopsShort}
+use Rattle.tool_text.specs.Stream.{lines_of, whole_text, StopsShort}
 
 -- These bytes were taken, and the lines for them were written: `tells` says whether the source tells its bytes, `told` whether the sink does.
 pub record Passed (taken : List ℕ → Type 0) (lines : List ℕ → List ℕ) (tells : Bool) (first left : List ℕ) (told : Bool) (old new : List ℕ) (room : ℕ) : Type 0 where
@@ -21,32 +19,6 @@ pub record Passed (taken : List ℕ → Type 0) (lines : List ℕ → List ℕ) 
 
 -- ---- one more piece
 
-pub nothing_passed : (taken : List ℕ → Type 0) (lines : List ℕ → List ℕ) (tells told : Bool) (first old : List ℕ) → taken [] → lines [] ≡ [] → Passed taken lines tells first first told old old most_bytes
-nothing_passed taken lines tells told first old h e = record {
-  read = [];
-  has = h;
-  split = λ t. refl;
-  counted = refl;
-  written = λ t. sym (ap (λ xs. old ++ xs) e ∙ append-nil old);
-}
-
-pub has_room : (taken : List ℕ → Type 0) (lines : List ℕ → List ℕ) (tells : Bool) (first left : List ℕ) (told : Bool) (old new : List ℕ) (room n : ℕ) (piece : List ℕ) → Passed taken lines tells first left told old new room → length piece ≡ n → n ≤ room → HasRoom taken piece
-has_room taken lines tells first left told old new room n piece p c l =
-    let k : length p.read + room ≡ most_bytes = p.counted in
-    let fits : length p.read + length piece ≤ most_bytes = omega arith in
-    (p.read, p.has, fits)
-
-pub one_more_passed : (taken taken' : List ℕ → Type 0) (lines : List ℕ → List ℕ) (tells : Bool) (first left left' : List ℕ) (told : Bool) (old new new' : List ℕ) (room n : ℕ) (piece added : List ℕ) → Passed taken lines tells first left told old new room →
-    ((read : List ℕ) → taken read → taken' (read ++ piece)) → ((read : List ℕ) → taken read → lines (read ++ piece) ≡ lines read ++ added) → (tells ≡ true → left ≡ piece ++ left') → length piece ≡ n → n ≤ room → (told ≡ true → new' ≡ new ++ added) →
-    Passed taken' lines tells first left' told old new' (room - n)
-one_more_passed taken taken' lines tells first left left' told old new new' room n piece added p h t l c r w = record {
-  read = p.read ++ piece;
-  has = h p.read p.has;
-  split = λ x. p.split x ∙ ap (λ xs. p.read ++ xs) (l x) ∙ sym (append_assoc p.read piece left');
-  counted = let a : length (p.read ++ piece) ≡ length p.read + length piece = length-append p.read piece in let b : length p.read + room ≡ most_bytes = p.counted in omega arith;
-  written = λ y. w y ∙ ap (λ xs. xs ++ added) (p.written y) ∙ append_assoc old (lines p.read) added ∙ ap (λ xs. old ++ xs) (sym (t p.read p.has));
-}
-
 -- ---- where it ends
 
 pub all_passed : (taken : List ℕ → Type 0) (lines ending : List ℕ → List ℕ) (tells : Bool) (first left : List ℕ) (told : Bool) (old new new' : List ℕ) (room : ℕ) (added : List ℕ) → Passed taken lines tells first left told old new room →
@@ -57,20 +29,6 @@ all_passed taken lines ending tells first left told old new new' room added p h 
     ∙ append_assoc old (lines p.read) added
     ∙ ap (λ xs. old ++ (lines p.read ++ xs)) (h p.read p.has)
     ∙ ap (λ xs. old ++ whole_text lines ending xs) (sym (p.split x ∙ ap (λ xs. p.read ++ xs) e ∙ append-nil p.read))
-
-pub within_bound : (taken : List ℕ → Type 0) (lines : List ℕ → List ℕ) (tells : Bool) (first left : List ℕ) (told : Bool) (old new : List ℕ) (room : ℕ) → Passed taken lines tells first left told old new room → tells ≡ true → left ≡ [] → length first ≤ most_bytes
-within_bound taken lines tells first left told old new room p t e =
-    let all : length first ≡ length p.read = ap length (p.split t ∙ ap (λ xs. p.read ++ xs) e ∙ append-nil p.read) in
-    let k : length p.read + room ≡ most_bytes = p.counted in
-    omega arith
-
--- more was read than may be
-pub too_long : (taken : List ℕ → Type 0) (lines : List ℕ → List ℕ) (tells : Bool) (first left left' : List ℕ) (told : Bool) (old new : List ℕ) (room n : ℕ) (piece : List ℕ) → Passed taken lines tells first left told old new room → (tells ≡ true → left ≡ piece ++ left') → length piece ≡ n → room < n → tells ≡ true → most_bytes < length first
-too_long taken lines tells first left left' told old new room n piece p l c r t =
-    let all : length first ≡ length p.read + length left = ap length (p.split t) ∙ length-append p.read left in
-    let more : length left ≡ length piece + length left' = ap length (l t) ∙ length-append piece left' in
-    let k : length p.read + room ≡ most_bytes = p.counted in
-    omega arith
 
 -- ---- where it stops
 
@@ -124,18 +82,6 @@ lines_more line read piece stream text added s e a =
 pub nothing_left : (l : List ℕ) (w n : ℕ) → (0 < length l → 0 < w → 0 < n) → 0 < w → n ≡ 0 → l ≡ []
 nothing_left [] w n f hw e = refl
 nothing_left (x ∷ l) w n f hw e = let p : 0 < n = f (omega arith) hw in absurd (omega arith)
-
-pub ends_empty : (a b c : List ℕ) → a ≡ [] → a ≡ b ++ c → c ≡ []
-ends_empty a [] c e f = sym f ∙ e
-ends_empty a (x ∷ b) c e f = let no : x ∷ (b ++ c) ≡ [] = sym f ∙ e in cc
-
-pub of_err : {X E P : Type 0} (r : Result X E) → is_err r ≡ true → OnErr r P → P
-of_err (Ok x) e p = let no : false ≡ true = e in absurd (false≢true no)
-of_err (Err x) e p = p
-
-pub of_ok : {X E P : Type 0} (r : Result X E) → is_err r ≡ false → OnOk r P → P
-of_ok (Ok x) e p = p
-of_ok (Err x) e p = let no : false ≡ true = sym e in absurd (false≢true no)
 
 pub of_three : {X E P Q R S : Type 0} (r : Result X E) → (P → Q → R → S) → OnOk r P → OnOk r Q → OnOk r R → OnOk r S
 of_three (Ok x) f p q s = f p q s

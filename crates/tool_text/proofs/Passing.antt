@@ -1,85 +1,66 @@
 -- What is delivered in the run of a stream.
-use Rattle.std.proofs.Common.{◌≡◌, ℕ, ◌+◌, List, [], ◌∷◌, ◌++◌, map, Option, Some, None, refl, sym, ap, ◌∙◌, append-nil}
+use Rattle.std.proofs.Common.{◌≡◌, ℕ, ◌+◌, List, [], ◌∷◌, ◌++◌, map, refl, sym, ap, ◌∙◌, append-nil}
 use Rattle.std.specs.List.{flat_map}
-use Rattle.node_table.specs.declared.caps.Caps.{Caps}
-use Rattle.node_table.specs.declared.number.Addr.{Addr}
-use Rattle.midi_wire.specs.Readings.{reading}
+use Rattle.std.proofs.lemmas.List.{map-append}
+use Rattle.midi_wire.specs.Laws.{reading_of_pieces}
+use Rattle.midi_wire.specs.Readings.{reading, rest}
+use Rattle.midi_wire.proofs.Pieces.{reads-in-pieces}
+use Rattle.cell_pools.specs.Pools.{most_waiting}
+use Rattle.seq_state.specs.declared.input.Command.TheVariants.{Bytes, Receive}
+use Rattle.seq_state.specs.declared.input.Input.{Input}
 use Rattle.seq_state.specs.declared.log.Delivery.{Delivery}
-use Rattle.seq_ports.specs.declared.input.Command.TheVariants.{Open, CreatePort, Connect, Bytes}
-use Rattle.seq_ports.specs.declared.input.Input.{Input}
-use Rattle.seq_ports.specs.declared.log.LogEntry.{LogEntry}
-use Rattle.seq_ports.specs.declared.log.LogEntry.TheVariants.{Delivered, Replied}
-use Rattle.seq_ports.specs.Rows.{at}
-use Rattle.seq_ports.specs.State.{State, start}
-use Rattle.seq_ports.specs.Own.{own_command}
-use Rattle.seq_ports.specs.Step.{Stepped, port_addr, unless, step, log_from, plain, state_after}
+use Rattle.seq_state.specs.declared.log.LogEntry.{LogEntry}
+use Rattle.seq_state.specs.declared.log.LogEntry.TheVariants.{Delivered, Replied}
+use Rattle.seq_state.specs.Laws.{deliveries_of}
+use Rattle.seq_state.specs.State.{State, start}
+use Rattle.seq_state.specs.Step.{settle, step, log_from, plain, state_after}
 use Rattle.tool_text.specs.Stream.{lines_of, no_ending, whole_text}
-use Rattle.tool_text.specs.Thru.{joining, passing, deliveries, delivery_line, thru_line, thru_text}
-use Rattle.tool_text.proofs.Fed.{came, came_lines, fed_comes}
-use Rattle.tool_text.proofs.Joined.{joined_state, joined_stream}
+use Rattle.tool_text.specs.Thru.{said, pieces, passage, passing, delivery_line, thru_line, thru_text, stream_of, IsJoined}
+use Rattle.tool_text.proofs.Cut.{AreShort, pieces-short, pieces-whole}
+use Rattle.tool_text.proofs.Fed.{came_lines, fed_comes, none_more, passed_joined, passed_stream}
+use Rattle.tool_text.proofs.Joined.{come, whole, none-due, joining-comes, whole-joined, whole-stream}
+use Rattle.tool_text.proofs.Room.{came}
 
 -- ---- the deliveries of a log
 
--- what is delivered by the inputs, one after another
-abbrev delivered_by : State → List Input → List Delivery
-delivered_by s [] = []
-delivered_by s (i ∷ inputs) = (step s i).delivered ++ delivered_by (step s i).state inputs
-
-of_delivered : (ds : List Delivery) (log : List LogEntry) → deliveries (map Delivered ds ++ log) ≡ ds ++ deliveries log
+of_delivered : (ds : List Delivery) (log : List LogEntry) → deliveries_of (map Delivered ds ++ log) ≡ ds ++ deliveries_of log
 of_delivered [] log = refl
 of_delivered (d ∷ ds) log = ap (λ es. d ∷ es) (of_delivered ds log)
 
-of_log : (s : State) (place : ℕ) (inputs : List Input) (end : ℕ) → deliveries (log_from s place inputs end) ≡ delivered_by s inputs
-of_log s place [] end = refl
-of_log s place (i ∷ inputs) end =
-    of_delivered (step s i).delivered (Replied place i.moment i.actor (step s i).reply ∷ log_from (step s i).state (place + 1) inputs end)
-    ∙ ap (λ ds. (step s i).delivered ++ ds) (of_log (step s i).state (place + 1) inputs end)
+of_last : (ds : List Delivery) → deliveries_of (map Delivered ds) ≡ ds
+of_last [] = refl
+of_last (d ∷ ds) = ap (λ es. d ∷ es) (of_last ds)
 
--- ---- joining delivers nothing
-
-unless_quiet : (o : Option ℕ) (s : State) (e : Stepped) → e.delivered ≡ [] → (unless o s e).delivered ≡ []
-unless_quiet None s e q = q
-unless_quiet (Some n) s e q = refl
-
-opening_quiet : (s : State) (moment actor : ℕ) (name : List ℕ) (a b : ℕ) → (step s (at moment actor (Open name a b))).delivered ≡ []
-unfolding own_command
-opening_quiet s moment actor name a b = unless_quiet _ s _ refl
-
-creation_quiet : (s : State) (moment actor port : ℕ) (name : List ℕ) (caps : Caps) → (step s (at moment actor (CreatePort port name caps))).delivered ≡ []
-unfolding own_command
-creation_quiet s moment actor port name caps = unless_quiet _ s _ refl
-
-connection_quiet : (s : State) (moment actor : ℕ) (source target : Addr) → (step s (at moment actor (Connect source target))).delivered ≡ []
-connection_quiet s moment actor source target = unless_quiet _ s _ refl
-
--- nothing is delivered by these inputs, whoever is there
-record Quiet (inputs : List Input) : Type 0 where
-  skips : (s : State) (more : List Input) → delivered_by s (inputs ++ more) ≡ delivered_by (state_after s inputs) more
-
-quiet_nil : Quiet []
-quiet_nil = record { skips = λ s more. refl }
-
-quiet_cons : (i : Input) (inputs : List Input) → ((s : State) → (step s i).delivered ≡ []) → Quiet inputs → Quiet (i ∷ inputs)
-quiet_cons i inputs q h = record { skips = λ s more. ap (λ ds. ds ++ delivered_by (step s i).state (inputs ++ more)) (q s) ∙ h.skips (step s i).state more }
-
-joining_quiet : Quiet joining
-joining_quiet =
-    quiet_cons (at 0 128 (Open (0x73 ∷ 0x6F ∷ 0x75 ∷ 0x72 ∷ 0x63 ∷ 0x65 ∷ []) 1 1)) _ (λ s. opening_quiet s 0 128 (0x73 ∷ 0x6F ∷ 0x75 ∷ 0x72 ∷ 0x63 ∷ 0x65 ∷ []) 1 1)
-    (quiet_cons (at 0 128 (CreatePort 0 (0x6F ∷ 0x75 ∷ 0x74 ∷ []) (record { 0 = 33 }))) _ (λ s. creation_quiet s 0 128 0 (0x6F ∷ 0x75 ∷ 0x74 ∷ []) (record { 0 = 33 }))
-    (quiet_cons (at 0 129 (Open (0x73 ∷ 0x69 ∷ 0x6E ∷ 0x6B ∷ []) 1 1)) _ (λ s. opening_quiet s 0 129 (0x73 ∷ 0x69 ∷ 0x6E ∷ 0x6B ∷ []) 1 1)
-    (quiet_cons (at 0 129 (CreatePort 0 (0x69 ∷ 0x6E ∷ []) (record { 0 = 66 }))) _ (λ s. creation_quiet s 0 129 0 (0x69 ∷ 0x6E ∷ []) (record { 0 = 66 }))
-    (quiet_cons (at 0 129 (Connect (port_addr 128 0) (port_addr 129 0))) [] (λ s. connection_quiet s 0 129 (port_addr 128 0) (port_addr 129 0)) quiet_nil))))
+of_log : (s : State) (place : ℕ) (inputs : List Input) → deliveries_of (log_from [] s place inputs 0) ≡ come s inputs
+of_log s place [] = of_last (settle s 0).delivered
+of_log s place (i ∷ inputs) =
+    of_delivered (step [] s i).delivered (Replied place i.moment i.actor (step [] s i).reply ∷ log_from [] (step [] s i).state (place + 1) inputs 0)
+    ∙ ap (λ ds. (step [] s i).delivered ++ ds) (of_log (step [] s i).state (place + 1) inputs)
 
 -- ---- the whole run
 
+-- what comes of pieces is the messages that they complete
+pieces-come : (ps : List (List ℕ)) (s : State) → AreShort ps → IsJoined s → come s (flat_map passage ps) ≡ map came (reading_of_pieces (stream_of s) ps)
+pieces-come [] s short j = none-due s j.pending
+pieces-come (p ∷ ps) s short j =
+    let ms : List (List ℕ) = reading (stream_of s ++ p) in
+    let after : State = state_after [] s (passage p) in
+    let more : List Delivery = come after (flat_map passage ps) in
+    ap (λ ds. ds ++ ((step [] (step [] s (said 128 (Bytes 0 p))).state (said 129 (Receive most_waiting))).delivered ++ more)) (fed_comes s p j short.0)
+    ∙ ap (λ ds. map came ms ++ (ds ++ more)) (none_more s p j short.0)
+    ∙ ap (λ ds. map came ms ++ ds) (pieces-come ps after short.1 (passed_joined s p j short.0))
+    ∙ ap (λ r. map came ms ++ map came (reading_of_pieces r ps)) (passed_stream s p j short.0)
+    ∙ sym (map-append came ms (reading_of_pieces (rest (stream_of s ++ p)) ps))
+
 -- what comes to ports is the messages of the stream, each once
-run_delivers : (bytes : List ℕ) → deliveries (plain (passing bytes) 0) ≡ map came (reading bytes)
+run_delivers : (bytes : List ℕ) → deliveries_of (plain [] (passing bytes) 0) ≡ map came (reading bytes)
 run_delivers bytes =
-    of_log start 0 (passing bytes) 0
-    ∙ joining_quiet.skips start (at 0 128 (Bytes 0 bytes) ∷ [])
-    ∙ append-nil (step (state_after start joining) (at 0 128 (Bytes 0 bytes))).delivered
-    ∙ fed_comes (state_after start joining) bytes joined_state
-    ∙ ap (λ r. map came (reading (r ++ bytes))) joined_stream
+    of_log start 0 (passing bytes)
+    ∙ joining-comes (flat_map passage (pieces bytes))
+    ∙ pieces-come (pieces bytes) whole (pieces-short bytes) whole-joined
+    ∙ ap (λ r. map came (reading_of_pieces r (pieces bytes))) whole-stream
+    ∙ ap (map came) (reads-in-pieces (pieces bytes))
+    ∙ ap (λ b. map came (reading b)) (pieces-whole bytes)
 
 pub thru_lines : (bytes : List ℕ) → thru_text bytes ≡ lines_of thru_line bytes
 unfolding thru_text

@@ -9,7 +9,7 @@ use Rattle.smf_grammar.specs.Files.{MidiFile, File, Fault}
 use Rattle.smf_grammar.specs.Contents.{entries_of, events_of, skipped_of}
 use Rattle.tool_text.specs.declared.fault.ToolFault.{ToolFault}
 use Rattle.tool_text.specs.declared.fault.ToolFault.TheVariants.{OutOfMemory, Read, Write, Smf}
-use Rattle.tool_text.specs.Hex.{spaced}
+use Rattle.text_forms.specs.Hex.{spaced}
 
 -- ---- the text
 

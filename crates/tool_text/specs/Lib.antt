@@ -1,5 +1,4 @@
 pub mod Limits
-pub mod Hex
 pub mod Stream
 pub mod Thru
 pub mod Wire

@@ -2,6 +2,7 @@
 use Rattle.std.specs.Prelude.{◌≡◌, ◌≢◌, ℕ, if◌then◌else◌, List, ◌++◌, codes, encode_utf8, encode_utf8_all}
 use Rattle.std.specs.List.{flat_map}
 use Rattle.std.specs.Char.{is_control}
+use Rattle.std.specs.Fmt.{decimal}
 use Rattle.std.specs.Char.Escape.{escape_default}
 use Rattle.std.specs.Str.{chars}
 use Rattle.smf_grammar.specs.Faults as smf
@@ -12,7 +13,7 @@ use Rattle.tool_text.specs.declared.choice.Stream.TheVariants.{Standard, Path}
 use Rattle.tool_text.specs.declared.fault.ToolFault.{ToolFault}
 use Rattle.tool_text.specs.declared.fault.ToolFault.TheVariants as tool
 use Rattle.tool_text.specs.declared.program_fault.ProgramFault.{ProgramFault}
-use Rattle.tool_text.specs.declared.program_fault.ProgramFault.TheVariants.{NotUtf8, NoSubcommand, CannotRead, CannotWrite, OutOfMemory, Smf}
+use Rattle.tool_text.specs.declared.program_fault.ProgramFault.TheVariants.{NotUtf8, NoSubcommand, NotAMoment, NotAPort, NotAScript, TwoScripts, CannotRead, CannotWrite, OutOfMemory, CannotRecord, Smf}
 
 -- ---- the choice
 
@@ -46,9 +47,16 @@ escaped text = flat_map shown (chars text)
 abbrev pub fault_text : ProgramFault → List ℕ
 fault_text NotUtf8 = codes "an argument is not UTF-8"
 fault_text NoSubcommand = codes "name a subcommand; see midiseq --help"
+fault_text (NotAMoment word) = escaped word.now ++ codes " is no moment in nanoseconds; see midiseq --help"
+fault_text (NotAPort word) = escaped word.now ++ codes " names no port, as 129:0 does; see midiseq --help"
+fault_text (NotAScript word) =
+    escaped word.now ++ codes " names no script, as 128=keys.txt does; see midiseq --help"
+fault_text (TwoScripts client) =
+    codes "client " ++ decimal client ++ codes " has two scripts; see midiseq --help"
 fault_text (CannotRead path) = codes "cannot read " ++ escaped path.now
 fault_text (CannotWrite path) = codes "cannot write " ++ escaped path.now
 fault_text OutOfMemory = codes "out of memory"
+fault_text CannotRecord = codes "cannot record"
 fault_text (Smf fault) = smf.fault_text fault
 
 -- what is printed for the fault of a tool that was given a stream
@@ -58,11 +66,20 @@ told_text stream tool.Write = codes "cannot write " ++ escaped (codes "-")
 told_text stream tool.OutOfMemory = codes "out of memory"
 told_text stream (tool.Smf fault) = smf.fault_text fault
 
+-- what is printed of a file that a run leaves out
+abbrev pub left_out_text : List ℕ → List ℕ
+left_out_text name = codes "left out " ++ escaped name
+
 -- 2 for a fault in the words, 1 for any other
 abbrev pub status_of : ProgramFault → ℕ
 status_of NotUtf8 = 2
 status_of NoSubcommand = 2
+status_of (NotAMoment word) = 2
+status_of (NotAPort word) = 2
+status_of (NotAScript word) = 2
+status_of (TwoScripts client) = 2
 status_of (CannotRead path) = 1
 status_of (CannotWrite path) = 1
 status_of OutOfMemory = 1
+status_of CannotRecord = 1
 status_of (Smf fault) = 1

@@ -1,55 +1,75 @@
 -- What passes through a sequencer with two clients.
-use Rattle.std.specs.Prelude.{◌≡◌, ◌+◌, ◌≤◌, ℕ, true, false, List, [], ◌∷◌, ◌++◌, codes, length, Option, Some, None}
-use Rattle.std.specs.List.{flat_map, filter_map}
+use Rattle.std.specs.Prelude.{◌≡◌, ◌+◌, ◌*◌, ◌≤◌, ℕ, zero, suc, true, false, List, [], ◌∷◌, ◌++◌, codes, length, take, drop, Some, is_some}
+use Rattle.std.specs.List.{flat_map}
+use Rattle.std.specs.Int.{div_ceil}
 use Rattle.std.specs.Fmt.{decimal}
 use Rattle.std.specs.FinMap
+use Rattle.cell_pools.specs.Pools.{empty_pool, most_waiting}
 use Rattle.midi_wire.specs.Readings.{rest}
 use Rattle.node_table.specs.Text.{addr_text}
 use Rattle.node_table.specs.declared.number.Node.TheVariants.{Port}
 use Rattle.patch_graph.specs.Edges.{edge}
+use Rattle.seq_state.specs.declared.input.Command.{Command}
+use Rattle.seq_state.specs.declared.input.Command.TheVariants.{Open, CreatePort, Connect, Bytes, Receive}
+use Rattle.seq_state.specs.declared.input.Input.{Input}
 use Rattle.seq_state.specs.declared.log.Delivery.{Delivery}
-use Rattle.seq_ports.specs.declared.input.Command.TheVariants.{Open, CreatePort, Connect, Bytes}
-use Rattle.seq_ports.specs.declared.input.Input.{Input}
-use Rattle.seq_ports.specs.declared.log.LogEntry.{LogEntry}
-use Rattle.seq_ports.specs.declared.log.LogEntry.TheVariants.{Delivered, Replied}
-use Rattle.seq_ports.specs.Rows.{at}
-use Rattle.seq_ports.specs.Own.{has_port, port_of, fed_of}
-use Rattle.seq_ports.specs.State.{State}
-use Rattle.seq_ports.specs.Step.{port_addr, plain}
+use Rattle.seq_state.specs.Laws.{deliveries_of}
+use Rattle.seq_state.specs.Own.{has_port, port_of, fed_of}
+use Rattle.seq_state.specs.State.{State}
+use Rattle.seq_state.specs.Step.{port_addr, step, plain}
 use Rattle.seq_engine.specs.Seen.{Seen}
-use Rattle.tool_text.specs.Hex.{spaced}
+use Rattle.text_forms.specs.Hex.{spaced}
 use Rattle.tool_text.specs.Stream.{lines_of}
 
 -- ---- the run
 
--- clients "source" and "sink" with ports "out" and "in"; the second subscribes its port to the first's
+-- a client says this at moment 0
+abbrev pub said : ℕ → Command → Input
+said client command = record { moment = 0; actor = client; command = command }
+
+-- clients "source" and "sink" with ports "out" and "in"; the second subscribes its port to the
+-- first's, and as many messages may wait for it as may for any client
 abbrev pub joining : List Input
 joining =
-    at 0 128 (Open (0x73 ∷ 0x6F ∷ 0x75 ∷ 0x72 ∷ 0x63 ∷ 0x65 ∷ []) 1 1) ∷ at 0 128 (CreatePort 0 (0x6F ∷ 0x75 ∷ 0x74 ∷ []) (record { 0 = 33 }))
-    ∷ at 0 129 (Open (0x73 ∷ 0x69 ∷ 0x6E ∷ 0x6B ∷ []) 1 1) ∷ at 0 129 (CreatePort 0 (0x69 ∷ 0x6E ∷ []) (record { 0 = 66 }))
-    ∷ at 0 129 (Connect (port_addr 128 0) (port_addr 129 0)) ∷ []
+    said 128 (Open (0x73 ∷ 0x6F ∷ 0x75 ∷ 0x72 ∷ 0x63 ∷ 0x65 ∷ []) 1 1)
+    ∷ said 128 (CreatePort 0 (0x6F ∷ 0x75 ∷ 0x74 ∷ []) (record { 0 = 33 }))
+    ∷ said 129 (Open (0x73 ∷ 0x69 ∷ 0x6E ∷ 0x6B ∷ []) most_waiting 1)
+    ∷ said 129 (CreatePort 0 (0x69 ∷ 0x6E ∷ []) (record { 0 = 66 }))
+    ∷ said 129 (Connect (port_addr 128 0) (port_addr 129 0)) ∷ []
 
--- they are joined, and then the first's port is fed the whole stream
+-- how many bytes are passed on at once: a byte completes at most two messages, so that a piece
+-- completes no more than may wait for the second client
+abbrev pub most_piece : ℕ
+most_piece = 1000
+
+-- the first so many pieces of the bytes
+abbrev pub first_pieces : ℕ → List ℕ → List (List ℕ)
+first_pieces zero bytes = []
+first_pieces (suc n) bytes = take most_piece bytes ∷ first_pieces n (drop most_piece bytes)
+
+-- the bytes in pieces of that length, and a last one of what is left
+abbrev pub pieces : List ℕ → List (List ℕ)
+pieces bytes = first_pieces (div_ceil (length bytes) most_piece) bytes
+
+-- the first client's port is fed a piece, and then the second client takes all that waits for it
+abbrev pub passage : List ℕ → List Input
+passage piece = said 128 (Bytes 0 piece) ∷ said 129 (Receive most_waiting) ∷ []
+
+-- they are joined, and then the stream passes, one piece after another
 abbrev pub passing : List ℕ → List Input
-passing bytes = joining ++ at 0 128 (Bytes 0 bytes) ∷ []
-
-abbrev pub delivery_in : LogEntry → Option Delivery
-delivery_in (Delivered d) = Some d
-delivery_in (Replied place moment client reply) = None
-
--- what came to ports, in the order of a log
-abbrev pub deliveries : List LogEntry → List Delivery
-deliveries log = filter_map delivery_in log
+passing bytes = joining ++ flat_map passage (pieces bytes)
 
 -- ---- the text
 
 -- a delivery: its moment, its port and its message
 abbrev pub delivery_line : Delivery → List ℕ
-delivery_line d = decimal d.moment ++ 32 ∷ [] ++ addr_text d.target.client (Port d.target.port) ++ spaced d.message ++ 10 ∷ []
+delivery_line d =
+    decimal d.moment ++ 32 ∷ [] ++ addr_text d.target.client (Port d.target.port)
+    ++ spaced d.message ++ 10 ∷ []
 
 -- a line for each delivery of the plain run
 unfoldable pub thru_text : List ℕ → List ℕ
-thru_text bytes = flat_map delivery_line (deliveries (plain (passing bytes) 0))
+thru_text bytes = flat_map delivery_line (deliveries_of (plain [] (passing bytes) 0))
 
 -- a message of the stream as it comes to the port of the second client
 abbrev pub thru_line : List ℕ → List ℕ
@@ -65,15 +85,29 @@ ThruLaw = (bytes : List ℕ) → thru_text bytes ≡ lines_of thru_line bytes
 abbrev pub stream_of : State → List ℕ
 stream_of s = fed_of (port_of (FinMap.get s.clients 128) 0)
 
--- the first client has its port, and the second client's is the one that is subscribed to it
+-- the first client has its port, whose stream is kept by what still matters of it; the second's is
+-- the one that is subscribed to it; and nothing waits or is still to be sent
 pub record IsJoined (s : State) : Type 0 where
   pub port : has_port (FinMap.get s.clients 128) 0 ≡ true
+  pub sink : is_some (FinMap.get s.clients 129) ≡ true
+  pub pool : FinMap.get s.pools 129 ≡ Some (empty_pool most_waiting)
   pub edges : s.edges ≡ edge (port_addr 128 0) (port_addr 129 0) ∷ []
+  pub pending : s.pending ≡ []
+  pub stream : rest (stream_of s) ≡ stream_of s
 
--- the clients are joined, and the first's port was fed these bytes and no others, all at moment 0
-pub record IsFed (e : Seen) (read : List ℕ) : Type 0 where
+-- an engine after an input at moment 0
+abbrev pub after_input : Seen → Input → Seen
+after_input e i = record e { state = (step e.files e.state i).state; moment = 0; steps = e.steps + 1 }
+
+-- an engine of this session: it has no files, its moment is 0, and the clients are joined
+pub record IsPassing (e : Seen) : Type 0 where
+  pub files : e.files ≡ []
   pub joined : IsJoined e.state
   pub early : e.moment ≡ 0
-  pub counted : e.steps ≤ 5 + length read
   pub sound : e.failed ≡ false
+
+-- the first client's port was fed these bytes and no others, in pieces with two steps for each
+pub record IsFed (e : Seen) (read : List ℕ) : Type 0 where
+  pub passing : IsPassing e
+  pub counted : e.steps ≤ 5 + 2 * length read
   pub stream : stream_of e.state ≡ rest read

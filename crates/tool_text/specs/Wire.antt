@@ -1,15 +1,10 @@
 -- A stream as it is read and written back.
-use Rattle.std.specs.Prelude.{◌≡◌, ℕ, false, List, [], ◌∷◌, ◌++◌, ◌/◌, ◌%◌, codes, Option}
+use Rattle.std.specs.Prelude.{◌≡◌, ℕ, false, List, [], ◌∷◌, ◌++◌, codes, Option}
 use Rattle.midi_wire.specs.Parsing.{Parsing}
 use Rattle.midi_wire.specs.Readings.{reading, rest}
 use Rattle.midi_wire.specs.Writings.{written, status_in_force}
-use Rattle.tool_text.specs.Hex.{digit, spaced}
+use Rattle.text_forms.specs.Hex.{spaced, in_hex}
 use Rattle.tool_text.specs.Stream.{lines_of, whole_text}
-
--- bytes with one space between
-abbrev pub in_hex : List ℕ → List ℕ
-in_hex [] = []
-in_hex (b ∷ bytes) = digit (b / 16) ∷ digit (b % 16) ∷ spaced bytes
 
 -- a message on a line
 abbrev pub wire_line : List ℕ → List ℕ

@@ -1,6 +1,6 @@
 //! What the program is asked to do.
 
-ghost use Rattle.std.specs.Prelude.{◌≡◌, ◌≢◌, ◌≤◌, ◌⊎◌, [], true, false, length, IfSome, IfNone, OnOk, IsErrOf};
+ghost use Rattle.std.specs.Prelude.{◌≡◌, ◌≢◌, ◌≤◌, ◌<◌, ◌⊎◌, [], true, false, length, IfSome, IfNone, OnOk, IsErrOf};
 ghost use Rattle.tool_text.specs.declared.choice.Tool.{Tool};
 ghost use Rattle.tool_text.specs.Limits.{most_bytes};
 ghost use Rattle.tool_text.specs.Program.{tool_name, stream_name, IsNamedBy};
@@ -71,6 +71,8 @@ impl Tool {
         ensures all { R.tells input.old ≡ true → OnOk result (R.left input.new ≡ []) }
         ensures bounded { R.tells input.old ≡ true
             → OnOk result (length (R.left input.old) ≤ most_bytes) }
+        ensures read { IsErrOf result ToolFault.Read → (R.failed input.new ≡ true)
+            ⊎ (R.tells input.old ≡ true → most_bytes < length (R.left input.old)) }
         ensures unread { IsErrOf result ToolFault.OutOfMemory → R.failed input.new ≡ false }
         ensures write { IsErrOf result ToolFault.Write
             → (W.failed out.new ≡ true) ⊎ (W.takes_some out.old ≡ false) }

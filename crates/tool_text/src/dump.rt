@@ -11,14 +11,13 @@ ghost use Rattle.tool_text.specs.Dump.{head_line, tempo_line, event_line, skippe
 #[cfg(test)]
 mod tests;
 
-use crate::decimal::push_decimal;
 use crate::fault::ToolFault;
-use crate::hex::push_spaced;
 use crate::limits::MOST;
 use byte_io::{Sink, Source, read_to, write_all};
 use memory::OutOfMemory;
 use smf_files::{Cursor, Event, SmfFile, TempoEntry};
 use std::alloc::Global;
+use text_forms::{push_decimal, push_spaced};
 
 /// How much text is gathered before it is written.
 const PIECE: usize = 65_536;

@@ -1,13 +1,10 @@
 //! What the program's tools print, from a source of bytes to a sink.
 #![tactic(auto)]
 
-mod address;
 mod choice;
-mod decimal;
 mod dump;
 mod escaped;
 mod fault;
-mod hex;
 mod laws;
 mod limits;
 mod printing;
@@ -23,6 +20,7 @@ pub use choice::{STANDARD, Stream, Task, Tool};
 pub use dump::dump_text;
 pub use fault::ToolFault;
 pub use laws::thru_prints_messages;
-pub use program_fault::ProgramFault;
+pub use printing::send;
+pub use program_fault::{LeftOut, ProgramFault};
 pub use thru::thru_text;
 pub use wire::wire_text;

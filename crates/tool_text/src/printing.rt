@@ -98,7 +98,7 @@ pub(crate) fn print_stream<R: Source, W: Sink, P: Printer>(
 }
 
 /// Writes a text.
-pub(crate) fn send<W: Sink>(out: &mut W, text: &[u8]) -> Result<(), ToolFault>
+pub fn send<W: Sink>(out: &mut W, text: &[u8]) -> Result<(), ToolFault>
     requires { W.failed out.old ≡ false }
     ensures written { W.tells out.old ≡ true
         → OnOk result (W.taken out.new ≡ W.taken out.old ++ text.now) }

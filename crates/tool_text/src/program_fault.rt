@@ -6,6 +6,7 @@ ghost use Rattle.tool_text.specs.Program.{fault_text, told_text, status_of};
 use crate::choice::{STANDARD, Stream};
 use crate::escaped::Escaped;
 use crate::fault::ToolFault;
+use memory::OutOfMemory;
 use smf_files::SmfFault;
 use std::alloc::{AllocError, AllocFailed};
 use std::fmt;
@@ -16,9 +17,19 @@ use std::io::ErrorKind;
 pub enum ProgramFault<'a> {
     NotUtf8,
     NoSubcommand,
+    /// The word says no moment.
+    NotAMoment(&'a str),
+    /// The word names no port.
+    NotAPort(&'a str),
+    /// The word names no client with its script.
+    NotAScript(&'a str),
+    /// The client has two scripts.
+    TwoScripts(u8),
     CannotRead(&'a str),
     CannotWrite(&'a str),
     OutOfMemory,
+    /// What came to the port makes no file.
+    CannotRecord,
     /// What is wrong with a Standard MIDI File: its number, its name, and the place or the track.
     Smf(SmfFault),
 }
@@ -53,10 +64,16 @@ impl<'a> ProgramFault<'a> {
         ensures { result ≡ status_of self.now }
     {
         match self {
-            ProgramFault::NotUtf8 | ProgramFault::NoSubcommand => 2,
+            ProgramFault::NotUtf8
+            | ProgramFault::NoSubcommand
+            | ProgramFault::NotAMoment(_)
+            | ProgramFault::NotAPort(_)
+            | ProgramFault::NotAScript(_)
+            | ProgramFault::TwoScripts(_) => 2,
             ProgramFault::CannotRead(_)
             | ProgramFault::CannotWrite(_)
             | ProgramFault::OutOfMemory
+            | ProgramFault::CannotRecord
             | ProgramFault::Smf(_) => 1,
         }
     }
@@ -72,6 +89,24 @@ impl fmt::Display for ProgramFault<'_> {
         match *self {
             ProgramFault::NotUtf8 => f.write_str("an argument is not UTF-8"),
             ProgramFault::NoSubcommand => f.write_str("name a subcommand; see midiseq --help"),
+            ProgramFault::NotAMoment(word) => {
+                let word = Escaped(word);
+                write!(f, "{word} is no moment in nanoseconds; see midiseq --help")
+            }
+            ProgramFault::NotAPort(word) => {
+                let word = Escaped(word);
+                write!(f, "{word} names no port, as 129:0 does; see midiseq --help")
+            }
+            ProgramFault::NotAScript(word) => {
+                let word = Escaped(word);
+                write!(
+                    f,
+                    "{word} names no script, as 128=keys.txt does; see midiseq --help"
+                )
+            }
+            ProgramFault::TwoScripts(client) => {
+                write!(f, "client {client} has two scripts; see midiseq --help")
+            }
             ProgramFault::CannotRead(path) => {
                 let path = Escaped(path);
                 write!(f, "cannot read {path}")
@@ -81,8 +116,20 @@ impl fmt::Display for ProgramFault<'_> {
                 write!(f, "cannot write {path}")
             }
             ProgramFault::OutOfMemory => f.write_str("out of memory"),
+            ProgramFault::CannotRecord => f.write_str("cannot record"),
             ProgramFault::Smf(fault) => write!(f, "{fault}"),
         }
+    }
+}
+
+impl From<OutOfMemory> for ProgramFault<'_> {
+    ghost use Rattle.std.specs.Prelude.{◌≡◌};
+    ghost use Rattle.tool_text.specs.declared.program_fault.ProgramFault.TheVariants.{OutOfMemory};
+
+    ghost from_gives = { λ _ e. e ≡ OutOfMemory };
+
+    fn from(_error: OutOfMemory) -> Self {
+        ProgramFault::OutOfMemory
     }
 }
 
@@ -105,5 +152,21 @@ impl<T: Drop> From<AllocFailed<T>> for ProgramFault<'_> {
 
     fn from(_error: AllocFailed<T>) -> Self {
         ProgramFault::OutOfMemory
+    }
+}
+
+/// A file that a run leaves out, by its name. It is printed in one line, with the control characters of the name escaped.
+#[derive(Clone, Copy, Debug, PartialEq, Eq)]
+pub struct LeftOut<'a>(pub &'a str);
+
+impl fmt::Display for LeftOut<'_> {
+    ghost use Rattle.std.specs.Prelude.{Some};
+    ghost use Rattle.tool_text.specs.Program.{left_out_text};
+
+    ghost output = { λ e. Some (left_out_text e.0.now) };
+
+    fn fmt<W: fmt::Write>(&self, f: &mut fmt::Formatter<W>) -> fmt::Result {
+        let name = Escaped(self.0);
+        write!(f, "left out {name}")
     }
 }

@@ -1,6 +1,6 @@
 //! What the program is asked to do, and the lines and statuses of its faults.
 
-use crate::{ProgramFault, STANDARD, Stream, Task, Tool, ToolFault};
+use crate::{LeftOut, ProgramFault, STANDARD, Stream, Task, Tool, ToolFault};
 use smf_files::SmfFault;
 use std::alloc::Global;
 use std::io::ErrorKind;
@@ -11,7 +11,7 @@ use std::test::Fail;
 fn check_fault(
     rt: &impl Abort,
     alloc: Global,
-    fault: ProgramFault<'_>,
+    fault: &ProgramFault<'_>,
     text: &str,
     status: u8,
 ) -> Result<(), Fail> {
@@ -24,35 +24,53 @@ fn check_fault(
 #[test]
 fn tells_of_words(rt: HostRuntime) -> Result<(), Fail> {
     let not_text = ProgramFault::of_words(ErrorKind::InvalidData);
-    check_fault(&rt, rt.alloc(), not_text, "an argument is not UTF-8", 2)?;
+    check_fault(&rt, rt.alloc(), &not_text, "an argument is not UTF-8", 2)?;
     let no_memory = ProgramFault::of_words(ErrorKind::OutOfMemory);
-    check_fault(&rt, rt.alloc(), no_memory, "out of memory", 1)?;
+    check_fault(&rt, rt.alloc(), &no_memory, "out of memory", 1)?;
     let none = ProgramFault::NoSubcommand;
     check_fault(
         &rt,
         rt.alloc(),
-        none,
+        &none,
         "name a subcommand; see midiseq --help",
         2,
     )
 }
 
 #[test]
+fn tells_of_sessions(rt: HostRuntime) -> Result<(), Fail> {
+    let alloc = rt.alloc();
+    let until = ProgramFault::NotAMoment("soon\n");
+    let text = "soon\\n is no moment in nanoseconds; see midiseq --help";
+    check_fault(&rt, alloc, &until, text, 2)?;
+    let port = ProgramFault::NotAPort("129:16");
+    let text = "129:16 names no port, as 129:0 does; see midiseq --help";
+    check_fault(&rt, alloc, &port, text, 2)?;
+    let script = ProgramFault::NotAScript("127=a");
+    let text = "127=a names no script, as 128=keys.txt does; see midiseq --help";
+    check_fault(&rt, alloc, &script, text, 2)?;
+    let twice = ProgramFault::TwoScripts(128);
+    let text = "client 128 has two scripts; see midiseq --help";
+    check_fault(&rt, alloc, &twice, text, 2)?;
+    check_fault(&rt, alloc, &ProgramFault::CannotRecord, "cannot record", 1)
+}
+
+#[test]
 fn tells_of_streams(rt: HostRuntime) -> Result<(), Fail> {
     let song = Stream::named("song.mid");
     let read = ProgramFault::of_tool(song, ToolFault::Read);
-    check_fault(&rt, rt.alloc(), read, "cannot read song.mid", 1)?;
+    check_fault(&rt, rt.alloc(), &read, "cannot read song.mid", 1)?;
     let standard = ProgramFault::of_tool(Stream::Standard, ToolFault::Read);
-    check_fault(&rt, rt.alloc(), standard, "cannot read -", 1)?;
+    check_fault(&rt, rt.alloc(), &standard, "cannot read -", 1)?;
     let write = ProgramFault::of_tool(song, ToolFault::Write);
-    check_fault(&rt, rt.alloc(), write, "cannot write -", 1)?;
+    check_fault(&rt, rt.alloc(), &write, "cannot write -", 1)?;
     let memory = ProgramFault::of_tool(song, ToolFault::OutOfMemory);
-    check_fault(&rt, rt.alloc(), memory, "out of memory", 1)?;
+    check_fault(&rt, rt.alloc(), &memory, "out of memory", 1)?;
     let fault = ToolFault::Smf(SmfFault::NoStatus { at: 30 });
     check_fault(
         &rt,
         rt.alloc(),
-        ProgramFault::of_tool(song, fault),
+        &ProgramFault::of_tool(song, fault),
         "12 NoStatus 30",
         1,
     )
@@ -62,7 +80,15 @@ fn tells_of_streams(rt: HostRuntime) -> Result<(), Fail> {
 fn keeps_a_path_in_one_line(rt: HostRuntime) -> Result<(), Fail> {
     let path = "a\nb\t\u{1b}[1mé\u{7f}\u{85}\\ ~";
     let text = "cannot read a\\nb\\t\\u{1b}[1mé\\u{7f}\\u{85}\\ ~";
-    check_fault(&rt, rt.alloc(), ProgramFault::CannotRead(path), text, 1)
+    check_fault(&rt, rt.alloc(), &ProgramFault::CannotRead(path), text, 1)
+}
+
+#[test]
+fn tells_of_files_left_out(rt: HostRuntime) -> Result<(), Fail> {
+    let note = LeftOut("b\n.mid");
+    let line = format!(in rt.alloc(); "{note}")?;
+    assert_eq!(rt; line.as_str(), "left out b\\n.mid");
+    Ok(())
 }
 
 #[test]

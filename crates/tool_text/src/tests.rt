@@ -2,6 +2,8 @@
 
 ghost use Rattle.std.specs.Prelude.{◌≡◌, IfOk, false};
 
+mod failing_devices;
+
 use crate::{ToolFault, thru_text, wire_text};
 use byte_io::{MemSink, MemSource, OutOfMemory};
 use std::alloc::Global;
@@ -25,6 +27,38 @@ fn passes_a_note_on(rt: HostRuntime) -> Result<(), Fail> {
     let mut out = sink(rt.alloc())?;
     assert_eq!(rt; thru_text(rt.alloc(), &mut input, &mut out), Ok(()));
     assert_eq!(rt; out.bytes(), b"0 129:p0 90 3C 40\n".as_slice());
+    Ok(())
+}
+
+#[test]
+fn passes_more_than_may_wait(rt: HostRuntime) -> Result<(), Fail> {
+    let alloc = rt.alloc();
+    let mut stream = Vec::new(alloc);
+    let mut lines = Vec::new(alloc);
+    for _turn in 0..2500 {
+        stream.push(0xF8)?;
+        lines.extend_from_slice(b"0 129:p0 F8\n")?;
+    }
+    let mut input = source(alloc, stream.as_slice())?;
+    let mut out = sink(alloc)?;
+    assert_eq!(rt; thru_text(alloc, &mut input, &mut out), Ok(()));
+    assert_eq!(rt; out.bytes(), lines.as_slice());
+    Ok(())
+}
+
+#[test]
+fn passes_many_requests_that_end_an_exclusive(rt: HostRuntime) -> Result<(), Fail> {
+    let alloc = rt.alloc();
+    let mut stream = Vec::from_slice(alloc, &[0xF0, 0x01])?;
+    let mut lines = Vec::from_slice(alloc, b"0 129:p0 F0 01 F7\n")?;
+    for _turn in 0..1100 {
+        stream.push(0xF6)?;
+        lines.extend_from_slice(b"0 129:p0 F6\n")?;
+    }
+    let mut input = source(alloc, stream.as_slice())?;
+    let mut out = sink(alloc)?;
+    assert_eq!(rt; thru_text(alloc, &mut input, &mut out), Ok(()));
+    assert_eq!(rt; out.bytes(), lines.as_slice());
     Ok(())
 }
 

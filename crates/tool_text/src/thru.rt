@@ -1,26 +1,29 @@
 //! A stream passed from one client of a sequencer to another.
 
-ghost use Rattle.std.specs.Prelude.{◌≡◌, ◌≤◌, ◌<◌, ◌+◌, ◌++◌, ◌⊎◌, ◌^◌, ℕ, List, [], true, false, length, IfOk, IfErr, OnOk, OnErr, IsErrOf};
+ghost use Rattle.std.specs.Prelude.{◌≡◌, ◌≤◌, ◌<◌, ◌+◌, ◌*◌, ◌++◌, ◌⊎◌, ◌^◌, ℕ, List, [], true, false, length, IfOk, IfErr, OnOk, OnErr, IsErrOf};
 ghost use Rattle.std.specs.List.{flat_map};
 ghost use Rattle.midi_wire.specs.Readings.{rest};
-ghost use Rattle.seq_ports.specs.State.{start};
-ghost use Rattle.seq_ports.specs.Step.{port_addr, step, state_after};
-ghost use Rattle.seq_ports.specs.Rows.{at};
+ghost use Rattle.seq_state.specs.State.{start};
+ghost use Rattle.seq_state.specs.Step.{port_addr, step, state_after};
 ghost use Rattle.tool_text.specs.Faults.{IsOfStream};
 ghost use Rattle.tool_text.specs.Limits.{most_bytes};
 ghost use Rattle.tool_text.specs.Stream.{lines_of, HasRoom, StopsShort};
-ghost use Rattle.tool_text.specs.Thru.{delivery_line, thru_line, thru_text, stream_of, joining, IsJoined, IsFed};
+ghost use Rattle.tool_text.specs.Thru.{delivery_line, thru_line, thru_text, stream_of, said, joining, most_piece, after_input, IsPassing, IsFed};
 
-use crate::address::push_port_addr;
-use crate::decimal::push_decimal;
 use crate::fault::ToolFault;
-use crate::hex::push_spaced;
 use crate::printing::{Printer, print_stream};
+use agenda_heap::HeapAgenda;
 use byte_io::{Sink, Source};
+use cell_pools::MOST_WAITING;
 use memory::{Items, OutOfMemory};
 use node_table::{Addr, Caps, ClientId, Node, PortNo};
 use seq_engine::{Command, Delivery, Engine, Input, StepOut};
 use std::alloc::Global;
+use text_forms::{push_decimal, push_port_addr, push_spaced};
+
+/// How many bytes are passed on at once. Each completes at most two messages, so that a piece completes no more than
+/// `MOST_WAITING`, for which the second client has room.
+const MOST_PIECE: usize = 1000;
 
 /// Passes the MIDI stream that `input` gives from the first of two clients of a sequencer to the second, and prints each
 /// message that comes there: its moment, the port that it came to, and its bytes.
@@ -59,15 +62,15 @@ pub fn thru_text<R: Source, W: Sink>(
 
 /// A sequencer that a stream is passed through.
 #[derive(Drop)]
-struct Passage {
+struct Passage<'b> {
     alloc: Global,
-    engine: Engine,
+    engine: Engine<'b, 'b, HeapAgenda>,
     bytes: Vec<u8>,
 }
 
-impl Passage {
+impl<'b> Passage<'b> {
     /// No byte has passed.
-    fn new(alloc: Global) -> Result<Passage, ToolFault>
+    fn new(alloc: Global) -> Result<Passage<'b>, ToolFault>
         ensures fed { IfOk result (λ p. IsFed p.engine []) }
         ensures only { IfErr result (λ e. e ≡ ToolFault.OutOfMemory) }
     {
@@ -79,7 +82,7 @@ impl Passage {
     }
 }
 
-impl Printer for Passage {
+impl<'b> Printer for Passage<'b> {
     ghost use Rattle.tool_text.specs.Stream.{lines_of, no_ending};
     ghost use Rattle.tool_text.specs.Thru.{thru_line, IsFed};
 
@@ -99,18 +102,24 @@ impl Printer for Passage {
 }
 
 /// A sequencer with two clients, the second of which has subscribed its port to the first's.
-fn joined(alloc: Global) -> Result<Engine, ToolFault>
-    ensures joined { IfOk result (λ e. e ≡ record { state = state_after start joining; moment = 0; steps = 5; failed = false }) }
+fn joined<'b>(alloc: Global) -> Result<Engine<'b, 'b, HeapAgenda>, ToolFault>
+    ensures joined { IfOk result (λ e. e ≡ record {
+      files = [];
+      state = state_after [] start joining;
+      moment = 0;
+      steps = 5;
+      failed = false;
+    }) }
     ensures only { IfErr result (λ e. e ≡ ToolFault.OutOfMemory) }
 {
     let source = ClientId::new(128).unwrap();
     let sink = ClientId::new(129).unwrap();
     let port = PortNo::new(0).unwrap();
-    let mut engine = Engine::new(alloc);
-    say(&mut engine, source, opening(alloc, b"source")?)?;
+    let mut engine = Engine::new(alloc, &[], HeapAgenda::new(alloc));
+    say(&mut engine, source, opening(alloc, b"source", 1)?)?;
     let out = Caps::new(33).unwrap();
     say(&mut engine, source, creation(alloc, port, b"out", out)?)?;
-    say(&mut engine, sink, opening(alloc, b"sink")?)?;
+    say(&mut engine, sink, opening(alloc, b"sink", MOST_WAITING)?)?;
     let into = Caps::new(66).unwrap();
     say(&mut engine, sink, creation(alloc, port, b"in", into)?)?;
     say(&mut engine, sink, connection(source, sink, port))?;
@@ -118,11 +127,14 @@ fn joined(alloc: Global) -> Result<Engine, ToolFault>
 }
 
 /// Takes a command at moment 0, of which nothing comes to a port.
-fn say(engine: &mut Engine, actor: ClientId, command: Command) -> Result<(), ToolFault>
+fn say<'b>(
+    engine: &mut Engine<'b, 'b, HeapAgenda>,
+    actor: ClientId,
+    command: Command,
+) -> Result<(), ToolFault>
     requires early { engine.old.moment ≡ 0 }
     requires counted { engine.old.steps < 2 ^ 63 }
-    requires sound { engine.old.failed ≡ false }
-    ensures state { OnOk result (engine.new ≡ record { state = (step engine.old.state (at 0 actor command)).state; moment = 0; steps = engine.old.steps + 1; failed = false }) }
+    ensures state { OnOk result (engine.new ≡ after_input engine.old (said actor command)) }
     ensures only { IfErr result (λ e. e ≡ ToolFault.OutOfMemory) }
 {
     take(engine, actor, command)?;
@@ -130,16 +142,16 @@ fn say(engine: &mut Engine, actor: ClientId, command: Command) -> Result<(), Too
 }
 
 /// Takes a command at moment 0, and gives what comes to ports.
-fn take(
-    engine: &mut Engine,
+fn take<'b>(
+    engine: &mut Engine<'b, 'b, HeapAgenda>,
     actor: ClientId,
     command: Command,
 ) -> Result<Items<Delivery>, ToolFault>
     requires early { engine.old.moment ≡ 0 }
     requires counted { engine.old.steps < 2 ^ 63 }
-    requires sound { engine.old.failed ≡ false }
-    ensures state { OnOk result (engine.new ≡ record { state = (step engine.old.state (at 0 actor command)).state; moment = 0; steps = engine.old.steps + 1; failed = false }) }
-    ensures delivered { IfOk result (λ ds. ds ≡ (step engine.old.state (at 0 actor command)).delivered) }
+    ensures state { OnOk result (engine.new ≡ after_input engine.old (said actor command)) }
+    ensures delivered { IfOk result (λ ds.
+        ds ≡ (step engine.old.files engine.old.state (said actor command)).delivered) }
     ensures only { IfErr result (λ e. e ≡ ToolFault.OutOfMemory) }
 {
     let input = Input {
@@ -154,12 +166,12 @@ fn take(
     Ok(delivered)
 }
 
-fn opening(alloc: Global, name: &[u8]) -> Result<Command, OutOfMemory>
-    ensures { IfOk result (λ command. command ≡ Command.Open name.now 1 1) }
+fn opening(alloc: Global, name: &[u8], in_size: u32) -> Result<Command, OutOfMemory>
+    ensures { IfOk result (λ command. command ≡ Command.Open name.now in_size 1) }
 {
     Ok(Command::Open {
         name: Items::new(Vec::from_slice(alloc, name)?),
-        in_size: 1,
+        in_size,
         out_size: 1,
     })
 }
@@ -200,39 +212,67 @@ fn piece_of(alloc: Global, piece: &[u8]) -> Result<Command, OutOfMemory>
 
 /// Feeds the first client's port, and adds a line for each message that comes to the second's. What was in `bytes` is
 /// lost.
-fn pass_on(
+fn pass_on<'b>(
     alloc: Global,
-    engine: &mut Engine,
+    engine: &mut Engine<'b, 'b, HeapAgenda>,
     piece: &[u8],
     bytes: &mut Vec<u8>,
     text: &mut Vec<u8>,
 ) -> Result<(), ToolFault>
-    requires joined { IsJoined engine.old.state }
-    requires early { engine.old.moment ≡ 0 }
-    requires counted { engine.old.steps < 2 ^ 63 }
-    requires sound { engine.old.failed ≡ false }
+    requires passing { IsPassing engine.old }
+    requires counted { engine.old.steps + 2 * length piece.now < 2 ^ 63 }
 
-    ensures text { OnOk result (text.new.items ≡ text.old.items ++ lines_of thru_line (stream_of engine.old.state ++ piece.now)) }
-    ensures stream { OnOk result (stream_of engine.new.state ≡ rest (stream_of engine.old.state ++ piece.now)) }
-    ensures joined { OnOk result (IsJoined engine.new.state) }
-    ensures early { OnOk result ((engine.new.moment ≡ 0) × (engine.new.steps ≡ engine.old.steps + 1) × (engine.new.failed ≡ false)) }
+    ensures text { OnOk result (text.new.items
+        ≡ text.old.items ++ lines_of thru_line (stream_of engine.old.state ++ piece.now)) }
+    ensures stream { OnOk result (stream_of engine.new.state
+        ≡ rest (stream_of engine.old.state ++ piece.now)) }
+    ensures passing { OnOk result (IsPassing engine.new) }
+    ensures counted { OnOk result (engine.new.steps ≤ engine.old.steps + 2 * length piece.now) }
+    ensures only { IfErr result (λ e. e ≡ ToolFault.OutOfMemory) }
+{
+    for part in piece.chunks(MOST_PIECE) {
+        pass_part(alloc, engine, part, bytes, text)?;
+    }
+    Ok(())
+}
+
+/// The same for so few bytes that what they complete finds room, after which the second client takes all that waits for
+/// it: so there is room for the next.
+fn pass_part<'b>(
+    alloc: Global,
+    engine: &mut Engine<'b, 'b, HeapAgenda>,
+    part: &[u8],
+    bytes: &mut Vec<u8>,
+    text: &mut Vec<u8>,
+) -> Result<(), ToolFault>
+    requires passing { IsPassing engine.old }
+    requires counted { engine.old.steps + 2 < 2 ^ 63 }
+    requires short { length part.now ≤ most_piece }
+
+    ensures text { OnOk result (text.new.items
+        ≡ text.old.items ++ lines_of thru_line (stream_of engine.old.state ++ part.now)) }
+    ensures stream { OnOk result (stream_of engine.new.state
+        ≡ rest (stream_of engine.old.state ++ part.now)) }
+    ensures passing { OnOk result (IsPassing engine.new) }
+    ensures counted { OnOk result (engine.new.steps ≡ engine.old.steps + 2) }
     ensures only { IfErr result (λ e. e ≡ ToolFault.OutOfMemory) }
 {
     let source = ClientId::new(128).unwrap();
-    let delivered = take(engine, source, piece_of(alloc, piece)?)?;
-    add_lines(delivered.as_slice(), bytes, text)?;
-    Ok(())
+    let sink = ClientId::new(129).unwrap();
+    let delivered = take(engine, source, piece_of(alloc, part)?)?;
+    add_lines(delivered, bytes, text)?;
+    say(engine, sink, Command::Receive { max: MOST_WAITING })
 }
 
 /// Adds a line for each delivery. What was in `bytes` is lost.
 fn add_lines(
-    delivered: &[Delivery],
+    delivered: Items<Delivery>,
     bytes: &mut Vec<u8>,
     text: &mut Vec<u8>,
 ) -> Result<(), OutOfMemory>
-    ensures { OnOk result (text.new.items ≡ text.old.items ++ flat_map delivery_line delivered.now) }
+    ensures { OnOk result (text.new.items ≡ text.old.items ++ flat_map delivery_line delivered) }
 {
-    for delivery in delivered {
+    for delivery in delivered.as_slice() {
         push_delivery(delivery, bytes, text)?;
     }
     Ok(())

@@ -10,12 +10,12 @@ ghost use Rattle.tool_text.specs.Stream.{lines_of, HasRoom, StopsShort};
 ghost use Rattle.tool_text.specs.Wire.{wire_line, written_line, wire_text, IsCopied};
 
 use crate::fault::ToolFault;
-use crate::hex::{push_in_hex, push_spaced};
 use crate::printing::{Printer, print_stream};
 use byte_io::{Sink, Source};
 use memory::OutOfMemory;
 use midi_wire::{Message, StreamParser, StreamWriter};
 use std::alloc::Global;
+use text_forms::{push_in_hex, push_spaced};
 
 /// Prints each message of the MIDI stream that `input` gives on a line, and then the bytes that they are all written as
 /// in one stream, with running status (MIDI 1.0 Detailed Specification, "Running Status").

@@ -4,4 +4,4 @@ use Rattle.tool_text.specs.Thru.{delivery_line}
 use Rattle.tool_text.proofs.thru.add_lines.Given as goal
 
 abbrev pub invariant-loop-delivery : goal.invariant-loop-delivery
-invariant-loop-delivery l = l.text.items ≡ l.initial.text.items ++ flat_map delivery_line (take l.delivery-index l.delivered)
+invariant-loop-delivery l = l.text.items ≡ l.initial.text.items ++ flat_map delivery_line (take l.delivery-index l.delivery-items)

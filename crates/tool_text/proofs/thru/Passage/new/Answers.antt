@@ -1,4 +1,4 @@
-use Rattle.tool_text.proofs.Fed.{fed_nothing}
+use Rattle.tool_text.proofs.OnTheWay.{fed_nothing}
 use Rattle.tool_text.proofs.thru.Passage.new.Goals as goal
 
 pub returns-clause-fed : goal.returns-clause-fed

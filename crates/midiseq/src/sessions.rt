@@ -1,0 +1,238 @@
+//! The subcommands that run scripts.
+
+use crate::folder::Folder;
+use agenda_heap::HeapAgenda;
+use byte_io::{MemSink, Sink, Source, StdSink, StdSource, write_all};
+use clap::ArgMatches;
+use node_table::PortAddr;
+use port_record::{WriteFault, record_file};
+use seq_engine::RunLog;
+use seq_session::{
+    NamedFiles, ScriptSource, SessionFault, clients_rise, logs_are_open, readers_are_sound,
+    run_scripts, run_sessions,
+};
+use session_tools::{ScriptWord, port_named, print_logs, scripts_named, until_named};
+use smf_files::SmfFile;
+use std::alloc::Global;
+use std::rt::Files;
+use std::{fs, io};
+use tool_text::{ProgramFault, STANDARD, ToolFault};
+
+/// What the words of `run` and `record` say alike.
+#[derive(Drop)]
+struct Session<'a> {
+    until: u64,
+    dir: Option<&'a str>,
+    scripts: Vec<ScriptWord<'a>>,
+}
+
+impl<'a> Session<'a> {
+    fn of_words(alloc: Global, found: &ArgMatches<'a>) -> Result<Session<'a>, ProgramFault<'a>> {
+        let word = found.get_str("until").unwrap_or("");
+        let Some(until) = until_named(word) else {
+            return Err(ProgramFault::NotAMoment(word));
+        };
+        let scripts = match found.get_strs("CLIENT=PATH") {
+            Some(words) => scripts_named(alloc, words)?,
+            None => Vec::new(alloc),
+        };
+        Ok(Session {
+            until,
+            dir: found.get_str("dir"),
+            scripts,
+        })
+    }
+
+    /// Opens the scripts, by client.
+    fn open<R: Files>(
+        &self,
+        rt: &R,
+        alloc: Global,
+    ) -> Result<Vec<ScriptSource<StdSource<R::File>>>, ProgramFault<'a>> {
+        let mut sources = Vec::new(alloc);
+        for script in &self.scripts {
+            let Ok(file) = fs::open(rt, script.path) else {
+                return Err(ProgramFault::CannotRead(script.path));
+            };
+            sources.push(ScriptSource {
+                client: script.client,
+                reader: StdSource::new(file),
+            })?;
+        }
+        Ok(sources)
+    }
+
+    /// A log in memory for each script.
+    fn logs(&self, alloc: Global) -> Result<Vec<MemSink>, ProgramFault<'a>> {
+        let mut logs = Vec::new(alloc);
+        for _script in &self.scripts {
+            logs.push(MemSink::new(alloc, 0)?)?;
+        }
+        Ok(logs)
+    }
+
+    /// A log is kept in memory, so that its fault is want of memory.
+    fn fault_of(&self, fault: SessionFault) -> ProgramFault<'a> {
+        if let SessionFault::Read { client } = fault {
+            for script in &self.scripts {
+                if script.client == client {
+                    return ProgramFault::CannotRead(script.path);
+                }
+            }
+        }
+        ProgramFault::OutOfMemory
+    }
+}
+
+/// The names and their files. There are as many of the one as of the other, so it never fails.
+fn named<'f, 'b>(
+    names: &'f [Vec<u8>],
+    files: &'f [SmfFile<'b>],
+) -> Result<NamedFiles<'f, 'b>, ProgramFault<'static>> {
+    NamedFiles::new(names, files).ok_or(ProgramFault::OutOfMemory)
+}
+
+/// Runs the scripts, and prints each client's log and, where asked for, who is there at the end.
+pub(crate) fn run<'a>(
+    rt: &(impl Files + Print + Eprint + AllocGlobal + Clone + Drop),
+    found: &ArgMatches<'a>,
+) -> Result<(), ProgramFault<'a>> {
+    let alloc = rt.alloc();
+    let session = Session::of_words(alloc, found)?;
+    let folder = Folder::read(rt, session.dir)?;
+    let mut names = Vec::new(alloc);
+    let mut files = Vec::new(alloc);
+    folder.open(rt, &mut names, &mut files)?;
+    let mut logs = session.logs(alloc)?;
+    let mut listing = MemSink::new(alloc, 0)?;
+    let files = named(names.as_slice(), files.as_slice())?;
+    play(rt, &session, &files, logs.as_mut_slice(), &mut listing)?;
+    let listed = if found.get_flag("list") {
+        Some(listing.bytes())
+    } else {
+        None
+    };
+    print(rt, session.scripts.as_slice(), logs.as_slice(), listed)
+}
+
+/// Runs the scripts into logs and a listing.
+fn play<'a>(
+    rt: &(impl Files + AllocGlobal),
+    session: &Session<'a>,
+    files: &NamedFiles<'_, '_>,
+    logs: &mut [MemSink],
+    listing: &mut MemSink,
+) -> Result<(), ProgramFault<'a>> {
+    let alloc = rt.alloc();
+    let mut sources = session.open(rt, alloc)?;
+    // Each client has one script, and no device was used yet: so these always hold.
+    if !clients_rise(sources.as_slice())
+        || !readers_are_sound(sources.as_slice())
+        || logs.len() != sources.len()
+        || !logs_are_open(logs)
+        || listing.has_failed()
+    {
+        return Err(ProgramFault::OutOfMemory);
+    }
+    let agenda = HeapAgenda::new(alloc);
+    let until = session.until;
+    match run_sessions(
+        alloc,
+        sources.as_mut_slice(),
+        files,
+        agenda,
+        until,
+        logs,
+        listing,
+    ) {
+        Ok(()) => Ok(()),
+        Err(fault) => Err(session.fault_of(fault)),
+    }
+}
+
+/// Prints the logs and, where there is one, the listing on standard output.
+fn print(
+    rt: &(impl Print + AllocGlobal),
+    scripts: &[ScriptWord<'_>],
+    logs: &[MemSink],
+    listing: Option<&[u8]>,
+) -> Result<(), ProgramFault<'static>> {
+    let mut out = StdSink::new(io::writer(rt));
+    // There is a log for each script.
+    if scripts.len() != logs.len() {
+        return Err(ProgramFault::OutOfMemory);
+    }
+    match print_logs(rt.alloc(), scripts, logs, listing, &mut out) {
+        Ok(()) => Ok(()),
+        Err(ToolFault::OutOfMemory) => Err(ProgramFault::OutOfMemory),
+        Err(_) => Err(ProgramFault::CannotWrite(STANDARD)),
+    }
+}
+
+/// Runs the scripts, and writes what came to a port to a file.
+pub(crate) fn record<'a>(
+    rt: &(impl Files + Eprint + AllocGlobal + Clone + Drop),
+    found: &ArgMatches<'a>,
+) -> Result<(), ProgramFault<'a>> {
+    let alloc = rt.alloc();
+    let session = Session::of_words(alloc, found)?;
+    let word = found.get_str("port").unwrap_or("");
+    let Some(port) = port_named(word) else {
+        return Err(ProgramFault::NotAPort(word));
+    };
+    let folder = Folder::read(rt, session.dir)?;
+    let mut names = Vec::new(alloc);
+    let mut files = Vec::new(alloc);
+    folder.open(rt, &mut names, &mut files)?;
+    let files = named(names.as_slice(), files.as_slice())?;
+    let log = play_unlogged(rt, &session, &files)?;
+    let bytes = recorded(alloc, &log, port, found.get_flag("raw"))?;
+    write_file(rt, found.get_str("out").unwrap_or(""), bytes.as_slice())
+}
+
+/// Runs the scripts without logs.
+fn play_unlogged<'a>(
+    rt: &(impl Files + AllocGlobal),
+    session: &Session<'a>,
+    files: &NamedFiles<'_, '_>,
+) -> Result<RunLog, ProgramFault<'a>> {
+    let alloc = rt.alloc();
+    let mut sources = session.open(rt, alloc)?;
+    // Each client has one script, and no reader was used yet: so these always hold.
+    if !clients_rise(sources.as_slice()) || !readers_are_sound(sources.as_slice()) {
+        return Err(ProgramFault::OutOfMemory);
+    }
+    let agenda = HeapAgenda::new(alloc);
+    match run_scripts(alloc, sources.as_mut_slice(), files, agenda, session.until) {
+        Ok(log) => Ok(log),
+        Err(fault) => Err(session.fault_of(fault)),
+    }
+}
+
+/// What came to a port, as one stream or as a file.
+fn recorded(
+    alloc: Global,
+    log: &RunLog,
+    port: PortAddr,
+    raw: bool,
+) -> Result<Vec<u8>, ProgramFault<'static>> {
+    if raw {
+        return Ok(log.port_bytes(port)?);
+    }
+    match record_file(alloc, log, port) {
+        Ok(bytes) => Ok(bytes),
+        Err(WriteFault::OutOfMemory) => Err(ProgramFault::OutOfMemory),
+        Err(_) => Err(ProgramFault::CannotRecord),
+    }
+}
+
+fn write_file<'a>(rt: &impl Files, path: &'a str, bytes: &[u8]) -> Result<(), ProgramFault<'a>> {
+    let Ok(file) = fs::create(rt, path) else {
+        return Err(ProgramFault::CannotWrite(path));
+    };
+    let mut out = StdSink::new(file);
+    if write_all(&mut out, bytes).is_err() {
+        return Err(ProgramFault::CannotWrite(path));
+    }
+    Ok(())
+}

@@ -1,0 +1,5 @@
+mod Fronts
+mod Ordered
+mod Places
+mod Printing
+mod Told

@@ -1,0 +1,12 @@
+//! What the program does with scripts: the words that name them, the files of a folder, and the printing of logs.
+#![tactic(auto)]
+
+mod folder;
+mod logs;
+#[cfg(test)]
+mod tests;
+mod words;
+
+pub use folder::{midi_files, taken_files};
+pub use logs::print_logs;
+pub use words::{ScriptWord, port_named, scripts_named, until_named};
