@@ -1,0 +1,79 @@
+# bash completion for midiseq: subcommands, options, files to read, and CLIENT=PATH.
+
+# Files that begin with $1, and folders on the way to others; the names end in one of the other words, if any is given.
+_midiseq_files() {
+    local begun=$1 path ending
+    shift
+    compopt -o filenames 2>/dev/null
+    while IFS= read -r path; do
+        if [[ -d $path || $# -eq 0 ]]; then
+            COMPREPLY+=("$path")
+            continue
+        fi
+        for ending in "$@"; do
+            [[ $path == *"$ending" ]] && COMPREPLY+=("$path")
+        done
+    done < <(compgen -f -- "$begun")
+}
+
+# The word before the cursor, whole: bash cuts words at = and at :, which stand in COMP_WORDBREAKS.
+_midiseq_word() {
+    local line=${COMP_LINE:0:COMP_POINT}
+    printf '%s' "${line##*[[:space:]]}"
+}
+
+_midiseq() {
+    local word sub previous subcommands='run record thru wire dump'
+    word=$(_midiseq_word)
+    sub=${COMP_WORDS[1]}
+    previous=${COMP_WORDS[COMP_CWORD - 1]}
+    COMPREPLY=()
+    if ((COMP_CWORD == 1)); then
+        mapfile -t COMPREPLY < <(compgen -W "$subcommands help --help --version" -- "$word")
+        return
+    fi
+    case $previous in
+        --dir)
+            compopt -o filenames 2>/dev/null
+            mapfile -t COMPREPLY < <(compgen -d -- "$word")
+            return
+            ;;
+        --out)
+            _midiseq_files "$word"
+            return
+            ;;
+        --until | --port) return ;;
+    esac
+    case $sub in
+        run | record)
+            if [[ $word == -* ]]; then
+                local options='--until --dir --list --help'
+                [[ $sub == record ]] && options='--until --dir --raw --port --out --help'
+                mapfile -t COMPREPLY < <(compgen -W "$options" -- "$word")
+            elif [[ $word == *=* ]]; then
+                _midiseq_files "${word#*=}"
+                # Where bash does not cut words at =, the client stands before the path.
+                [[ $COMP_WORDBREAKS == *=* ]] || COMPREPLY=("${COMPREPLY[@]/#/${word%%=*}=}")
+            fi
+            ;;
+        thru | wire)
+            if [[ $word == -?* ]]; then
+                mapfile -t COMPREPLY < <(compgen -W '--help' -- "$word")
+            else
+                _midiseq_files "$word"
+            fi
+            ;;
+        dump)
+            if [[ $word == -?* ]]; then
+                mapfile -t COMPREPLY < <(compgen -W '--help' -- "$word")
+            else
+                _midiseq_files "$word" .mid .MID .midi
+            fi
+            ;;
+        help)
+            ((COMP_CWORD == 2)) && mapfile -t COMPREPLY < <(compgen -W "$subcommands" -- "$word")
+            ;;
+    esac
+}
+
+complete -F _midiseq midiseq
