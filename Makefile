@@ -1,8 +1,14 @@
-# midiseq: see README.md. Every target needs the Rattle kit's command `rt` on the PATH.
+# midiseq: see README.md. What builds or proves needs the Rattle kit's command `rt` on the PATH.
 
 PROGRAM := bin/midiseq
+PREFIX ?= /usr/local
+INSTALL ?= install
 
-.PHONY: build demo test clean
+BINDIR = $(DESTDIR)$(PREFIX)/bin
+MANDIR = $(DESTDIR)$(PREFIX)/share/man/man1
+COMPLETIONS = $(DESTDIR)$(PREFIX)/share/bash-completion/completions
+
+.PHONY: build demo test check check-docs install uninstall clean
 
 # Proves every crate that the program stands on, and leaves the program as bin/midiseq.
 build: $(PROGRAM)
@@ -12,14 +18,34 @@ $(PROGRAM): $(shell find crates -name '*.rt' -o -name '*.antt' | grep -v /out/) 
 	mkdir -p bin
 	cp crates/midiseq/out/midiseq $(PROGRAM)
 
-# Builds, and passes the example's notes from one client to another.
+# Builds, and runs a studio without and with a stranger in it.
 demo: build
-	@echo '$$ midiseq thru examples/chord.raw'
-	@$(PROGRAM) thru examples/chord.raw
+	@examples/studio/demo $(PROGRAM)
 
 # The gate: every proof from nothing, the edits that must fail, the tests, and the stored run.
 test:
 	rt ci
+
+# For daily work: every crate as it stands and its tests, then the tests of the built program; no edits.
+check: build
+	rt all test
+	test/docs $(PROGRAM)
+	test/refused-calls $(PROGRAM)
+	test/hostile --program $(PROGRAM)
+
+# Builds, and compares every command that the pages show with what it prints.
+check-docs: build
+	test/docs $(PROGRAM)
+
+# The program, its man page and the completions for bash.
+install: build
+	$(INSTALL) -d $(BINDIR) $(MANDIR) $(COMPLETIONS)
+	$(INSTALL) -m 755 $(PROGRAM) $(BINDIR)/midiseq
+	$(INSTALL) -m 644 doc/midiseq.1 $(MANDIR)/midiseq.1
+	$(INSTALL) -m 644 completions/midiseq.bash $(COMPLETIONS)/midiseq
+
+uninstall:
+	rm -f $(BINDIR)/midiseq $(MANDIR)/midiseq.1 $(COMPLETIONS)/midiseq
 
 clean:
 	rm -rf bin crates/*/out
