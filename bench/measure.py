@@ -16,6 +16,30 @@ def seconds(program, *words):
     return best
 
 
+def put(place, name, make, *words):
+    """Writes what `make` gives to a file in the folder `place`, in a process of its own: what a process held before it became
+    another program counts as that program's memory."""
+    path = os.path.join(place, name)
+    maker = os.fork()
+    if not maker:
+        with open(path, "wb") as f:
+            f.write(make(*words))
+        os._exit(0)
+    os.waitpid(maker, 0)
+    return path
+
+
+def timed(words, text=os.devnull):
+    """The seconds that a program takes, and the MiB that it holds at most. What it prints goes to the file `text`."""
+    start = time.perf_counter()
+    child = os.posix_spawn(words[0], words, os.environ,
+                           file_actions=[(os.POSIX_SPAWN_OPEN, 1, text, os.O_WRONLY | os.O_CREAT | os.O_TRUNC, 0o666)])
+    _, status, used = os.wait4(child, 0)
+    if status:
+        raise SystemExit(" ".join(words) + " failed")
+    return time.perf_counter() - start, used.ru_maxrss / 1024
+
+
 def instructions(program, place, *words):
     """What callgrind collects; its log is left in the folder `place`."""
     log = os.path.join(place, "log")

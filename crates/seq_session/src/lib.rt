@@ -30,6 +30,3 @@ pub use rows::worked_logs;
 pub use script_text::{MOST_FILES, MOST_SCRIPT, ScriptInput, ScriptRead, Skip, SkipReason};
 pub use sessions::{run_scripts, run_sessions};
 pub use source::{Script, ScriptSource, clients_rise, logs_are_open, readers_are_sound};
-
-#[cfg(test)]
-mod tests;

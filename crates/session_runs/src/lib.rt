@@ -1,8 +1,11 @@
 //! Sessions that were worked out by hand, from the bytes of scripts to the bytes of logs.
 //!
-//! They are computed from the definitions of `seq_session` over the runs of `seq_runs`. Nothing stands on this crate.
+//! As laws they are computed from the definitions of `seq_session` over the runs of `seq_runs`, and as tests they go through
+//! its public calls. Nothing stands on this crate.
 #![tactic(auto)]
 
 mod rows;
+#[cfg(test)]
+mod tests;
 
 pub use rows::{clocked_session, overflow_session, played_session, tied_session};

@@ -8,9 +8,6 @@ ghost use Rattle.smf_grammar.specs.Files.{Fault};
 ghost use Rattle.tool_text.specs.Limits.{most_bytes};
 ghost use Rattle.tool_text.specs.Dump.{head_line, tempo_line, event_line, skipped_line, dump_of, IsDumped, StopsWithin, TellsFault, IsRefusedBy, IsOutput, Goes, Stops};
 
-#[cfg(test)]
-mod tests;
-
 use crate::fault::ToolFault;
 use crate::limits::MOST;
 use byte_io::{Sink, Source, read_to, write_all};

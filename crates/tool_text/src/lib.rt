@@ -9,10 +9,6 @@ mod laws;
 mod limits;
 mod printing;
 mod program_fault;
-#[cfg(test)]
-mod program_tests;
-#[cfg(test)]
-mod tests;
 mod thru;
 mod wire;
 

@@ -4,7 +4,7 @@ use super::files::SMALL;
 use super::lines::At::{F, P};
 use super::lines::{ALL, Lines};
 use super::logs::{all_done, assert_log, ran, ran_on};
-use crate::*;
+use seq_engine::*;
 use std::alloc::Global;
 use std::test::Fail;
 

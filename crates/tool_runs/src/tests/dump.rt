@@ -1,11 +1,11 @@
 //! Dumps of worked files, and of damaged ones.
 
-use crate::{ToolFault, dump_text};
 use byte_io::{MemSink, MemSource};
 use smf_files::SmfFault;
 use std::alloc::Global;
 use std::process::Abort;
 use std::test::Fail;
+use tool_text::{ToolFault, dump_text};
 
 /// A tempo, a chunk of another type, and a note that sounds for 480 ticks.
 const SMALL: [u8; 51] = [

@@ -6,7 +6,7 @@ use super::logs::{assert_bytes, assert_log, heard_by, ran};
 use super::patching::third_clients_lines;
 use super::queues::shared_queue_lines;
 use super::sending::{copies_by_edge_age_lines, input_overflow_lines};
-use crate::*;
+use seq_engine::*;
 use std::alloc::Global;
 use std::process::Abort;
 use std::test::Fail;

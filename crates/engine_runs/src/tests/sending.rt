@@ -3,7 +3,7 @@
 use super::lines::At::{F, P};
 use super::lines::{ALL, Lines, raised};
 use super::logs::{all_done, assert_bytes, assert_log, ran};
-use crate::*;
+use seq_engine::*;
 use std::alloc::Global;
 use std::test::Fail;
 

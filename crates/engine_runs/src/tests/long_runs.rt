@@ -3,8 +3,8 @@
 use super::lines::At::P;
 use super::lines::{ALL, Lines};
 use super::logs::{assert_bytes, assert_log, ran};
-use crate::*;
 use agenda_heap::HeapAgenda;
+use seq_engine::*;
 use std::alloc::Global;
 use std::test::Fail;
 

@@ -4,7 +4,7 @@ use super::files::{FRAMES, SMALL, notes};
 use super::lines::At::P;
 use super::lines::Lines;
 use super::logs::{all_done, assert_log, ran, ran_on};
-use crate::*;
+use seq_engine::*;
 use smf_files::write_format0;
 use std::alloc::Global;
 use std::test::Fail;

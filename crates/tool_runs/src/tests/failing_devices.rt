@@ -1,11 +1,11 @@
 //! Each read and each write of a tool fails in turn.
 
-use super::source;
-use crate::{Tool, ToolFault};
+use super::streams::source;
 use byte_io::MemSink;
 use std::alloc::Global;
 use std::process::Abort;
 use std::test::Fail;
+use tool_text::{Tool, ToolFault};
 
 /// Two notes under running status, and real time.
 const STREAM: &[u8] = &[0x90, 0x3C, 0x40, 0xF8, 0x3E, 0xF8, 0x40];

@@ -1,11 +1,11 @@
 //! What the program is asked to do, and the lines and statuses of its faults.
 
-use crate::{LeftOut, ProgramFault, STANDARD, Stream, Task, Tool, ToolFault};
 use smf_files::SmfFault;
 use std::alloc::Global;
 use std::io::ErrorKind;
 use std::process::Abort;
 use std::test::Fail;
+use tool_text::{LeftOut, ProgramFault, STANDARD, Stream, Task, Tool, ToolFault};
 
 /// A fault prints as this text, and ends the program with this status.
 fn check_fault(

@@ -2,14 +2,12 @@
 
 ghost use Rattle.std.specs.Prelude.{◌≡◌, IfOk, false};
 
-mod failing_devices;
-
-use crate::{ToolFault, thru_text, wire_text};
 use byte_io::{MemSink, MemSource, OutOfMemory};
 use std::alloc::Global;
 use std::test::Fail;
+use tool_text::{ToolFault, thru_text, wire_text};
 
-fn source(alloc: Global, bytes: &[u8]) -> Result<MemSource, OutOfMemory>
+pub(super) fn source(alloc: Global, bytes: &[u8]) -> Result<MemSource, OutOfMemory>
     ensures { IfOk result (λ s. s.broken ≡ false) }
 {
     Ok(MemSource::new(Vec::from_slice(alloc, bytes)?))

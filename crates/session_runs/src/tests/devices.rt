@@ -4,10 +4,10 @@ ghost use Rattle.std.specs.Prelude.{◌≡◌};
 ghost use Rattle.std.specs.FinMap as finmap;
 
 use super::session::Part;
-use crate::*;
 use agenda_heap::Agenda;
 use byte_io::{MemSink, MemSource, Sink};
 use node_table::ClientId;
+use seq_session::*;
 use std::alloc::Global;
 use std::test::Fail;
 

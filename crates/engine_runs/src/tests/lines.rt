@@ -3,8 +3,8 @@
 ghost use Rattle.std.specs.Prelude.{◌≤◌, length};
 
 use super::files::THE_FILE;
-use crate::*;
 use midi_wire::Message;
+use seq_engine::*;
 use std::alloc::Global;
 use std::test::Fail;
 

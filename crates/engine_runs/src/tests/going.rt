@@ -3,7 +3,7 @@
 use super::lines::At::P;
 use super::lines::Lines;
 use super::logs::{assert_bytes, assert_log, ran};
-use crate::*;
+use seq_engine::*;
 use std::test::Fail;
 
 /// A third client joins and parts two nodes that allow it.

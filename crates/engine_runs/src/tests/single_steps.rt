@@ -2,8 +2,8 @@
 
 use super::lines::Lines;
 use super::logs::heard_by;
-use crate::*;
 use agenda_heap::HeapAgenda;
+use seq_engine::*;
 use std::alloc::Global;
 use std::process::Abort;
 use std::test::Fail;

@@ -5,10 +5,10 @@ ghost use Rattle.seq_session.specs.Merging.{sorted};
 
 use super::queues::{EARLIER, EQUAL_MOMENTS, LATER, OF_BOTH};
 use super::session::{Part, assert_text};
-use crate::*;
 use agenda_heap::HeapAgenda;
 use node_table::ClientId;
 use seq_engine::{is_timed, run};
+use seq_session::*;
 use std::alloc::Global;
 use std::test::Fail;
 

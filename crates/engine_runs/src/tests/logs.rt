@@ -1,9 +1,9 @@
 //! Runs, and what clients hear of them.
 
 use super::lines::Lines;
-use crate::*;
 use agenda_heap::{HeapAgenda, SortedAgenda};
 use midi_wire::Message;
+use seq_engine::*;
 use smf_files::SmfFile;
 use std::alloc::Global;
 use std::ops::RangeInclusive;

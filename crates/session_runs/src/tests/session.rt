@@ -1,8 +1,8 @@
 //! Sessions that were worked out by hand.
 
 use super::devices::Devices;
-use crate::*;
 use agenda_heap::{HeapAgenda, SortedAgenda};
+use seq_session::*;
 use smf_files::SmfFile;
 use std::alloc::Global;
 use std::process::Abort;

@@ -1,0 +1,6 @@
+//! The tools of the program, through their public calls.
+
+mod dump;
+mod failing_devices;
+mod faults;
+mod streams;
