@@ -1,5 +1,6 @@
 # midiseq: see README.md. What builds or proves needs the Rattle kit's command `rt` on the PATH.
 
+SHELL := /bin/bash
 PROGRAM := bin/midiseq
 PREFIX ?= /usr/local
 INSTALL ?= install
@@ -22,9 +23,9 @@ $(PROGRAM): $(shell find crates -name '*.rt' -o -name '*.antt' | grep -v /out/) 
 demo: build
 	@examples/studio/demo $(PROGRAM)
 
-# The gate: every proof from nothing, the edits that must fail, the tests, and the stored run.
+# The gate: every proof from nothing, the edits that must fail, the tests, and the stored run; and when each crate was done.
 test:
-	rt ci
+	set -o pipefail; rt ci 2>&1 | test/gate-times
 
 # For daily work: every crate as it stands and its tests, then the tests of the built program; no edits.
 check: build
