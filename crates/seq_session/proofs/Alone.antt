@@ -1,5 +1,5 @@
 -- What the texts of a session are, and that each log is isolated.
-use Rattle.std.proofs.Common.{◌≡◌, ℕ, ◌≤◌, ◌<◌, Bool, true, false, cond, eqb, List, [], ◌∷◌, ◌++◌, map, length, Option, Some, None, OnOk, Result, Ok, Err, refl, sym, ap, subst, ◌∙◌, arith}
+use Rattle.std.proofs.Common.{◌≡◌, ℕ, ◌≤◌, ◌<◌, Bool, cond, List, [], ◌∷◌, map, length, Option, Some, None, OnOk, Result, Ok, Err, refl, sym, ap, subst, ◌∙◌, arith}
 use Rattle.std.specs.List.{AllByRecursion}
 use Rattle.std.proofs.lemmas.Bool.{eq-eqb, ne_eqb}
 use Rattle.std.proofs.lemmas.List.{length-map}
@@ -13,11 +13,11 @@ use Rattle.seq_session.specs.declared.merged.Merged.{Merged}
 use Rattle.seq_session.specs.declared.source.Script.{Script}
 use Rattle.seq_session.specs.declared.source.ScriptSource.{ScriptSource}
 use Rattle.seq_session.specs.Rising.{RiseFrom, AreRising}
-use Rattle.seq_session.specs.Merging.{merged, inputs_of, lines_of}
+use Rattle.seq_session.specs.Merging.{merged}
 use Rattle.seq_session.specs.Logs.{log_text}
 use Rattle.seq_session.specs.AllLogs.{clients_read}
-use Rattle.seq_session.specs.Sessions.{Folder, read, session, log_of, all_logs, clients_of, script_for}
-use Rattle.seq_session.specs.Devices.{clients, script_told, told, AreOpen, Wrote, IsAlone, AreAlone, log_of_fault, IsReading, LogsTell}
+use Rattle.seq_session.specs.Sessions.{Folder, read, log_of, all_logs, clients_of, script_for}
+use Rattle.seq_session.specs.Devices.{clients, told, AreOpen, Wrote, AreAlone, log_of_fault, IsReading, LogsTell}
 use Rattle.seq_session.proofs.Blamed.{none_told}
 use Rattle.seq_session.proofs.Isolated.{log_law}
 

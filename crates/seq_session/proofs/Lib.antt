@@ -6,3 +6,4 @@ pub mod Seats
 pub mod Joining
 pub mod Blamed
 pub mod Alone
+pub mod Ports

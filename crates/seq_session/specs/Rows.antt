@@ -1,6 +1,5 @@
 -- Sessions worked out: scripts as text, and the logs that they have.
 use Rattle.std.specs.Prelude.{◌≡◌, ℕ, List, [], ◌∷◌, ◌++◌, codes}
-use Rattle.seq_state.specs.declared.log.Delivery.{Delivery}
 use Rattle.seq_state.specs.declared.log.LogEntry.{LogEntry}
 use Rattle.seq_state.specs.declared.log.LogEntry.TheVariants.{Delivered, Replied}
 use Rattle.seq_state.specs.declared.log.Reply.TheVariants.{Done, Messages, Refused}

@@ -11,6 +11,7 @@ mod lines;
 mod log;
 mod merged;
 mod merging;
+mod moment;
 mod named_files;
 mod parse;
 mod reading;

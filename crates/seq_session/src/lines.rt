@@ -6,12 +6,32 @@ ghost use Rattle.std.specs.List.{flat_map};
 ghost use Rattle.script_text.specs.Reasons.{reason_text};
 ghost use Rattle.seq_session.specs.Logs.{skip_line, skips_text, came, delivery_line, got_line, name_numbered, outcome, below, reply_text, entry_text};
 
+use crate::moment::MomentText;
 use memory::OutOfMemory;
 use midi_wire::Message;
 use node_table::{ClientId, PortNo};
 use script_text::{Skip, SkipReason};
 use seq_state::{Arrival, Delivery, LogEntry, Refusal, Reply};
+use std::alloc::Global;
 use text_forms::{push_decimal, push_spaced};
+
+/// What is kept from one line to the next.
+#[derive(Drop)]
+pub(crate) struct Scratch {
+    /// The bytes of the last message.
+    bytes: Vec<u8>,
+    /// The last moment.
+    moment: MomentText,
+}
+
+impl Scratch {
+    pub(crate) fn new(alloc: Global) -> Scratch {
+        Scratch {
+            bytes: Vec::new(alloc),
+            moment: MomentText::new(0),
+        }
+    }
+}
 
 fn reason_word(why: SkipReason) -> &'static [u8]
     ensures { result.now ≡ reason_text why }
@@ -45,52 +65,68 @@ pub(crate) fn push_skips(text: &mut Vec<u8>, skips: &[Skip]) -> Result<(), OutOf
     Ok(())
 }
 
-/// Adds a message as it came to a port. What was in `bytes` is lost.
+/// Adds the word and the number of a port, which has at most two digits: in one copy, for the sake of long logs.
+#[inline(always)]
+fn push_port(text: &mut Vec<u8>, port: PortNo) -> Result<(), OutOfMemory>
+    ensures { OnOk result (text.new.items ≡ text.old.items ++ codes " port " ++ decimal port) }
+{
+    let number = port.number();
+    if number < 10 {
+        text.extend_from_slice(&[b' ', b'p', b'o', b'r', b't', b' ', b'0' + number])?;
+    } else {
+        let last = b'0' + number % 10;
+        text.extend_from_slice(&[b' ', b'p', b'o', b'r', b't', b' ', b'1', last])?;
+    }
+    Ok(())
+}
+
+/// Adds a message as it came to a port.
+#[inline(always)]
 fn push_came(
     text: &mut Vec<u8>,
-    bytes: &mut Vec<u8>,
+    scratch: &mut Scratch,
     port: PortNo,
     message: &Message,
 ) -> Result<(), OutOfMemory>
     ensures { OnOk result (text.new.items ≡ text.old.items ++ came port message.now) }
 {
-    bytes.clear();
-    message.append_to(bytes)?;
-    text.extend_from_slice(b" port ")?;
-    push_decimal(text, u64::from(port.number()))?;
-    push_spaced(text, bytes.as_slice())?;
+    scratch.bytes.clear();
+    message.append_to(&mut scratch.bytes)?;
+    push_port(text, port)?;
+    push_spaced(text, scratch.bytes.as_slice())?;
     text.push(b'\n')?;
     Ok(())
 }
 
+#[inline(always)]
 pub(crate) fn push_delivery(
     text: &mut Vec<u8>,
-    bytes: &mut Vec<u8>,
+    scratch: &mut Scratch,
     delivery: &Delivery,
 ) -> Result<(), OutOfMemory>
     ensures { OnOk result (text.new.items ≡ text.old.items ++ delivery_line delivery.now) }
 {
-    push_decimal(text, delivery.moment)?;
-    push_came(text, bytes, delivery.target.port, &delivery.message)
+    scratch.moment.push(text, delivery.moment)?;
+    push_came(text, scratch, delivery.target.port, &delivery.message)
 }
 
-fn push_got(text: &mut Vec<u8>, bytes: &mut Vec<u8>, arrival: &Arrival) -> Result<(), OutOfMemory>
+fn push_got(text: &mut Vec<u8>, scratch: &mut Scratch, arrival: &Arrival) -> Result<(), OutOfMemory>
     ensures { OnOk result (text.new.items ≡ text.old.items ++ got_line arrival.now) }
 {
     text.extend_from_slice(b"got ")?;
-    push_decimal(text, arrival.moment)?;
-    push_came(text, bytes, arrival.port, &arrival.message)
+    scratch.moment.push(text, arrival.moment)?;
+    push_came(text, scratch, arrival.port, &arrival.message)
 }
 
 fn push_gots(
     text: &mut Vec<u8>,
-    bytes: &mut Vec<u8>,
+    scratch: &mut Scratch,
     arrivals: &[Arrival],
 ) -> Result<(), OutOfMemory>
     ensures { OnOk result (text.new.items ≡ text.old.items ++ flat_map got_line arrivals.now) }
 {
     for arrival in arrivals {
-        push_got(text, bytes, arrival)?;
+        push_got(text, scratch, arrival)?;
     }
     Ok(())
 }
@@ -103,7 +139,7 @@ fn push_word_and_number(text: &mut Vec<u8>, word: &[u8], n: u64) -> Result<(), O
 }
 
 /// Adds how a command ended, and below it what was received.
-fn push_outcome(text: &mut Vec<u8>, bytes: &mut Vec<u8>, reply: &Reply) -> Result<(), OutOfMemory>
+fn push_outcome(text: &mut Vec<u8>, scratch: &mut Scratch, reply: &Reply) -> Result<(), OutOfMemory>
     ensures { OnOk result (text.new.items
         ≡ text.old.items ++ outcome reply.now ++ codes "\n" ++ below reply.now) }
 {
@@ -132,7 +168,7 @@ fn push_outcome(text: &mut Vec<u8>, bytes: &mut Vec<u8>, reply: &Reply) -> Resul
         Reply::Received(arrivals) => {
             push_word_and_number(text, b" ok ", arrivals.len() as u64)?;
             text.push(b'\n')?;
-            push_gots(text, bytes, arrivals.as_slice())?;
+            push_gots(text, scratch, arrivals.as_slice())?;
         }
         Reply::Pools {
             waiting,
@@ -167,7 +203,7 @@ fn name_numbered(number: u8) -> &'static [u8]
 /// Adds a reply to the input of a line.
 pub(crate) fn push_reply(
     text: &mut Vec<u8>,
-    bytes: &mut Vec<u8>,
+    scratch: &mut Scratch,
     moment: u64,
     line: u64,
     reply: &Reply,
@@ -175,15 +211,15 @@ pub(crate) fn push_reply(
     ensures { OnOk result (text.new.items
         ≡ text.old.items ++ reply_text moment (Some line) reply.now) }
 {
-    push_decimal(text, moment)?;
+    scratch.moment.push(text, moment)?;
     push_word_and_number(text, b" line ", line)?;
-    push_outcome(text, bytes, reply)
+    push_outcome(text, scratch, reply)
 }
 
 /// Adds what an entry of a run says to a client.
 pub(crate) fn push_entry(
     text: &mut Vec<u8>,
-    bytes: &mut Vec<u8>,
+    scratch: &mut Scratch,
     client: ClientId,
     lines: &[u64],
     entry: &LogEntry,
@@ -194,7 +230,7 @@ pub(crate) fn push_entry(
     match entry {
         LogEntry::Delivered(delivery) => {
             if delivery.target.client == client {
-                push_delivery(text, bytes, delivery)?;
+                push_delivery(text, scratch, delivery)?;
             }
         }
         LogEntry::Replied {
@@ -209,7 +245,7 @@ pub(crate) fn push_entry(
             let Some(line) = lines.get(*index as usize) else {
                 return Ok(());
             };
-            push_reply(text, bytes, *moment, *line, reply)?;
+            push_reply(text, scratch, *moment, *line, reply)?;
         }
     }
     Ok(())

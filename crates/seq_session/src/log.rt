@@ -1,12 +1,12 @@
 //! The logs of a run: of one client, and of all in one pass.
 
-ghost use Rattle.std.specs.Prelude.{◌≡◌, ◌==◌, ◌<◌, ◌≤◌, ◌+◌, ℕ, IfOk, OnOk, map, length, get_or, ◌++◌};
+ghost use Rattle.std.specs.Prelude.{◌≡◌, ◌==◌, ◌<◌, ◌≤◌, ◌+◌, ℕ, count_by, IfOk, OnOk, map, length, get_or, ◌++◌};
 ghost use Rattle.std.specs.List.{position_or_len};
 ghost use Rattle.seq_session.specs.Rising.{AreRising};
 ghost use Rattle.seq_session.specs.AllLogs.{clients_read, hearer, with_text};
 ghost use Rattle.seq_session.specs.Logs.{log_text, skips_text, entry_text, entries_text};
 
-use crate::lines::{push_entry, push_skips};
+use crate::lines::{Scratch, push_entry, push_skips};
 use crate::merged::Merged;
 use memory::OutOfMemory;
 use node_table::ClientId;
@@ -14,6 +14,9 @@ use script_text::ScriptRead;
 use seq_engine::RunLog;
 use seq_state::LogEntry;
 use std::alloc::Global;
+
+/// Most lines are no longer. A text gets room for as many, so that it is seldom moved as it grows.
+const LINE: usize = 32;
 
 /// The log of one client.
 pub fn log_text(
@@ -25,12 +28,12 @@ pub fn log_text(
     ensures { IfOk result (λ t. t.items ≡ log_text read.now merged.now.lines log.now.entries) }
 {
     let mut text = Vec::new(alloc);
-    let mut bytes = Vec::new(alloc);
+    let mut scratch = Scratch::new(alloc);
     push_skips(&mut text, read.skips.as_slice())?;
     let lines = merged.lines.as_slice();
     push_entries(
         &mut text,
-        &mut bytes,
+        &mut scratch,
         read.client,
         lines,
         log.entries.as_slice(),
@@ -41,7 +44,7 @@ pub fn log_text(
 /// Adds what the entries of a run say to a client.
 fn push_entries(
     text: &mut Vec<u8>,
-    bytes: &mut Vec<u8>,
+    scratch: &mut Scratch,
     client: ClientId,
     lines: &[u64],
     entries: &[LogEntry],
@@ -50,7 +53,7 @@ fn push_entries(
         ≡ text.old.items ++ entries_text client lines.now entries.now) }
 {
     for entry in entries {
-        push_entry(text, bytes, client, lines, entry)?;
+        push_entry(text, scratch, client, lines, entry)?;
     }
     Ok(())
 }
@@ -67,27 +70,45 @@ pub fn log_texts(
         ≡ map (λ r. log_text r merged.now.lines log.now.entries) reads.now) }
 {
     let seats = seats_of(reads);
-    let mut texts = started(alloc, reads)?;
-    let mut bytes = Vec::new(alloc);
+    let heard = entries_heard(log.entries.as_slice());
+    let mut texts = started(alloc, reads, &heard)?;
+    let mut scratch = Scratch::new(alloc);
     push_all(
         &seats,
         reads,
         &mut texts,
-        &mut bytes,
+        &mut scratch,
         merged.lines.as_slice(),
         log.entries.as_slice(),
     )?;
     Ok(texts)
 }
 
-/// Each client's log with its skipped lines.
-fn started(alloc: Global, reads: &[ScriptRead]) -> Result<Vec<Vec<u8>>, OutOfMemory>
+/// How many entries each client hears of, by its number from 128 on.
+fn entries_heard(entries: &[LogEntry]) -> [usize; 64]
+    ensures { (k : ℕ) → k < 64 →
+        get_or result k 0 ≡ count_by (λ e. hearer e == (128 + k)) entries.now }
+{
+    let mut counts = [0usize; 64];
+    for entry in entries {
+        counts[(hearer(entry).number() - 128) as usize] += 1;
+    }
+    counts
+}
+
+/// Each client's log with its skipped lines, and room for the entries that it hears of.
+fn started(
+    alloc: Global,
+    reads: &[ScriptRead],
+    heard: &[usize; 64],
+) -> Result<Vec<Vec<u8>>, OutOfMemory>
     ensures { IfOk result (λ ts. map (λ t. t.items) ts.items
         ≡ map (λ r. skips_text r.skips) reads.now) }
 {
     let mut texts = Vec::new(alloc);
     for read in reads {
-        let mut text = Vec::new(alloc);
+        let lines = heard[(read.client.number() - 128) as usize];
+        let mut text = Vec::with_capacity(alloc, lines.saturating_mul(LINE))?;
         push_skips(&mut text, read.skips.as_slice())?;
         texts.push(text)?;
     }
@@ -133,7 +154,7 @@ fn push_all(
     seats: &[usize; 64],
     reads: &[ScriptRead],
     texts: &mut Vec<Vec<u8>>,
-    bytes: &mut Vec<u8>,
+    scratch: &mut Scratch,
     lines: &[u64],
     entries: &[LogEntry],
 ) -> Result<(), OutOfMemory>
@@ -148,7 +169,7 @@ fn push_all(
     for entry in entries {
         let client = hearer(entry);
         let seat = seats[(client.number() - 128) as usize];
-        push_at(texts, seat, bytes, client, lines, entry)?;
+        push_at(texts, seat, scratch, client, lines, entry)?;
     }
     Ok(())
 }
@@ -157,7 +178,7 @@ fn push_all(
 fn push_at(
     texts: &mut Vec<Vec<u8>>,
     seat: usize,
-    bytes: &mut Vec<u8>,
+    scratch: &mut Scratch,
     client: ClientId,
     lines: &[u64],
     entry: &LogEntry,
@@ -167,7 +188,7 @@ fn push_at(
         (entry_text client lines.now entry.now)) }
 {
     if let Some(text) = texts.get_mut(seat) {
-        push_entry(text, bytes, client, lines, entry)?;
+        push_entry(text, scratch, client, lines, entry)?;
     }
     Ok(())
 }

@@ -1,11 +1,10 @@
-use Rattle.std.proofs.Common.{◌≡◌, ◌∙◌, map, ap, sym, subst, List}
+use Rattle.std.proofs.Common.{◌≡◌, ◌∙◌, map, ap, sym, subst}
 use Rattle.seq_state.specs.Step.{IsTimed}
-use Rattle.script_text.specs.declared.reading.ScriptRead.{ScriptRead}
 use Rattle.seq_session.specs.declared.merged.Merged.{Merged}
 use Rattle.seq_session.specs.Rising.{AreRising}
 use Rattle.seq_session.specs.Merging.{merged, AreSorted}
 use Rattle.seq_session.specs.AllLogs.{clients_read}
-use Rattle.seq_session.specs.Sessions.{read, clients_of}
+use Rattle.seq_session.specs.Sessions.{read}
 use Rattle.seq_session.proofs.Joining.{readings_sorted}
 use Rattle.seq_session.proofs.Isolated.{timed_law}
 use Rattle.seq_session.proofs.Alone.{read-clients, logs_made}

@@ -1,6 +1,5 @@
-use Rattle.std.proofs.Common.{◌≡◌, ◌∙◌, map, ap, sym, subst, List}
+use Rattle.std.proofs.Common.{◌≡◌, ◌∙◌, map, ap, sym, subst}
 use Rattle.seq_state.specs.Step.{IsTimed}
-use Rattle.script_text.specs.declared.reading.ScriptRead.{ScriptRead}
 use Rattle.seq_session.specs.declared.merged.Merged.{Merged}
 use Rattle.seq_session.specs.Merging.{merged, AreSorted}
 use Rattle.seq_session.specs.Sessions.{read}

@@ -1,4 +1,4 @@
-use Rattle.std.proofs.Common.{rules, arith, ◌≡◌, ◌<◌, true, false, length, Some, ap}
+use Rattle.std.proofs.Common.{rules, arith, ◌≡◌, ◌<◌, true, false, length, Some}
 use Rattle.seq_session.specs.Devices.{IsTold, log_blamed}
 use Rattle.seq_session.proofs.Blamed.{first_at, first_log, rest_log}
 use Rattle.seq_session.proofs.writing.+write_logs.Goals as goal
