@@ -1,28 +1,51 @@
--- Bytes in hexadecimal: their table, and four of them at a time.
-use Rattle.std.proofs.Common.{◌≡◌, ◌≤◌, ◌<◌, ℕ, ◌+◌, ◌-◌, ◌*◌, ◌/◌, ◌%◌, List, [], ◌∷◌, ◌++◌, length, get_or, take, drop, ap, ◌∙◌, append_assoc, arith}
-use Rattle.std.proofs.Math.Seq.{take-length}
-use Rattle.text_forms.specs.Hex.{digit, spaced}
+-- Bytes in hexadecimal: their table, and many of them at a time.
+use Rattle.std.proofs.Common.{◌≡◌, ◌≢◌, ◌<◌, ℕ, ◌+◌, ◌*◌, ◌/◌, ◌%◌, List, [], ◌∷◌, ◌++◌, length, get_or, set, take, ap, ◌∙◌, sym, append_assoc, arith}
+use Rattle.std.proofs.Math.ListN.{length-set}
+use Rattle.std.proofs.lemmas.List.{take_more, take_more_set, get_or-set_other}
+use Rattle.std.proofs.lemmas.List.Concat.{flat_map-append}
+use Rattle.text_forms.specs.Hex.{digit, spaced, in_hex}
 use Rattle.text_forms.specs.declared.hex.TheConstants.{PAIRS}
 use Rattle.text_forms.proofs.Pairs.{pair_below}
 
 pub PAIRS_at : (n : ℕ) → n < 256 → (get_or PAIRS.now (n * 2) 0 ≡ digit (n / 16)) × (get_or PAIRS.now (n * 2 + 1) 0 ≡ digit (n % 16))
 PAIRS_at n h = pair_below PAIRS.now (λ k. digit (k / 16)) (λ k. digit (k % 16)) 256 n tt h
 
-pub spaced_four_more : (xs : List ℕ) → 4 ≤ length xs
-    → spaced (get_or xs 0 0 ∷ get_or xs 1 0 ∷ get_or xs 2 0 ∷ get_or xs 3 0 ∷ []) ++ spaced (take (length xs - 4) (drop 4 xs)) ≡ spaced xs
-spaced_four_more [] h = absurd (omega arith)
-spaced_four_more (a ∷ []) h = absurd (omega arith)
-spaced_four_more (a ∷ b ∷ []) h = absurd (omega arith)
-spaced_four_more (a ∷ b ∷ c ∷ []) h = absurd (omega arith)
-spaced_four_more (a ∷ b ∷ c ∷ d ∷ xs) h =
-    let n : length (a ∷ b ∷ c ∷ d ∷ xs) - 4 ≡ length xs = omega arith in
-    let whole : take (length (a ∷ b ∷ c ∷ d ∷ xs) - 4) xs ≡ xs = ap (λ k. take k xs) n ∙ take-length xs in
-    ap (λ (ys : List ℕ). spaced (a ∷ b ∷ c ∷ d ∷ []) ++ spaced ys) whole
+-- ---- bytes that are spelled one by one
 
--- a text that gained the first four bytes
-pub gained_four : (t t' front xs : List ℕ) (h : 4 ≤ length xs) → t' ≡ t ++ front
-    → front ≡ spaced (get_or xs 0 0 ∷ get_or xs 1 0 ∷ get_or xs 2 0 ∷ get_or xs 3 0 ∷ [])
-    → t' ++ spaced (take (length xs - 4) (drop 4 xs)) ≡ t ++ spaced xs
-gained_four t t' front xs h gained is =
-    ap (λ (ys : List ℕ). ys ++ spaced (take (length xs - 4) (drop 4 xs))) (gained ∙ ap (λ (ys : List ℕ). t ++ ys) is)
-    ∙ append_assoc t _ _ ∙ ap (λ (ys : List ℕ). t ++ ys) (spaced_four_more xs h)
+spaced_more : (xs : List ℕ) (i : ℕ) → i < length xs → spaced (take (i + 1) xs) ≡ spaced (take i xs) ++ spaced (get_or xs i 0 ∷ [])
+spaced_more xs i h = ap spaced (take_more xs i 0 h) ∙ simp flat_map-append
+
+module _ (d : List ℕ) (i s t : ℕ) (spaces : (k : ℕ) → 3 * k < length d → get_or d (3 * k) 0 ≡ 32) (room : 3 * i + 2 < length d) where
+  abbrev one : List ℕ
+  one = set d (3 * i + 1) s
+
+  abbrev two : List ℕ
+  two = set one (3 * i + 2) t
+
+  same_length : length two ≡ length d
+  same_length = length-set one (3 * i + 2) t ∙ length-set d (3 * i + 1) s
+
+  pub spaces_stay : (k : ℕ) → 3 * k < length two → get_or two (3 * k) 0 ≡ 32
+  spaces_stay k h =
+      let first : 3 * k ≢ 3 * i + 1 = λ e. omega arith in
+      let second : 3 * k ≢ 3 * i + 2 = λ e. omega arith in
+      get_or-set_other one (3 * i + 2) (3 * k) t 0 second ∙ get_or-set_other d (3 * i + 1) (3 * k) s 0 first ∙ spaces k (omega (arith, same_length))
+
+  three_more : take (3 * (i + 1)) two ≡ take (3 * i) d ++ 32 ∷ s ∷ t ∷ []
+  three_more =
+      let n : 3 * (i + 1) ≡ (3 * i + 2) + 1 = omega arith in
+      let m : 3 * i + 2 ≡ (3 * i + 1) + 1 = omega arith in
+      ap (λ k. take k two) n
+      ∙ take_more_set one (3 * i + 2) t (omega (arith, length-set d (3 * i + 1) s))
+      ∙ ap (λ k. take k one ++ t ∷ []) m
+      ∙ ap (λ xs. xs ++ t ∷ []) (take_more_set d (3 * i + 1) s (omega arith))
+      ∙ ap (λ xs. (xs ++ s ∷ []) ++ t ∷ []) (take_more d (3 * i) 0 (omega arith))
+      ∙ ap (λ x. ((take (3 * i) d ++ x ∷ []) ++ s ∷ []) ++ t ∷ []) (spaces i (omega arith))
+      ∙ simp append_assoc
+
+  pub spelled_more : (xs : List ℕ) → i < length xs → s ∷ t ∷ [] ≡ in_hex (get_or xs i 0 ∷ []) → take (3 * i) d ≡ spaced (take i xs) → take (3 * (i + 1)) two ≡ spaced (take (i + 1) xs)
+  spelled_more xs h e was = three_more ∙ ap (λ ys. ys ++ 32 ∷ s ∷ t ∷ []) was ∙ ap (λ ys. spaced (take i xs) ++ 32 ∷ ys) e ∙ sym (spaced_more xs i h)
+
+-- a pair of digits
+pub pair_is : (r : List ℕ) (b : ℕ) → r ≡ in_hex (b ∷ []) → get_or r 0 0 ∷ get_or r 1 0 ∷ [] ≡ in_hex (b ∷ [])
+pair_is r b e = ap (λ (xs : List ℕ). get_or xs 0 0 ∷ get_or xs 1 0 ∷ []) e

@@ -1,6 +1,6 @@
 //! Bytes in hexadecimal.
 
-ghost use Rattle.std.specs.Prelude.{◌≡◌, [], ◌∷◌, ◌++◌, OnOk};
+ghost use Rattle.std.specs.Prelude.{◌≡◌, ◌≤◌, ◌<◌, ◌*◌, ◌^◌, ℕ, [], ◌∷◌, ◌++◌, length, take, slice_index, OnOk};
 ghost use Rattle.text_forms.specs.Hex.{digit, spaced, in_hex};
 
 use memory::OutOfMemory;
@@ -14,6 +14,9 @@ const PAIRS: &[u8; 512] = b"000102030405060708090A0B0C0D0E0F10111213141516171819
     A0A1A2A3A4A5A6A7A8A9AAABACADAEAFB0B1B2B3B4B5B6B7B8B9BABBBCBDBEBF\
     C0C1C2C3C4C5C6C7C8C9CACBCCCDCECFD0D1D2D3D4D5D6D7D8D9DADBDCDDDEDF\
     E0E1E2E3E4E5E6E7E8E9EAEBECEDEEEFF0F1F2F3F4F5F6F7F8F9FAFBFCFDFEFF";
+
+/// How many bytes are spelled before they are added to a text.
+const GROUP: usize = 64;
 
 /// Adds a space and two upper-case digits for each byte, as ` 90 3C 40`. After an error the text ends within them.
 // Most messages have three bytes or less. Where there is room for them, nothing here calls what grows the text, so that
@@ -46,15 +49,27 @@ pub fn push_spaced(text: &mut Vec<u8>, bytes: &[u8]) -> Result<(), OutOfMemory>
 fn push_any_spaced(text: &mut Vec<u8>, bytes: &[u8]) -> Result<(), OutOfMemory>
     ensures { OnOk result (text.new.items ≡ text.old.items ++ spaced bytes.now) }
 {
-    let mut rest = bytes;
-    while let [a, b, c, d, more @ ..] = rest {
-        text.extend_from_slice(&spaced_four(*a, *b, *c, *d))?;
-        rest = more;
-    }
-    for byte in rest {
-        text.extend_from_slice(&spaced_one(*byte))?;
+    let mut digits = [b' '; 3 * GROUP];
+    for group in bytes.chunks(GROUP) {
+        spell(group, &mut digits);
+        text.extend_from_slice(&digits[..3 * group.len()])?;
     }
     Ok(())
+}
+
+/// Writes the two digits of each byte behind the spaces that stand at every third place.
+#[inline(always)]
+fn spell(bytes: &[u8], digits: &mut [u8])
+    requires room { 3 * length bytes.now ≤ length digits.old }
+    requires spaces { (k : ℕ) → 3 * k < length digits.old → slice_index digits.old (3 * k) ≡ 32 }
+    ensures spaces { (k : ℕ) → 3 * k < length digits.new → slice_index digits.new (3 * k) ≡ 32 }
+    ensures spelled { take (3 * length bytes.now) digits.new ≡ spaced bytes.now }
+{
+    for i in 0..bytes.len() {
+        let [s, t] = pair(bytes[i]);
+        digits[3 * i + 1] = s;
+        digits[3 * i + 2] = t;
+    }
 }
 
 /// Adds two upper-case digits for each byte, with one space between, as `90 3C 40`. After an error the text ends within
@@ -124,17 +139,6 @@ fn spaced_three(a: u8, b: u8, c: u8) -> [u8; 9]
     let [u, v] = pair(b);
     let [w, x] = pair(c);
     [b' ', s, t, b' ', u, v, b' ', w, x]
-}
-
-#[inline(always)]
-fn spaced_four(a: u8, b: u8, c: u8, d: u8) -> [u8; 12]
-    ensures { result ≡ spaced (a ∷ b ∷ c ∷ d ∷ []) }
-{
-    let [s, t] = pair(a);
-    let [u, v] = pair(b);
-    let [w, x] = pair(c);
-    let [y, z] = pair(d);
-    [b' ', s, t, b' ', u, v, b' ', w, x, b' ', y, z]
 }
 
 /// The two digits of a byte.

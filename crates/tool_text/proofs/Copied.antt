@@ -1,12 +1,17 @@
 -- A stream that is read and written back in pieces.
-use Rattle.std.proofs.Common.{◌≡◌, ℕ, ◌+◌, ◌<◌, ◌++◌, ◌∙◌, false, List, [], ◌∷◌, length, take, get_or, Option, None, refl, sym, ap, append_assoc}
+use Rattle.std.proofs.Common.{◌≡◌, ℕ, ◌+◌, ◌<◌, ◌++◌, ◌∙◌, false, List, [], ◌∷◌, length, take, get_or, Option, None, refl, sym, ap, subst, append_assoc, append-nil}
+use Rattle.std.specs.Prelude.{codes}
 use Rattle.std.proofs.lemmas.List.{take_more}
 use Rattle.midi_wire.specs.Parsing.{Parsing}
 use Rattle.midi_wire.specs.Readings.{reading, rest}
 use Rattle.midi_wire.specs.Writings.{written, written_after, status_after, status_after_all, status_in_force}
 use Rattle.midi_wire.proofs.Settled.{reads-in-two, rests-in-two}
 use Rattle.midi_wire.proofs.WrittenInTwo.{writes-in-two, status_after_all-snoc}
-use Rattle.tool_text.specs.Wire.{IsCopied}
+use Rattle.text_forms.specs.Hex.{spaced}
+use Rattle.tool_text.specs.Gathered.{Goes, Stops}
+use Rattle.tool_text.specs.Stream.{lines_of, StopsShort}
+use Rattle.tool_text.specs.Wire.{wire_line, written_line, wire_ending, wire_text, IsCopied}
+use Rattle.tool_text.proofs.Passed.{stops_behind}
 
 -- ---- messages written one by one
 
@@ -49,3 +54,23 @@ one_more_copied parsing parsing' status status' back back' read piece c p s b =
       in_force = s ∙ ap (λ q. status_after_all q more) c.in_force ∙ sym (status_after_all-append None (reading read) more) ∙ ap status_in_force (sym whole);
       written_back = b ∙ ap (λ xs. xs ++ written_after status more) c.written_back ∙ ap (λ q. written (reading read) ++ written_after q more) c.in_force ∙ sym (writes-in-two None (reading read) more) ∙ ap written (sym whole);
     }
+
+-- ---- the last line
+
+-- the line is begun
+pub line_begun : (written old none text : List ℕ) → none ≡ [] → text ≡ none ++ codes "written" → Goes old old text (spaced written ++ 10 ∷ []) (old ++ written_line written)
+line_begun written old none text e h = record {
+  gained = [];
+  now = sym (append-nil old);
+  whole =
+      ap (λ xs. old ++ xs ++ (spaced written ++ 10 ∷ [])) (h ∙ ap (λ xs. xs ++ codes "written") e)
+      ∙ append_assoc old (codes "written") (spaced written ++ 10 ∷ [])
+      ∙ ap (λ xs. old ++ xs) (sym (append_assoc (codes "written") (spaced written) (10 ∷ [])));
+}
+
+-- it stands behind the lines of the messages
+pub all_copied : (bytes back old mid new : List ℕ) → back ≡ written (reading bytes) → mid ≡ old ++ lines_of wire_line bytes → new ≡ mid ++ written_line back → new ≡ old ++ wire_text bytes
+all_copied bytes back old mid new b e k = k ∙ ap (λ xs. mid ++ written_line xs) b ∙ ap (λ xs. xs ++ wire_ending bytes) e ∙ append_assoc old (lines_of wire_line bytes) (wire_ending bytes)
+
+pub copied_short : (bytes back old mid new : List ℕ) → back ≡ written (reading bytes) → mid ≡ old ++ lines_of wire_line bytes → Stops mid new (mid ++ written_line back) → StopsShort wire_text bytes old new
+copied_short bytes back old mid new b e s = stops_behind (lines_of wire_line) wire_ending bytes old mid new e (subst (λ (xs : List ℕ). Stops mid new (mid ++ written_line xs)) b s)

@@ -1,79 +1,16 @@
--- A text that is gathered and written piece by piece.
-use Rattle.std.proofs.Common.{◌≡◌, ◌<◌, ℕ, zero, suc, ◌+◌, ◌-◌, List, [], ◌∷◌, ◌++◌, ◌∙◌, length, drop, get_or, refl, arith, ap, sym, subst, append_assoc}
+-- What a Standard MIDI File says, gathered and written piece by piece.
+use Rattle.std.proofs.Common.{◌≡◌, ℕ, List, [], ◌∷◌, ◌++◌, ◌∙◌, refl, ap, sym, subst, append_assoc, append-nil}
 use Rattle.std.specs.Prelude.{Result, Ok, Err, OnOk, OnErr}
 use Rattle.std.specs.List.{flat_map}
 use Rattle.smf_grammar.specs.Files.{MidiFile}
 use Rattle.smf_grammar.specs.declared.event.Event.{Event}
 use Rattle.tempo_clock.specs.declared.entry.TempoEntry.{TempoEntry}
 use Rattle.smf_grammar.specs.Contents.{entries_of, events_of, skipped_of}
-use Rattle.tool_text.specs.Dump.{head_line, tempo_line, event_line, skipped_line, dump_of, Goes, Stops}
+use Rattle.tool_text.specs.Dump.{head_line, tempo_line, event_line, skipped_line, dump_of}
+use Rattle.tool_text.specs.Gathered.{Goes, Stops}
+use Rattle.tool_text.proofs.Pieces.{goes-more, stops-more, goes-then, stops-then}
 
-append-nil : (xs : List ℕ) → xs ++ [] ≡ xs
-append-nil [] = refl
-append-nil (x ∷ xs) = ap (λ (ys : List ℕ). x ∷ ys) (append-nil xs)
-
--- ---- pieces
-
-pub goes-more : (old mid new text pushed left line rest all : List ℕ) → Goes old mid text (line ++ rest) all → pushed ≡ text ++ line → Goes mid new left [] (mid ++ pushed) → Goes old new left rest all
-goes-more old mid new text pushed left line rest all g e h = record {
-  gained = g.gained ++ h.gained;
-  now = h.now ∙ ap (λ (xs : List ℕ). xs ++ h.gained) g.now ∙ append_assoc old g.gained h.gained;
-  whole =
-      ap (λ (xs : List ℕ). xs ++ rest) (sym (append-nil (new ++ left)) ∙ h.whole ∙ ap (λ (xs : List ℕ). mid ++ xs) e ∙ sym (append_assoc mid text line))
-      ∙ append_assoc (mid ++ text) line rest ∙ g.whole;
-}
-
-pub stops-more : (old mid new text pushed line rest all : List ℕ) → Goes old mid text (line ++ rest) all → pushed ≡ text ++ line → Stops mid new (mid ++ pushed) → Stops old new all
-stops-more old mid new text pushed line rest all g e h = record {
-  gained = g.gained ++ h.gained;
-  missing = h.missing ++ rest;
-  now = h.now ∙ ap (λ (xs : List ℕ). xs ++ h.gained) g.now ∙ append_assoc old g.gained h.gained;
-  whole =
-      sym g.whole ∙ sym (append_assoc (mid ++ text) line rest)
-      ∙ ap (λ (xs : List ℕ). xs ++ rest) (append_assoc mid text line ∙ ap (λ (xs : List ℕ). mid ++ xs) (sym e) ∙ h.whole)
-      ∙ append_assoc new h.missing rest;
-}
-
-pub goes-stops : (old new text rest all : List ℕ) → Goes old new text rest all → Stops old new all
-goes-stops old new text rest all g = record { gained = g.gained; missing = text ++ rest; now = g.now; whole = sym g.whole ∙ append_assoc new text rest }
-
-pub goes-none : (old text rest : List ℕ) → Goes old old text rest (old ++ text ++ rest)
-goes-none old text rest = record { gained = []; now = sym (append-nil old); whole = refl }
-
--- one part after another
-pub goes-then : (old mid new text left part rest all : List ℕ) → Goes old mid text (part ++ rest) all → Goes mid new left [] (mid ++ text ++ part) → Goes old new left rest all
-goes-then old mid new text left part rest all g h = record {
-  gained = g.gained ++ h.gained;
-  now = h.now ∙ ap (λ (xs : List ℕ). xs ++ h.gained) g.now ∙ append_assoc old g.gained h.gained;
-  whole = ap (λ (xs : List ℕ). xs ++ rest) (sym (append-nil (new ++ left)) ∙ h.whole) ∙ append_assoc (mid ++ text) part rest ∙ g.whole;
-}
-
-pub stops-then : (old mid new text part rest all : List ℕ) → Goes old mid text (part ++ rest) all → Stops mid new (mid ++ text ++ part) → Stops old new all
-stops-then old mid new text part rest all g h = record {
-  gained = g.gained ++ h.gained;
-  missing = h.missing ++ rest;
-  now = h.now ∙ ap (λ (xs : List ℕ). xs ++ h.gained) g.now ∙ append_assoc old g.gained h.gained;
-  whole = sym g.whole ∙ sym (append_assoc (mid ++ text) part rest) ∙ ap (λ (xs : List ℕ). xs ++ rest) h.whole ∙ append_assoc new h.missing rest;
-}
-
--- ---- a file that was read up to one byte more than it may have
-
--- ---- lists of lines
-
-pub front : {A : Type 0} (line : A → List ℕ) (xs : List A) (i : ℕ) (d : A) → i < length xs → flat_map line (drop i xs) ≡ line (get_or xs i d) ++ flat_map line (drop (i + 1) xs)
-front line [] i d h = absurd (omega arith)
-front line (x ∷ xs) zero d h = refl
-front line (x ∷ xs) (suc i) d h = let n : suc i + 1 ≡ suc (i + 1) = omega arith in front line xs i d (omega arith) ∙ ap (λ (k : ℕ). line (get_or xs i d) ++ flat_map line (drop k (x ∷ xs))) (sym n)
-
-pub goes-line : {A : Type 0} (line : A → List ℕ) (xs : List A) (i : ℕ) (d : A) (old mid new text pushed left all : List ℕ) → i < length xs → Goes old mid text (flat_map line (drop i xs)) all →
-    pushed ≡ text ++ line (get_or xs i d) → Goes mid new left [] (mid ++ pushed) → Goes old new left (flat_map line (drop (i + 1) xs)) all
-goes-line {A = A} line xs i d old mid new text pushed left all h g e k =
-    goes-more old mid new text pushed left (line (get_or xs i d)) (flat_map line (drop (i + 1) xs)) all (subst (λ (rest : List ℕ). Goes old mid text rest all) (front line xs i d h) g) e k
-
-pub stops-line : {A : Type 0} (line : A → List ℕ) (xs : List A) (i : ℕ) (d : A) (old mid new text pushed all : List ℕ) → i < length xs → Goes old mid text (flat_map line (drop i xs)) all →
-    pushed ≡ text ++ line (get_or xs i d) → Stops mid new (mid ++ pushed) → Stops old new all
-stops-line line xs i d old mid new text pushed all h g e k =
-    stops-more old mid new text pushed (line (get_or xs i d)) (flat_map line (drop (i + 1) xs)) all (subst (λ (rest : List ℕ). Goes old mid text rest all) (front line xs i d h) g) e k
+-- ---- one more event
 
 pub goes-event : (e : Event) (es es' : List Event) (old mid new text pushed left all : List ℕ) → es ≡ e ∷ es' → Goes old mid text (flat_map event_line es) all →
     pushed ≡ text ++ event_line e → Goes mid new left [] (mid ++ pushed) → Goes old new left (flat_map event_line es') all

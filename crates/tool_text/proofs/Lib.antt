@@ -5,6 +5,7 @@ pub mod Joined
 pub mod Fed
 pub mod Passing
 pub mod OnTheWay
+pub mod Pieces
 pub mod Passed
 pub mod Copied
 pub mod Dumped

@@ -1,13 +1,14 @@
 -- A stream that is read in pieces and printed as it comes.
-use Rattle.std.proofs.Common.{◌≡◌, ℕ, ◌+◌, ◌<◌, ◌++◌, ◌∙◌, Bool, true, List, [], ◌∷◌, length, refl, sym, ap, arith, append_assoc, append-nil}
+use Rattle.std.proofs.Common.{◌≡◌, ℕ, ◌+◌, ◌<◌, ◌++◌, ◌∙◌, Bool, true, List, [], ◌∷◌, length, refl, sym, ap, subst, arith, append_assoc, append-nil}
 use Rattle.std.specs.Prelude.{Result, Ok, Err, OnOk}
 use Rattle.std.specs.List.{flat_map}
 use Rattle.std.proofs.lemmas.List.Concat.{flat_map-append}
-use Rattle.byte_io.specs.Moved.{GainsBytes}
 use Rattle.midi_wire.specs.Readings.{reading, rest}
 use Rattle.midi_wire.proofs.Settled.{reads-in-two}
 use Rattle.tool_text.specs.Limits.{most_bytes}
-use Rattle.tool_text.specs.Stream.{lines_of, whole_text, StopsShort}
+use Rattle.tool_text.specs.Gathered.{Stops}
+use Rattle.tool_text.specs.Stream.{lines_of, StopsShort}
+use Rattle.tool_text.proofs.Pieces.{stops-split}
 
 -- These bytes were taken, and the lines for them were written: `tells` says whether the source tells its bytes, `told` whether the sink does.
 pub record Passed (taken : List ℕ → Type 0) (lines : List ℕ → List ℕ) (tells : Bool) (first left : List ℕ) (told : Bool) (old new : List ℕ) (room : ℕ) : Type 0 where
@@ -17,47 +18,56 @@ pub record Passed (taken : List ℕ → Type 0) (lines : List ℕ → List ℕ) 
   pub counted : length read + room ≡ most_bytes
   pub written : told ≡ true → new ≡ old ++ lines read
 
--- ---- one more piece
-
 -- ---- where it ends
 
-pub all_passed : (taken : List ℕ → Type 0) (lines ending : List ℕ → List ℕ) (tells : Bool) (first left : List ℕ) (told : Bool) (old new new' : List ℕ) (room : ℕ) (added : List ℕ) → Passed taken lines tells first left told old new room →
-    ((read : List ℕ) → taken read → added ≡ ending read) → tells ≡ true → told ≡ true → left ≡ [] → new' ≡ new ++ added → new' ≡ old ++ whole_text lines ending first
-all_passed taken lines ending tells first left told old new new' room added p h x y e w =
-    w
-    ∙ ap (λ xs. xs ++ added) (p.written y)
-    ∙ append_assoc old (lines p.read) added
-    ∙ ap (λ xs. old ++ (lines p.read ++ xs)) (h p.read p.has)
-    ∙ ap (λ xs. old ++ whole_text lines ending xs) (sym (p.split x ∙ ap (λ xs. p.read ++ xs) e ∙ append-nil p.read))
+module _ (taken : List ℕ → Type 0) (lines : List ℕ → List ℕ) (tells : Bool) (first left : List ℕ) (told : Bool) (old new : List ℕ) (room : ℕ) (p : Passed taken lines tells first left told old new room) where
+  all_read : tells ≡ true → left ≡ [] → p.read ≡ first
+  all_read x e = sym (p.split x ∙ ap (λ xs. p.read ++ xs) e ∙ append-nil p.read)
 
--- ---- where it stops
+  pub all_taken : tells ≡ true → left ≡ [] → taken first
+  all_taken x e = subst taken (all_read x e) p.has
 
-pub stops : (taken : List ℕ → Type 0) (lines ending : List ℕ → List ℕ) (tells : Bool) (first left : List ℕ) (told : Bool) (old new : List ℕ) (room : ℕ) → Passed taken lines tells first left told old new room → tells ≡ true → told ≡ true → StopsShort (whole_text lines ending) first old new
-stops taken lines ending tells first left told old new room p x y = record { read = p.read; unread = left; split = p.split x; written = lines p.read; missing = ending p.read; now = p.written y; front = refl }
+  pub all_passed : tells ≡ true → told ≡ true → left ≡ [] → new ≡ old ++ lines first
+  all_passed x y e = p.written y ∙ ap (λ xs. old ++ lines xs) (all_read x e)
 
-pub stops_within : (taken : List ℕ → Type 0) (lines ending : List ℕ → List ℕ) (tells : Bool) (first left left' : List ℕ) (told : Bool) (old new new' : List ℕ) (room : ℕ) (piece added : List ℕ) → Passed taken lines tells first left told old new room →
-    ((read : List ℕ) → taken read → lines (read ++ piece) ≡ lines read ++ added) → (tells ≡ true → left ≡ piece ++ left') → GainsBytes new new' added → tells ≡ true → told ≡ true → StopsShort (whole_text lines ending) first old new'
-stops_within taken lines ending tells first left left' told old new new' room piece added p t l g x y = record {
-  read = p.read ++ piece;
-  unread = left';
-  split = p.split x ∙ ap (λ xs. p.read ++ xs) (l x) ∙ sym (append_assoc p.read piece left');
-  written = lines p.read ++ g.gained;
-  missing = g.missing ++ ending (p.read ++ piece);
-  now = g.now ∙ ap (λ xs. xs ++ g.gained) (p.written y) ∙ append_assoc old (lines p.read) g.gained;
-  front = ap (λ xs. xs ++ ending (p.read ++ piece)) (t p.read p.has ∙ ap (λ xs. lines p.read ++ xs) g.split ∙ sym (append_assoc (lines p.read) g.gained g.missing))
-      ∙ append_assoc (lines p.read ++ g.gained) g.missing (ending (p.read ++ piece));
+  -- ---- where it stops
+
+  pub stops : tells ≡ true → told ≡ true → StopsShort lines first old new
+  stops x y = record { read = p.read; unread = left; split = p.split x; written = lines p.read; missing = []; now = p.written y; front = sym (append-nil (lines p.read)) }
+
+  pub stops_within : (left' new' piece added : List ℕ) → ((read : List ℕ) → taken read → lines (read ++ piece) ≡ lines read ++ added) → (tells ≡ true → left ≡ piece ++ left') → Stops new new' (new ++ added) → tells ≡ true → told ≡ true → StopsShort lines first old new'
+  stops_within left' new' piece added t l s x y = record {
+    read = p.read ++ piece;
+    unread = left';
+    split = p.split x ∙ ap (λ xs. p.read ++ xs) (l x) ∙ sym (append_assoc p.read piece left');
+    written = lines p.read ++ s.gained;
+    missing = s.missing;
+    now = s.now ∙ ap (λ xs. xs ++ s.gained) (p.written y) ∙ append_assoc old (lines p.read) s.gained;
+    front = t p.read p.has ∙ ap (λ xs. lines p.read ++ xs) (stops-split new new' added s) ∙ sym (append_assoc (lines p.read) s.gained s.missing);
+  }
+
+-- more was to be written behind the lines
+pub stops_before : (lines ending : List ℕ → List ℕ) (bytes old new : List ℕ) → StopsShort lines bytes old new → StopsShort (λ read. lines read ++ ending read) bytes old new
+stops_before lines ending bytes old new s = record {
+  read = s.read;
+  unread = s.unread;
+  split = s.split;
+  written = s.written;
+  missing = s.missing ++ ending s.read;
+  now = s.now;
+  front = ap (λ xs. xs ++ ending s.read) s.front ∙ append_assoc s.written s.missing (ending s.read);
 }
 
-pub stops_at_end : (taken : List ℕ → Type 0) (lines ending : List ℕ → List ℕ) (tells : Bool) (first left : List ℕ) (told : Bool) (old new new' : List ℕ) (room : ℕ) (added : List ℕ) → Passed taken lines tells first left told old new room →
-    ((read : List ℕ) → taken read → added ≡ ending read) → GainsBytes new new' added → tells ≡ true → told ≡ true → StopsShort (whole_text lines ending) first old new'
-stops_at_end taken lines ending tells first left told old new new' room added p h g x y = record {
-  read = p.read;
-  unread = left;
-  split = p.split x;
-  written = lines p.read ++ g.gained;
-  missing = g.missing;
-  now = g.now ∙ ap (λ xs. xs ++ g.gained) (p.written y) ∙ append_assoc old (lines p.read) g.gained;
-  front = ap (λ xs. lines p.read ++ xs) (sym (h p.read p.has) ∙ g.split) ∙ sym (append_assoc (lines p.read) g.gained g.missing);
+-- all was read, and a front of what stands behind the lines was written
+pub stops_behind : (lines ending : List ℕ → List ℕ) (bytes old mid new : List ℕ) → mid ≡ old ++ lines bytes → Stops mid new (mid ++ ending bytes) → StopsShort (λ read. lines read ++ ending read) bytes old new
+stops_behind lines ending bytes old mid new e s = record {
+  read = bytes;
+  unread = [];
+  split = sym (append-nil bytes);
+  written = lines bytes ++ s.gained;
+  missing = s.missing;
+  now = s.now ∙ ap (λ xs. xs ++ s.gained) e ∙ append_assoc old (lines bytes) s.gained;
+  front = ap (λ xs. lines bytes ++ xs) (stops-split mid new (ending bytes) s) ∙ sym (append_assoc (lines bytes) s.gained s.missing);
 }
 
 -- nothing was taken and nothing written

@@ -1,5 +1,5 @@
 -- What is delivered in the run of a stream.
-use Rattle.std.proofs.Common.{◌≡◌, ℕ, ◌+◌, List, [], ◌∷◌, ◌++◌, map, refl, sym, ap, ◌∙◌, append-nil}
+use Rattle.std.proofs.Common.{◌≡◌, ℕ, ◌+◌, List, [], ◌∷◌, ◌++◌, map, refl, sym, ap, ◌∙◌}
 use Rattle.std.specs.List.{flat_map}
 use Rattle.std.proofs.lemmas.List.{map-append}
 use Rattle.midi_wire.specs.Laws.{reading_of_pieces}
@@ -14,7 +14,7 @@ use Rattle.seq_state.specs.declared.log.LogEntry.TheVariants.{Delivered, Replied
 use Rattle.seq_state.specs.Laws.{deliveries_of}
 use Rattle.seq_state.specs.State.{State, start}
 use Rattle.seq_state.specs.Step.{settle, step, log_from, plain, state_after}
-use Rattle.tool_text.specs.Stream.{lines_of, no_ending, whole_text}
+use Rattle.tool_text.specs.Stream.{lines_of}
 use Rattle.tool_text.specs.Thru.{said, pieces, passage, passing, delivery_line, thru_line, thru_text, stream_of, IsJoined}
 use Rattle.tool_text.proofs.Cut.{AreShort, pieces-short, pieces-whole}
 use Rattle.tool_text.proofs.Fed.{came_lines, fed_comes, none_more, passed_joined, passed_stream}
@@ -65,9 +65,6 @@ run_delivers bytes =
 pub thru_lines : (bytes : List ℕ) → thru_text bytes ≡ lines_of thru_line bytes
 unfolding thru_text
 thru_lines bytes = ap (flat_map delivery_line) (run_delivers bytes) ∙ came_lines (reading bytes)
-
-pub thru_whole : (bytes : List ℕ) → thru_text bytes ≡ whole_text (lines_of thru_line) no_ending bytes
-thru_whole bytes = thru_lines bytes ∙ sym (append-nil (lines_of thru_line bytes))
 
 -- a stream of no bytes has no lines
 pub no_lines : (line : List ℕ → List ℕ) → lines_of line [] ≡ []

@@ -10,6 +10,7 @@ use Rattle.smf_grammar.specs.Contents.{entries_of, events_of, skipped_of}
 use Rattle.tool_text.specs.declared.fault.ToolFault.{ToolFault}
 use Rattle.tool_text.specs.declared.fault.ToolFault.TheVariants.{OutOfMemory, Read, Write, Smf}
 use Rattle.text_forms.specs.Hex.{spaced}
+use Rattle.tool_text.specs.Gathered.{Stops}
 
 -- ---- the text
 
@@ -45,19 +46,6 @@ pub record IsDumped (bytes old new : List ℕ) : Type 0 where
   pub file : File bytes f
   pub taken : new ≡ old ++ dump_of f
 
--- a sink took more, and with a text that is gathered and one that is to come it will have taken all
-pub record Goes (old new text rest all : List ℕ) : Type 0 where
-  pub gained : List ℕ
-  pub now : new ≡ old ++ gained
-  pub whole : new ++ text ++ rest ≡ all
-
--- a sink took more, and a front of all
-pub record Stops (old new all : List ℕ) : Type 0 where
-  pub gained : List ℕ
-  pub missing : List ℕ
-  pub now : new ≡ old ++ gained
-  pub whole : all ≡ new ++ missing
-
 -- a sink took nothing; or the bytes are a file, and it took a front of what that says
 abbrev pub StopsWithin : List ℕ → List ℕ → List ℕ → Type 0
 StopsWithin bytes old new =
@@ -75,7 +63,3 @@ TellsFault bytes Write = Unit {0}
 -- the answer where the bytes have a fault: this fault, unless a read failed or a growth was refused
 abbrev pub IsRefusedBy : Result (Unit {0}) ToolFault → SmfFault → Type 0
 IsRefusedBy r x = (r ≡ Err (Smf x)) ⊎ ((r ≡ Err Read) ⊎ (r ≡ Err OutOfMemory))
-
--- a fault of printing a file
-abbrev pub IsOutput : ToolFault → Type 0
-IsOutput e = (e ≡ OutOfMemory) ⊎ (e ≡ Write)

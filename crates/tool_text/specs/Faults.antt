@@ -1,4 +1,5 @@
 -- The faults of the tools.
+use Rattle.std.specs.Prelude.{◌≡◌, ◌⊎◌}
 use Rattle.smf_grammar.specs.declared.fault.SmfFault.{SmfFault}
 use Rattle.smf_grammar.specs.declared.fault.SmfFault.TheVariants as smf
 use Rattle.tool_text.specs.declared.fault.ToolFault.{ToolFault}
@@ -15,3 +16,7 @@ IsOfStream (Smf x) = ⊥
 IsOfStream OutOfMemory = Unit {0}
 IsOfStream Read = Unit {0}
 IsOfStream Write = Unit {0}
+
+-- a fault of printing
+abbrev pub IsOutput : ToolFault → Type 0
+IsOutput e = (e ≡ OutOfMemory) ⊎ (e ≡ Write)

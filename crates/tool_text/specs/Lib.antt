@@ -1,4 +1,5 @@
 pub mod Limits
+pub mod Gathered
 pub mod Stream
 pub mod Thru
 pub mod Wire

@@ -1,5 +1,5 @@
 -- A stream that comes in pieces and is printed as it comes.
-use Rattle.std.specs.Prelude.{◌≡◌, ◌+◌, ◌≤◌, ℕ, List, [], ◌++◌, length}
+use Rattle.std.specs.Prelude.{◌≡◌, ◌+◌, ◌≤◌, ℕ, List, ◌++◌, length}
 use Rattle.std.specs.List.{flat_map}
 use Rattle.midi_wire.specs.Readings.{reading}
 use Rattle.tool_text.specs.Limits.{most_bytes}
@@ -7,14 +7,6 @@ use Rattle.tool_text.specs.Limits.{most_bytes}
 -- a line for each message of a stream
 abbrev pub lines_of : (List ℕ → List ℕ) → List ℕ → List ℕ
 lines_of line bytes = flat_map line (reading bytes)
-
--- nothing stands behind the lines
-abbrev pub no_ending : List ℕ → List ℕ
-no_ending bytes = []
-
--- the lines for a stream, and what stands behind them
-abbrev pub whole_text : (List ℕ → List ℕ) → (List ℕ → List ℕ) → List ℕ → List ℕ
-whole_text lines ending bytes = lines bytes ++ ending bytes
 
 -- bytes were taken, and with this piece they are not too many
 abbrev pub HasRoom : (List ℕ → Type 0) → List ℕ → Type 0

@@ -5,19 +5,19 @@ ghost use Rattle.std.specs.List.{flat_map};
 ghost use Rattle.smf_grammar.specs.declared.fault.SmfFault.{SmfFault};
 ghost use Rattle.smf_grammar.specs.declared.fault.SmfFault.TheVariants as smf;
 ghost use Rattle.smf_grammar.specs.Files.{Fault};
+ghost use Rattle.tool_text.specs.Faults.{IsOutput};
+ghost use Rattle.tool_text.specs.Gathered.{Goes, Stops};
 ghost use Rattle.tool_text.specs.Limits.{most_bytes};
-ghost use Rattle.tool_text.specs.Dump.{head_line, tempo_line, event_line, skipped_line, dump_of, IsDumped, StopsWithin, TellsFault, IsRefusedBy, IsOutput, Goes, Stops};
+ghost use Rattle.tool_text.specs.Dump.{head_line, tempo_line, event_line, skipped_line, dump_of, IsDumped, StopsWithin, TellsFault, IsRefusedBy};
 
 use crate::fault::ToolFault;
 use crate::limits::MOST;
-use byte_io::{Sink, Source, read_to, write_all};
+use crate::printing::{flush, spill};
+use byte_io::{Sink, Source, read_to};
 use memory::OutOfMemory;
 use smf_files::{Cursor, Event, SmfFile, TempoEntry};
 use std::alloc::Global;
 use text_forms::{push_decimal, push_spaced};
-
-/// How much text is gathered before it is written.
-const PIECE: usize = 65_536;
 
 /// Prints what the Standard MIDI File that `input` gives says: a line on its header, one for each tempo entry, one for each
 /// event by tick, track and place, and how many events are skipped.
@@ -194,53 +194,5 @@ fn print_events<W: Sink>(
         push_event(&event, &mut bytes, text)?;
         spill(text, out)?;
     }
-    Ok(())
-}
-
-/// Writes the text that was gathered once it is long enough.
-#[inline(always)]
-fn spill<W: Sink>(text: &mut Vec<u8>, out: &mut W) -> Result<(), ToolFault>
-    requires { W.failed out.old ≡ false }
-    ensures sent { W.tells out.old ≡ true
-        → OnOk result (Goes (W.taken out.old) (W.taken out.new) text.new.items []
-        (W.taken out.old ++ text.old.items)) }
-    ensures short { W.tells out.old ≡ true
-        → OnErr result (Stops (W.taken out.old) (W.taken out.new)
-        (W.taken out.old ++ text.old.items)) }
-    ensures telling { W.tells out.new ≡ W.tells out.old }
-    ensures unmarked { OnOk result (W.failed out.new ≡ false) }
-    ensures eager { W.takes_some out.new ≡ W.takes_some out.old }
-    ensures write { IsErrOf result ToolFault.Write
-        → (W.failed out.new ≡ true) ⊎ (W.takes_some out.old ≡ false) }
-    ensures unwritten { IsErrOf result ToolFault.OutOfMemory → W.failed out.new ≡ false }
-    ensures only { IfErr result IsOutput }
-{
-    if text.len() < PIECE {
-        return Ok(());
-    }
-    flush(text, out)
-}
-
-/// Writes the text that was gathered.
-fn flush<W: Sink>(text: &mut Vec<u8>, out: &mut W) -> Result<(), ToolFault>
-    requires { W.failed out.old ≡ false }
-    ensures sent { W.tells out.old ≡ true
-        → OnOk result (W.taken out.new ≡ W.taken out.old ++ text.old.items) }
-    ensures empty { OnOk result (text.new.items ≡ []) }
-    ensures short { W.tells out.old ≡ true
-        → OnErr result (Stops (W.taken out.old) (W.taken out.new)
-        (W.taken out.old ++ text.old.items)) }
-    ensures telling { W.tells out.new ≡ W.tells out.old }
-    ensures unmarked { OnOk result (W.failed out.new ≡ false) }
-    ensures eager { W.takes_some out.new ≡ W.takes_some out.old }
-    ensures write { IsErrOf result ToolFault.Write
-        → (W.failed out.new ≡ true) ⊎ (W.takes_some out.old ≡ false) }
-    ensures unwritten { IsErrOf result ToolFault.OutOfMemory → W.failed out.new ≡ false }
-    ensures only { IfErr result IsOutput }
-{
-    if write_all(out, text.as_slice()).is_err() {
-        return Err(ToolFault::Write);
-    }
-    text.clear();
     Ok(())
 }

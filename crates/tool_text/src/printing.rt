@@ -1,15 +1,19 @@
-//! A stream that is read in pieces and printed as it comes.
+//! Text that is printed as it comes, and text that is gathered and printed piece by piece.
 
 ghost use Rattle.std.specs.Prelude.{◌≡◌, ◌≤◌, ◌<◌, ◌++◌, ◌⊎◌, ℕ, List, [], true, false, length, IfErr, OnOk, OnErr, IsErrOf};
 ghost use Rattle.byte_io.specs.Moved.{GainsBytes};
 ghost use Rattle.tool_text.specs.Limits.{most_bytes};
-ghost use Rattle.tool_text.specs.Stream.{whole_text, HasRoom, StopsShort};
-ghost use Rattle.tool_text.specs.Faults.{IsOfStream};
+ghost use Rattle.tool_text.specs.Gathered.{Goes, Stops};
+ghost use Rattle.tool_text.specs.Stream.{HasRoom, StopsShort};
+ghost use Rattle.tool_text.specs.Faults.{IsOfStream, IsOutput};
 
 use crate::fault::ToolFault;
 use crate::limits::{CHUNK, MOST};
 use byte_io::{Sink, Source, write_all};
 use std::alloc::Global;
+
+/// How much text is gathered before it is written.
+const PIECE: usize = 65_536;
 
 /// What prints a stream that it is given in pieces.
 pub(crate) trait Printer {
@@ -21,9 +25,6 @@ pub(crate) trait Printer {
     /// The lines for a stream.
     ghost lines: { List ℕ → List ℕ };
 
-    /// What stands behind the lines at the end of a stream.
-    ghost ending: { List ℕ → List ℕ };
-
     /// Takes the next piece of the stream, and adds the lines that it makes whole to an empty text.
     fn take(&mut self, piece: &[u8], text: &mut Vec<u8>) -> Result<(), ToolFault>
         requires some { 0 < length piece.now }
@@ -34,16 +35,9 @@ pub(crate) trait Printer {
         ensures text { (read : List ℕ) → HasTaken self.old read
             → OnOk result (lines (read ++ piece.now) ≡ lines read ++ text.new.items) }
         ensures only { IfErr result (λ e. e ≡ ToolFault.OutOfMemory) };
-
-    /// Adds what stands behind the lines to an empty text.
-    fn end(&self, text: &mut Vec<u8>) -> Result<(), ToolFault>
-        requires { text.old.items ≡ [] }
-        ensures text { (read : List ℕ) → HasTaken self.now read
-            → OnOk result (text.new.items ≡ ending read) }
-        ensures only { IfErr result (λ e. e ≡ ToolFault.OutOfMemory) };
 }
 
-/// Prints the stream that `input` gives, with one write for each piece that was read.
+/// Prints the lines for the stream that `input` gives, with one write for each piece that was read.
 ///
 /// At a fault the sink has taken a front of the text.
 pub(crate) fn print_stream<R: Source, W: Sink, P: Printer>(
@@ -57,14 +51,15 @@ pub(crate) fn print_stream<R: Source, W: Sink, P: Printer>(
     requires input_sound { R.failed input.old ≡ false }
     requires out_sound { W.failed out.old ≡ false }
 
+    ensures taken { R.tells input.old ≡ true
+        → OnOk result (P.HasTaken printer.new (R.left input.old)) }
     ensures text { R.tells input.old ≡ true → W.tells out.old ≡ true
-        → OnOk result (W.taken out.new
-        ≡ W.taken out.old ++ whole_text P.lines P.ending (R.left input.old)) }
+        → OnOk result (W.taken out.new ≡ W.taken out.old ++ P.lines (R.left input.old)) }
     ensures all { R.tells input.old ≡ true → OnOk result (R.left input.new ≡ []) }
     ensures bounded { R.tells input.old ≡ true
         → OnOk result (length (R.left input.old) ≤ most_bytes) }
     ensures short { R.tells input.old ≡ true → W.tells out.old ≡ true
-        → OnErr result (StopsShort (whole_text P.lines P.ending)
+        → OnErr result (StopsShort P.lines
         (R.left input.old) (W.taken out.old) (W.taken out.new)) }
 
     ensures read { IsErrOf result ToolFault.Read → (R.failed input.new ≡ true)
@@ -74,6 +69,11 @@ pub(crate) fn print_stream<R: Source, W: Sink, P: Printer>(
         → (W.failed out.new ≡ true) ⊎ (W.takes_some out.old ≡ false) }
     ensures unwritten { IsErrOf result ToolFault.OutOfMemory → W.failed out.new ≡ false }
     ensures only { IfErr result IsOfStream }
+
+    ensures input_unmarked { OnOk result (R.failed input.new ≡ false) }
+    ensures out_unmarked { OnOk result (W.failed out.new ≡ false) }
+    ensures telling { W.tells out.new ≡ W.tells out.old }
+    ensures eager { W.takes_some out.new ≡ W.takes_some out.old }
 {
     let mut text = Vec::new(alloc);
     let mut chunk = [0u8; CHUNK];
@@ -83,17 +83,15 @@ pub(crate) fn print_stream<R: Source, W: Sink, P: Printer>(
             Ok(n) => n,
             Err(_) => return Err(ToolFault::Read),
         };
-        text.clear();
         if n == 0 {
-            printer.end(&mut text)?;
-            return send(out, text.as_slice());
+            return Ok(());
         }
         if n > room {
             return Err(ToolFault::Read);
         }
         room -= n;
         printer.take(&chunk[..n], &mut text)?;
-        send(out, text.as_slice())?;
+        flush(&mut text, out)?;
     }
 }
 
@@ -113,5 +111,51 @@ pub fn send<W: Sink>(out: &mut W, text: &[u8]) -> Result<(), ToolFault>
     if write_all(out, text).is_err() {
         return Err(ToolFault::Write);
     }
+    Ok(())
+}
+
+/// Writes the text that was gathered once it is long enough.
+#[inline(always)]
+pub(crate) fn spill<W: Sink>(text: &mut Vec<u8>, out: &mut W) -> Result<(), ToolFault>
+    requires { W.failed out.old ≡ false }
+    ensures sent { W.tells out.old ≡ true
+        → OnOk result (Goes (W.taken out.old) (W.taken out.new) text.new.items []
+        (W.taken out.old ++ text.old.items)) }
+    ensures short { W.tells out.old ≡ true
+        → OnErr result (Stops (W.taken out.old) (W.taken out.new)
+        (W.taken out.old ++ text.old.items)) }
+    ensures telling { W.tells out.new ≡ W.tells out.old }
+    ensures unmarked { OnOk result (W.failed out.new ≡ false) }
+    ensures eager { W.takes_some out.new ≡ W.takes_some out.old }
+    ensures write { IsErrOf result ToolFault.Write
+        → (W.failed out.new ≡ true) ⊎ (W.takes_some out.old ≡ false) }
+    ensures unwritten { IsErrOf result ToolFault.OutOfMemory → W.failed out.new ≡ false }
+    ensures only { IfErr result IsOutput }
+{
+    if text.len() < PIECE {
+        return Ok(());
+    }
+    flush(text, out)
+}
+
+/// Writes the text that was gathered.
+pub(crate) fn flush<W: Sink>(text: &mut Vec<u8>, out: &mut W) -> Result<(), ToolFault>
+    requires { W.failed out.old ≡ false }
+    ensures sent { W.tells out.old ≡ true
+        → OnOk result (W.taken out.new ≡ W.taken out.old ++ text.old.items) }
+    ensures empty { OnOk result (text.new.items ≡ []) }
+    ensures short { W.tells out.old ≡ true
+        → OnErr result (Stops (W.taken out.old) (W.taken out.new)
+        (W.taken out.old ++ text.old.items)) }
+    ensures telling { W.tells out.new ≡ W.tells out.old }
+    ensures unmarked { OnOk result (W.failed out.new ≡ false) }
+    ensures eager { W.takes_some out.new ≡ W.takes_some out.old }
+    ensures write { IsErrOf result ToolFault.Write
+        → (W.failed out.new ≡ true) ⊎ (W.takes_some out.old ≡ false) }
+    ensures unwritten { IsErrOf result ToolFault.OutOfMemory → W.failed out.new ≡ false }
+    ensures only { IfErr result IsOutput }
+{
+    send(out, text.as_slice())?;
+    text.clear();
     Ok(())
 }

@@ -83,21 +83,15 @@ impl<'b> Passage<'b> {
 }
 
 impl<'b> Printer for Passage<'b> {
-    ghost use Rattle.tool_text.specs.Stream.{lines_of, no_ending};
+    ghost use Rattle.tool_text.specs.Stream.{lines_of};
     ghost use Rattle.tool_text.specs.Thru.{thru_line, IsFed};
 
     ghost HasTaken = { λ p read. IsFed p.engine read };
 
     ghost lines = { lines_of thru_line };
 
-    ghost ending = { no_ending };
-
     fn take(&mut self, piece: &[u8], text: &mut Vec<u8>) -> Result<(), ToolFault> {
         pass_on(self.alloc, &mut self.engine, piece, &mut self.bytes, text)
-    }
-
-    fn end(&self, _text: &mut Vec<u8>) -> Result<(), ToolFault> {
-        Ok(())
     }
 }
 

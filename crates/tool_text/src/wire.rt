@@ -4,23 +4,29 @@ ghost use Rattle.std.specs.Prelude.{◌≡◌, ◌≤◌, ◌<◌, ◌++◌, ◌
 ghost use Rattle.std.specs.List.{flat_map};
 ghost use Rattle.midi_wire.specs.Readings.{reading, rest};
 ghost use Rattle.midi_wire.specs.Writings.{written_after, status_after_all};
-ghost use Rattle.tool_text.specs.Faults.{IsOfStream};
+ghost use Rattle.text_forms.specs.Hex.{spaced};
+ghost use Rattle.tool_text.specs.Faults.{IsOfStream, IsOutput};
+ghost use Rattle.tool_text.specs.Gathered.{Goes, Stops};
 ghost use Rattle.tool_text.specs.Limits.{most_bytes};
 ghost use Rattle.tool_text.specs.Stream.{lines_of, HasRoom, StopsShort};
 ghost use Rattle.tool_text.specs.Wire.{wire_line, written_line, wire_text, IsCopied};
 
 use crate::fault::ToolFault;
-use crate::printing::{Printer, print_stream};
+use crate::printing::{Printer, flush, print_stream, spill};
 use byte_io::{Sink, Source};
 use memory::OutOfMemory;
 use midi_wire::{Message, StreamParser, StreamWriter};
 use std::alloc::Global;
 use text_forms::{push_in_hex, push_spaced};
 
+/// How many bytes of the last line are added to the text at once.
+const PART: usize = 4096;
+
 /// Prints each message of the MIDI stream that `input` gives on a line, and then the bytes that they are all written as
 /// in one stream, with running status (MIDI 1.0 Detailed Specification, "Running Status").
 ///
-/// At a fault the sink has taken a front of the text. What it holds in memory grows only with the last line.
+/// At a fault the sink has taken a front of the text. What it holds in memory grows only with the bytes of the last
+/// line, which are turned into text piece by piece.
 pub fn wire_text<R: Source, W: Sink>(
     alloc: Global,
     input: &mut R,
@@ -49,7 +55,8 @@ pub fn wire_text<R: Source, W: Sink>(
     ensures only { IfErr result IsOfStream }
 {
     let mut copier = Copier::new(alloc);
-    print_stream(alloc, &mut copier, input, out)
+    print_stream(alloc, &mut copier, input, out)?;
+    print_written(alloc, copier.written.as_slice(), out)
 }
 
 /// Reads a stream in pieces and writes it back.
@@ -97,21 +104,14 @@ impl Copier {
 
 impl Printer for Copier {
     ghost use Rattle.tool_text.specs.Stream.{lines_of};
-    ghost use Rattle.tool_text.specs.Wire.{wire_line, wire_ending, IsCopied};
+    ghost use Rattle.tool_text.specs.Wire.{wire_line, IsCopied};
 
     ghost HasTaken = { λ c read. IsCopied c.parser c.writer c.written.items read };
 
     ghost lines = { lines_of wire_line };
 
-    ghost ending = { wire_ending };
-
     fn take(&mut self, piece: &[u8], text: &mut Vec<u8>) -> Result<(), ToolFault> {
         self.copy(piece, text)
-    }
-
-    fn end(&self, text: &mut Vec<u8>) -> Result<(), ToolFault> {
-        add_written_line(self.written.as_slice(), text)?;
-        Ok(())
     }
 }
 
@@ -147,11 +147,46 @@ fn write_on(
     Ok(())
 }
 
-fn add_written_line(written: &[u8], text: &mut Vec<u8>) -> Result<(), OutOfMemory>
-    ensures { OnOk result (text.new.items ≡ text.old.items ++ written_line written.now) }
+/// Prints the last line.
+fn print_written<W: Sink>(alloc: Global, written: &[u8], out: &mut W) -> Result<(), ToolFault>
+    requires { W.failed out.old ≡ false }
+    ensures text { W.tells out.old ≡ true
+        → OnOk result (W.taken out.new ≡ W.taken out.old ++ written_line written.now) }
+    ensures short { W.tells out.old ≡ true
+        → OnErr result (Stops (W.taken out.old) (W.taken out.new)
+        (W.taken out.old ++ written_line written.now)) }
+    ensures write { IsErrOf result ToolFault.Write
+        → (W.failed out.new ≡ true) ⊎ (W.takes_some out.old ≡ false) }
+    ensures unwritten { IsErrOf result ToolFault.OutOfMemory → W.failed out.new ≡ false }
+    ensures only { IfErr result IsOutput }
 {
+    let mut text = Vec::new(alloc);
     text.extend_from_slice(b"written")?;
-    push_spaced(text, written)?;
-    text.push(b'\n')?;
+    print_spaced(written, &mut text, out)?;
+    text.extend_from_slice(b"\n")?;
+    flush(&mut text, out)
+}
+
+/// Prints bytes in hexadecimal after a text that was gathered.
+fn print_spaced<W: Sink>(bytes: &[u8], text: &mut Vec<u8>, out: &mut W) -> Result<(), ToolFault>
+    requires { W.failed out.old ≡ false }
+    ensures sent { W.tells out.old ≡ true
+        → OnOk result (Goes (W.taken out.old) (W.taken out.new) text.new.items []
+        (W.taken out.old ++ text.old.items ++ spaced bytes.now)) }
+    ensures short { W.tells out.old ≡ true
+        → OnErr result (Stops (W.taken out.old) (W.taken out.new)
+        (W.taken out.old ++ text.old.items ++ spaced bytes.now)) }
+    ensures telling { W.tells out.new ≡ W.tells out.old }
+    ensures unmarked { OnOk result (W.failed out.new ≡ false) }
+    ensures eager { W.takes_some out.new ≡ W.takes_some out.old }
+    ensures write { IsErrOf result ToolFault.Write
+        → (W.failed out.new ≡ true) ⊎ (W.takes_some out.old ≡ false) }
+    ensures unwritten { IsErrOf result ToolFault.OutOfMemory → W.failed out.new ≡ false }
+    ensures only { IfErr result IsOutput }
+{
+    for part in bytes.chunks(PART) {
+        push_spaced(text, part)?;
+        spill(text, out)?;
+    }
     Ok(())
 }

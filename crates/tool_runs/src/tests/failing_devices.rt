@@ -110,6 +110,14 @@ fn repeated(alloc: Global, text: &[u8], count: usize) -> Result<Vec<u8>, Fail> {
     Ok(all)
 }
 
+/// What `wire` prints of these notes, without the end of the last line.
+fn copied_notes(alloc: Global, count: usize) -> Result<Vec<u8>, Fail> {
+    let mut text = repeated(alloc, b"90 3C 40\n", count)?;
+    text.extend_from_slice(b"written 90")?;
+    text.extend_from_slice(repeated(alloc, b" 3C 40", count)?.as_slice())?;
+    Ok(text)
+}
+
 #[test]
 fn each_read_of_thru_fails(rt: HostRuntime) -> Result<(), Fail> {
     let alloc = rt.alloc();
@@ -129,9 +137,7 @@ fn each_read_of_thru_fails(rt: HostRuntime) -> Result<(), Fail> {
 fn each_read_of_wire_fails(rt: HostRuntime) -> Result<(), Fail> {
     let alloc = rt.alloc();
     let stream = notes(alloc, 5000)?;
-    let mut text = repeated(alloc, b"90 3C 40\n", 5000)?;
-    text.extend_from_slice(b"written 90")?;
-    text.extend_from_slice(repeated(alloc, b" 3C 40", 5000)?.as_slice())?;
+    let mut text = copied_notes(alloc, 5000)?;
     text.push(b'\n')?;
     assert_reads(
         &rt,
@@ -141,6 +147,22 @@ fn each_read_of_wire_fails(rt: HostRuntime) -> Result<(), Fail> {
         4,
         text.as_slice(),
     )
+}
+
+/// The stream is read in six pieces, whose lines take a write each. The last line takes two: it has more than 65,536
+/// characters, and its end comes alone.
+#[test]
+fn the_last_write_of_a_long_line_fails(rt: HostRuntime) -> Result<(), Fail> {
+    let alloc = rt.alloc();
+    let stream = notes(alloc, 12_000)?;
+    let text = copied_notes(alloc, 12_000)?;
+    let mut input = source(alloc, stream.as_slice())?;
+    let mut out = MemSink::new(alloc, text.len())?;
+    out.fail_at(7);
+    let outcome = Tool::Wire.print(alloc, &mut input, &mut out);
+    assert_eq!(rt; outcome, Err(ToolFault::Write));
+    assert_eq!(rt; out.bytes(), text.as_slice());
+    Ok(())
 }
 
 /// What follows the last track is passed over.

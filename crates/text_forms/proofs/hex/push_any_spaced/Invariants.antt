@@ -1,12 +1,14 @@
-use Rattle.std.proofs.Common.{◌≡◌, ◌++◌, length, take}
+use Rattle.std.proofs.Common.{◌≡◌, ◌++◌, ◌*◌, ◌<◌, ℕ, length, get_or}
+use Rattle.std.specs.Slice.Iter.{chunks_rest, chunks_size}
 use Rattle.text_forms.specs.Hex.{spaced}
 use Rattle.text_forms.proofs.hex.push_any_spaced.Given as goal
 
-abbrev pub invariant-loop-rest : goal.invariant-loop-rest
-invariant-loop-rest l = l.text.items ++ spaced l.rest ≡ l.initial.text.items ++ spaced l.bytes
-
-abbrev pub decreases-loop-rest : goal.decreases-loop-rest
-decreases-loop-rest l = length l.rest
-
-abbrev pub invariant-loop-byte : goal.invariant-loop-byte
-invariant-loop-byte l = l.text.items ≡ l.initial.text.items ++ spaced (take l.byte-index l.byte-items)
+abbrev pub invariant-loop-group : goal.invariant-loop-group
+invariant-loop-group l = record {
+  can_next : goal.iterator-loop-group.can_next l.group-iterator;
+  finite : goal.iterator-loop-group.is_finite l.group-iterator;
+  size : chunks_size l.group-iterator ≡ 64;
+  room : length l.digits ≡ 192;
+  spaces : (k : ℕ) → 3 * k < length l.digits → get_or l.digits (3 * k) 0 ≡ 32;
+  text : l.text.items ++ spaced (chunks_rest l.group-iterator) ≡ l.initial.text.items ++ spaced l.fn.bytes;
+}

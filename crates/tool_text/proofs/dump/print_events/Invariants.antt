@@ -1,7 +1,8 @@
 use Rattle.std.proofs.Common.{◌≡◌, ◌++◌, length}
 use Rattle.std.specs.Prelude.{true, false}
 use Rattle.std.specs.List.{flat_map}
-use Rattle.tool_text.specs.Dump.{event_line, Goes}
+use Rattle.tool_text.specs.Dump.{event_line}
+use Rattle.tool_text.specs.Gathered.{Goes}
 use Rattle.tool_text.proofs.dump.print_events.Given as goal
 
 abbrev pub invariant-events : goal.invariant-events

@@ -1,6 +1,7 @@
 use Rattle.std.proofs.Common.{◌∙◌}
 use Rattle.midi_wire.proofs.Outcomes.{on_err}
-use Rattle.tool_text.proofs.Dumped.{nothing-printed, head-printed, tempos-printed, tempos-stop, events-printed, events-stop, all-printed, all-stop, goes-stops, on-ok, on-err}
+use Rattle.tool_text.proofs.Dumped.{nothing-printed, head-printed, tempos-printed, tempos-stop, events-printed, events-stop, all-printed, all-stop, on-ok, on-err}
+use Rattle.tool_text.proofs.Pieces.{goes-stops}
 use Rattle.tool_text.proofs.dump.print_file.Goals as goal
 
 pub returns-in_err-cursor-clause-short : goal.returns-in_err-cursor-clause-short

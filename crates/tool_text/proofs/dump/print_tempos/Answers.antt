@@ -1,7 +1,7 @@
 use Rattle.std.proofs.Common.{◌∙◌}
 use Rattle.midi_wire.proofs.Outcomes.{on_err}
 use Rattle.tool_text.specs.Dump.{tempo_line}
-use Rattle.tool_text.proofs.Dumped.{goes-line, stops-line, goes-stops}
+use Rattle.tool_text.proofs.Pieces.{goes-line, stops-line, goes-stops}
 use Rattle.tool_text.proofs.dump.print_tempos.Goals as goal
 
 pub returns-in_err-push_tempo-clause-short : goal.returns-in_err-push_tempo-clause-short

@@ -1,7 +1,8 @@
 use Rattle.std.proofs.Common.{◌≡◌, ◌++◌, drop}
 use Rattle.std.specs.Prelude.{true, false}
 use Rattle.std.specs.List.{flat_map}
-use Rattle.tool_text.specs.Dump.{tempo_line, Goes}
+use Rattle.tool_text.specs.Dump.{tempo_line}
+use Rattle.tool_text.specs.Gathered.{Goes}
 use Rattle.tool_text.proofs.dump.print_tempos.Given as goal
 
 abbrev pub invariant-loop-entry : goal.invariant-loop-entry

@@ -1,5 +1,5 @@
 -- What was read so far is printed.
-use Rattle.std.proofs.Common.{◌≡◌, length, false}
+use Rattle.std.proofs.Common.{◌≡◌, length, false, []}
 use Rattle.tool_text.proofs.Passed.{Passed}
 use Rattle.tool_text.proofs.printing.print_stream.Given as goal
 
@@ -11,6 +11,7 @@ invariant-pieces g l = record {
   out_telling : g.W.Sink.tells l.out ≡ g.W.Sink.tells l.fn.out;
   eager : g.W.Sink.takes_some l.out ≡ g.W.Sink.takes_some l.fn.out;
   space : length l.chunk ≡ 4096;
+  empty : l.text.items ≡ [];
   passed : Passed (g.P.Printer.HasTaken l.printer) g.P.Printer.lines (g.R.Source.tells l.fn.input) (g.R.Source.left l.fn.input) (g.R.Source.left l.input) (g.W.Sink.tells l.fn.out) (g.W.Sink.taken l.fn.out) (g.W.Sink.taken l.out) l.room;
 }
 

@@ -1,6 +1,25 @@
-use Rattle.tool_text.specs.Wire.{wire_line}
+use Rattle.std.proofs.Common.{◌∙◌}
+use Rattle.midi_wire.proofs.Outcomes.{on_err}
+use Rattle.tool_text.specs.Stream.{lines_of}
+use Rattle.tool_text.specs.Wire.{wire_line, wire_ending}
+use Rattle.tool_text.proofs.Copied.{all_copied, copied_short}
+use Rattle.tool_text.proofs.Dumped.{on-ok, on-err}
+use Rattle.tool_text.proofs.Passed.{stops_before}
 use Rattle.tool_text.proofs.Passing.{no_lines}
 use Rattle.tool_text.proofs.wire.wire_text.Goals as goal
 
 pub print_stream-requires-clause-empty : goal.print_stream-requires-clause-empty
 print_stream-requires-clause-empty g c = no_lines wire_line
+
+pub returns-in_err-print_stream-clause-short : goal.returns-in_err-print_stream-clause-short
+returns-in_err-print_stream-clause-short g c = λ t u. on_err c.from_residual.result (stops_before (lines_of wire_line) wire_ending _ _ _ (c.in_err-print_stream.ensures.short t u))
+
+pub returns-clause-text : goal.returns-clause-text
+returns-clause-text g c = λ t u. on-ok c.print_written.result
+    (λ k. all_copied _ _ _ _ _ (c.as_slice.ensures.value ∙ (c.in_ok-print_stream.ensures.taken t).written_back) (c.in_ok-print_stream.ensures.text t u) k)
+    (c.print_written.ensures.text (c.print_stream.ensures.telling ∙ u))
+
+pub returns-clause-short : goal.returns-clause-short
+returns-clause-short g c = λ t u. on-err c.print_written.result
+    (λ k. copied_short _ _ _ _ _ (c.as_slice.ensures.value ∙ (c.in_ok-print_stream.ensures.taken t).written_back) (c.in_ok-print_stream.ensures.text t u) k)
+    (c.print_written.ensures.short (c.print_stream.ensures.telling ∙ u))

@@ -1,0 +1,17 @@
+use Rattle.std.proofs.Common.{◌≡◌, ◌++◌}
+use Rattle.std.specs.Prelude.{true, false}
+use Rattle.std.specs.Slice.Iter.{chunks_rest, chunks_size}
+use Rattle.text_forms.specs.Hex.{spaced}
+use Rattle.tool_text.specs.Gathered.{Goes}
+use Rattle.tool_text.proofs.wire.print_spaced.Given as goal
+
+abbrev pub invariant-loop-part : goal.invariant-loop-part
+invariant-loop-part g l = record {
+  can_next : (goal.iterator-loop-part g).can_next l.part-iterator;
+  finite : (goal.iterator-loop-part g).is_finite l.part-iterator;
+  size : chunks_size l.part-iterator ≡ 4096;
+  goes : g.W.Sink.tells l.initial.out ≡ true → Goes (g.W.Sink.taken l.initial.out) (g.W.Sink.taken l.out) l.text.items (spaced (chunks_rest l.part-iterator)) (g.W.Sink.taken l.initial.out ++ l.initial.text.items ++ spaced l.fn.bytes);
+  telling : g.W.Sink.tells l.out ≡ g.W.Sink.tells l.initial.out;
+  unmarked : g.W.Sink.failed l.out ≡ false;
+  eager : g.W.Sink.takes_some l.out ≡ g.W.Sink.takes_some l.initial.out;
+}
