@@ -48,9 +48,10 @@ abbrev pub fault_text : ProgramFault → List ℕ
 fault_text NotUtf8 = codes "an argument is not UTF-8"
 fault_text NoSubcommand = codes "name a subcommand; see midiseq --help"
 fault_text (NotAMoment word) = escaped word.now ++ codes " is no moment in nanoseconds; see midiseq --help"
-fault_text (NotAPort word) = escaped word.now ++ codes " names no port, as 129:0 does; see midiseq --help"
+fault_text (NotAPort word) =
+    escaped word.now ++ codes " names no port 0 to 15 of a client 128 to 191; see midiseq --help"
 fault_text (NotAScript word) =
-    escaped word.now ++ codes " names no script, as 128=keys.txt does; see midiseq --help"
+    escaped word.now ++ codes " names no script of a client 128 to 191; see midiseq --help"
 fault_text (TwoScripts client) =
     codes "client " ++ decimal client ++ codes " has two scripts; see midiseq --help"
 fault_text (CannotRead path) = codes "cannot read " ++ escaped path.now

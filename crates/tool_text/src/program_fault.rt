@@ -95,13 +95,16 @@ impl fmt::Display for ProgramFault<'_> {
             }
             ProgramFault::NotAPort(word) => {
                 let word = Escaped(word);
-                write!(f, "{word} names no port, as 129:0 does; see midiseq --help")
+                write!(
+                    f,
+                    "{word} names no port 0 to 15 of a client 128 to 191; see midiseq --help"
+                )
             }
             ProgramFault::NotAScript(word) => {
                 let word = Escaped(word);
                 write!(
                     f,
-                    "{word} names no script, as 128=keys.txt does; see midiseq --help"
+                    "{word} names no script of a client 128 to 191; see midiseq --help"
                 )
             }
             ProgramFault::TwoScripts(client) => {

@@ -44,10 +44,10 @@ fn tells_of_sessions(rt: HostRuntime) -> Result<(), Fail> {
     let text = "soon\\n is no moment in nanoseconds; see midiseq --help";
     check_fault(&rt, alloc, &until, text, 2)?;
     let port = ProgramFault::NotAPort("129:16");
-    let text = "129:16 names no port, as 129:0 does; see midiseq --help";
+    let text = "129:16 names no port 0 to 15 of a client 128 to 191; see midiseq --help";
     check_fault(&rt, alloc, &port, text, 2)?;
     let script = ProgramFault::NotAScript("127=a");
-    let text = "127=a names no script, as 128=keys.txt does; see midiseq --help";
+    let text = "127=a names no script of a client 128 to 191; see midiseq --help";
     check_fault(&rt, alloc, &script, text, 2)?;
     let twice = ProgramFault::TwoScripts(128);
     let text = "client 128 has two scripts; see midiseq --help";
