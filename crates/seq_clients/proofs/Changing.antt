@@ -6,20 +6,21 @@ use Rattle.std.specs.Ordering.{nat_cmp}
 use Rattle.std.specs.FinMap
 use Rattle.std.specs.FinMap.{FinMap, get, get-empty}
 use Rattle.std.proofs.lemmas.Bool.{cases_eq}
-use Rattle.cell_pools.specs.Pools.{empty_pool, after_take}
+use Rattle.cell_pools.specs.Pools.{empty_pool, after_offer, after_take}
 use Rattle.node_table.specs.Nodes as nodes
 use Rattle.node_table.specs.Nodes.{NodeSeen, ClientNodes, node_in, node_at, put_client, put_node, drop_node, with_node, without_node}
 use Rattle.node_table.specs.declared.number.Addr.{Addr}
 use Rattle.node_table.specs.declared.number.Node.{Node}
 use Rattle.node_table.specs.declared.number.Node.TheVariants.{Port, Filter}
 use Rattle.node_table.proofs.Numbered.{get-insert_same, get-insert_other, get-remove_same, get-remove_other, remove_absent}
+use Rattle.seq_state.specs.declared.log.Arrival.{Arrival}
 use Rattle.seq_state.specs.State.{Client, Pool, PortInfo, FilterInfo, put}
 use Rattle.seq_state.specs.Own.{has_port, has_filter, queue_of, with_change, put_port, put_filter, new_client, without_oldest}
 use Rattle.seq_state.specs.Step.{port_addr}
 use Rattle.seq_clients.specs.Bodies.{is_body_for}
 use Rattle.seq_clients.specs.Kept.{Nodes, Rows, port_seen, filter_seen, client_seen, row_at, roster, IsKept}
 use Rattle.seq_clients.specs.Roster.{Roster, with_client, with_pool, filter_addr}
-use Rattle.seq_clients.specs.Rows.{new_row}
+use Rattle.seq_clients.specs.Rows.{new_row, row_offered}
 use Rattle.seq_clients.specs.declared.body.NodeBody.{NodeBody}
 use Rattle.seq_clients.specs.declared.body.NodeBody.TheVariants.{Stream, Rule}
 use Rattle.seq_clients.specs.declared.row.ClientRow.{ClientRow}
@@ -395,3 +396,25 @@ module _ (table : Nodes) (rows : Rows) (s : Roster) (kept : IsKept table rows) (
     absent-left f e =
         ap (roster table) as_were ∙ view ∙ ap (λ (m : FinMap nat_cmp Pool). record s { pools = m }) (put_again s.pools client None (sym absent-pool))
         ∙ ap (with_pool s client) (sym e ∙ ap f absent-pool)
+
+  -- a message is offered to the pool of a row, if it is there
+  module _ (client : ℕ) (arrival : Arrival) (rs : Rows) (after : rs ≡ put rows client (option_map (row_offered arrival) (get rows client))) where
+    with_row : (o : Option ClientRow) → o ≡ get rows client → rs ≡ put rows client (option_map (row_offered arrival) o)
+    with_row o e = after ∙ ap (λ (x : Option ClientRow). put rows client (option_map (row_offered arrival) x)) (sym e)
+
+    put-back : (r : ClientRow) → Some r ≡ get rows client → rs ≡ FinMap.insert (FinMap.remove rows client) client (row_offered arrival r)
+    put-back r e = with_row (Some r) e ∙ sym (put_later rows client None (Some (row_offered arrival r)))
+
+    pub offered-kept : IsKept table rs
+    offered-kept = go (get rows client) refl
+      where
+        go : (o : Option ClientRow) → o ≡ get rows client → IsKept table rs
+        go None e = absent-kept client rs e (with_row None e)
+        go (Some r) e = back-kept client r (row_offered arrival r) (FinMap.remove rows client) rs e refl (put-back r e)
+
+    pub offered-seen : roster table rs ≡ with_pool s client (option_map (λ p. after_offer p arrival) (get s.pools client))
+    offered-seen = go (get rows client) refl
+      where
+        go : (o : Option ClientRow) → o ≡ get rows client → roster table rs ≡ with_pool s client (option_map (λ p. after_offer p arrival) (get s.pools client))
+        go None e = absent-left client rs e (with_row None e) (option_map (λ p. after_offer p arrival)) refl
+        go (Some r) e = pool-seen client r (row_offered arrival r) (FinMap.remove rows client) rs e refl (put-back r e) (λ p. after_offer p arrival) (λ c. refl) refl

@@ -4,8 +4,9 @@ use Rattle.std.specs.Ordering.{nat_cmp}
 use Rattle.std.specs.Coded.{Coded, code_by, coded×, coded_ℕ}
 use Rattle.std.specs.FinMap
 use Rattle.std.specs.FinMap.{FinMap}
-use Rattle.cell_pools.specs.Pools.{coded_pool, empty_pool}
+use Rattle.cell_pools.specs.Pools.{coded_pool, empty_pool, after_offer}
 use Rattle.seq_state.specs.State.{Queue, Pool, coded_queue, coded_arrival}
+use Rattle.seq_state.specs.declared.log.Arrival.{Arrival}
 use Rattle.seq_clients.specs.declared.row.ClientRow.{ClientRow}
 
 abbrev pub coded_row : Coded ClientRow
@@ -25,3 +26,7 @@ new_row in_size out_size =
       queues = FinMap.empty;
       pool = empty_pool in_size;
     }
+
+-- a row after its pool was offered a message
+abbrev pub row_offered : Arrival → ClientRow → ClientRow
+row_offered arrival r = record r { pool = after_offer r.pool arrival }

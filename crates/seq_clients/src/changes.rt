@@ -276,17 +276,13 @@ impl Clients {
 
     /// Adds a message to what waits in the client's input pool where there is room, and else drops and counts it. It takes
     /// no memory.
+    #[inline]
     pub fn offer(&mut self, client: ClientId, arrival: Arrival) -> bool
         ensures kept { result ≡ has_room (get self.old.pools client) }
         ensures after { let offered = option_map (λ p. after_offer p arrival) in
             self.new ≡ with_pool self.old client (offered (get self.old.pools client)) }
     {
-        let Some(mut row) = self.rows.remove(client) else {
-            return false;
-        };
-        let kept = row.pool.offer(arrival);
-        self.rows.insert(client, row);
-        kept
+        self.rows.offer(client, arrival)
     }
 
     /// Takes the oldest messages that wait in the client's input pool, `max` of them or all where there are fewer.

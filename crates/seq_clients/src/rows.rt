@@ -3,10 +3,14 @@
 ghost use Rattle.std.specs.Prelude.{◌≡◌, ◌+◌, ◌<◌, OnOk, OnErr};
 ghost use Rattle.std.specs.Option.{option_copied, option_map};
 ghost use Rattle.std.specs.FinMap as map;
+ghost use Rattle.seq_state.specs.State.{put};
+ghost use Rattle.seq_state.specs.Step.{has_room};
+ghost use Rattle.seq_clients.specs.Rows.{row_offered};
 
 use crate::row::ClientRow;
 use crate::slots::nothing;
 use node_table::ClientId;
+use seq_state::Arrival;
 use std::marker::Model;
 
 /// What each client that is open has beside its name and its nodes.
@@ -72,5 +76,18 @@ impl RowTable {
         ensures left { self.new ≡ map.remove self.old client }
     {
         self.rows[row_of(client)].take()
+    }
+
+    /// Offers a message to the input pool of a client that may be there.
+    pub(crate) fn offer(&mut self, client: ClientId, arrival: Arrival) -> bool
+        ensures kept { let pool = option_map (λ r. r.pool) (map.get self.old client) in
+            result ≡ has_room pool }
+        ensures after { let row = option_map (row_offered arrival) (map.get self.old client) in
+            self.new ≡ put self.old client row }
+    {
+        match &mut self.rows[row_of(client)] {
+            Some(row) => row.pool.offer(arrival),
+            None => false,
+        }
     }
 }

@@ -1,5 +1,5 @@
 -- How what is sent comes together, copy by copy.
-use Rattle.std.proofs.Common.{◌≡◌, ℕ, zero, suc, ◌+◌, ◌-◌, ◌<◌, Bool, true, false, cond, if◌then◌else◌, List, [], ◌∷◌, ◌++◌, length, take, drop, get_or, slice_index_or, Option, Some, None, refl, sym, ap, ◌∙◌, arith, append-nil, append_assoc, add-one, drop-cons}
+use Rattle.std.proofs.Common.{◌≡◌, ℕ, zero, suc, ◌+◌, ◌-◌, ◌<◌, ◌≤◌, Bool, true, false, cond, if◌then◌else◌, List, [], ◌∷◌, ◌++◌, length, take, drop, get_or, slice_index_or, Option, Some, None, refl, sym, ap, ◌∙◌, arith, append-nil, append_assoc, add-one, drop-cons}
 use Rattle.std.specs.Option.{option_map, option_to_list}
 use Rattle.std.specs.List.{flat_map}
 use Rattle.std.specs.Ordering.{nat_cmp}
@@ -10,7 +10,6 @@ use Rattle.route_filter.specs.declared.rule_args.RuleArgs.{RuleArgs}
 use Rattle.cell_pools.specs.Pools.{after_offer}
 use Rattle.node_table.specs.Addresses.{is_filter_node}
 use Rattle.node_table.specs.declared.number.Addr.{Addr}
-use Rattle.node_table.specs.declared.number.Node.{Node}
 use Rattle.node_table.specs.declared.number.Node.TheVariants.{Port, Filter}
 use Rattle.patch_graph.specs.Cursor.{at_port}
 use Rattle.patch_graph.specs.Index.{targets_of}
@@ -23,7 +22,7 @@ use Rattle.seq_state.specs.Step.{has_room, arrival, offer, offered, delivered}
 use Rattle.seq_state.proofs.Lists.{flat_map-append}
 use Rattle.seq_state.proofs.Settling.{offered-append, delivered-append}
 use Rattle.seq_settle.specs.Sends.{copies_of}
-use Rattle.seq_patchbay.specs.Carrying.{let_through, of_some, copies_by, spread, copies_of_all}
+use Rattle.seq_patchbay.specs.Carrying.{let_through, of_some, copies_by, copies_to, spread, copies_of_all}
 
 -- ---- one copy
 
@@ -47,12 +46,6 @@ delivered-none pools d e = ap (λ b. cond b (d ∷ []) []) e
 pub let-through : (o : Option FilterInfo) (r : Option RuleArgs) (message : List ℕ) → r ≡ option_map (λ f. f.rule) o → let_through r message ≡ passed_by o message
 let-through None r message e = ap (λ x. let_through x message) e
 let-through (Some f) r message e = ap (λ x. let_through x message) e
-
-pub filter-node : (clients : FinMap nat_cmp Client) (c n : ℕ) (node : Node) → node ≡ Filter n → filter_of (FinMap.get clients c) n ≡ filter_at clients c node
-filter-node clients c n node e = ap (filter_at clients c) (sym e)
-
-pub port-node : (clients : FinMap nat_cmp Client) (c n : ℕ) (node : Node) → node ≡ Port n → None ≡ option_map (λ f. f.rule) (filter_at clients c node)
-port-node clients c n node e = ap (λ x. option_map (λ f. f.rule) (filter_at clients c x)) (sym e)
 
 -- ---- node by node
 
@@ -78,6 +71,30 @@ module _ (clients : FinMap nat_cmp Client) (edges : List Edge) (moment : ℕ) wh
     pub by-filter : (filter : ℕ) → node.node ≡ Filter filter → (o : Option (List ℕ)) → passed_by (filter_at clients node.client node.node) message ≡ o →
         copies_by clients edges moment behind message node ≡ of_some (behind (targets_of edges node)) o
     by-filter filter e o p = ap (λ n. cases (is_filter_node n)) e ∙ ap (of_some (behind (targets_of edges node))) p
+
+  -- what comes to a filter goes on as what its rule lets through
+  pub to-filter : (n : ℕ) (node : Addr) (message : List ℕ) (filter : ℕ) → node.node ≡ Filter filter → (rule : Option RuleArgs) → rule ≡ option_map (λ f. f.rule) (filter_of (FinMap.get clients node.client) filter) →
+      (o : Option (List ℕ)) → o ≡ let_through rule message → copies_to clients edges moment n node message ≡ of_some (λ m. spread clients edges moment n (targets_of edges node) m) o
+  to-filter n node message filter e rule r o p =
+      by-filter (λ ts m. spread clients edges moment n ts m) message node filter e o
+      (ap (λ x. passed_by (filter_at clients node.client x) message) e ∙ sym (let-through (filter_of (FinMap.get clients node.client) filter) rule message r) ∙ sym p)
+
+  -- nothing comes of what goes to a filter, and along no edge behind it
+  pub to-none : (n : ℕ) (node : Addr) (message : List ℕ) (filter : ℕ) → node.node ≡ Filter filter → n ≡ 0 → copies_to clients edges moment n node message ≡ []
+  to-none n node message filter e none =
+      by-filter (λ ts m. spread clients edges moment n ts m) message node filter e (passed_by (filter_at clients node.client node.node) message) refl ∙ go (passed_by (filter_at clients node.client node.node) message)
+    where
+      go : (o : Option (List ℕ)) → of_some (λ m. spread clients edges moment n (targets_of edges node) m) o ≡ []
+      go None = refl
+      go (Some m) = spread-none n (targets_of edges node) m none
+
+  -- to the only one of some nodes
+  pub to-only : (n : ℕ) (targets : List Addr) (node : Addr) (message : List ℕ) → 1 ≤ length targets → length targets < 2 → node ≡ slice_index_or targets 0 node → (n ≡ 0 → ⊥) →
+      spread clients edges moment n targets message ≡ copies_to clients edges moment (n - 1) node message
+  to-only n [] node message some few e h = absurd (omega arith)
+  to-only n (a ∷ []) node message some few e h =
+      spread-hops n (a ∷ []) message h ∙ append-nil (copies_to clients edges moment (n - 1) a message) ∙ ap (λ (t : Addr). copies_to clients edges moment (n - 1) t message) (sym e)
+  to-only n (a ∷ (b ∷ rest)) node message some few e h = absurd (omega arith)
 
 -- ---- one after another
 

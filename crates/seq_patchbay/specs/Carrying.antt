@@ -39,6 +39,11 @@ spread clients edges moment zero targets message = []
 spread clients edges moment (suc n) targets message =
     flat_map (copies_by clients edges moment (λ ts m. spread clients edges moment n ts m) message) targets
 
+-- the copies of a message that goes to a node, and along at most n edges behind it
+abbrev pub copies_to : FinMap nat_cmp Client → List Edge → ℕ → ℕ → Addr → List ℕ → List Delivery
+copies_to clients edges moment n node message =
+    copies_by clients edges moment (λ ts m. spread clients edges moment n ts m) message node
+
 -- the copies of messages that leave a port one after another
 abbrev pub copies_of_all : FinMap nat_cmp Client → List Edge → ℕ → ℕ → ℕ → List (List ℕ) →
     List Delivery

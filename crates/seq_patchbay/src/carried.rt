@@ -12,45 +12,56 @@ use route_filter::{Rule, VoiceMessage};
 pub(crate) trait Carried: Sized {
     ghost bytes: { Self → List ℕ };
 
+    /// The same once more.
+    fn once_more(&self) -> Result<Self, OutOfMemory>
+        ensures { IfOk result (λ m. bytes m ≡ bytes self.now) };
+
     /// What a rule lets through of it, and all where there is no rule.
-    fn through(&self, rule: Option<&Rule>) -> Result<Option<Self>, OutOfMemory>
-        ensures { IfOk result (λ m.
-            option_map bytes m ≡ let_through (option_copied rule.entry) (bytes self.now)) };
+    fn through(self, rule: Option<&Rule>) -> Option<Self>
+        ensures { option_map bytes result ≡ let_through (option_copied rule.entry) (bytes self) };
 
     /// The message that comes to a port.
-    fn to_message(&self) -> Result<Message, OutOfMemory>
-        ensures { IfOk result (λ m. m ≡ bytes self.now) };
+    fn into_message(self) -> Message
+        ensures { result ≡ bytes self };
 }
 
 impl Carried for VoiceMessage {
     ghost bytes = { λ m. m };
 
     #[inline]
-    fn through(&self, rule: Option<&Rule>) -> Result<Option<VoiceMessage>, OutOfMemory> {
+    fn once_more(&self) -> Result<VoiceMessage, OutOfMemory> {
+        Ok(self.duplicate())
+    }
+
+    #[inline]
+    fn through(self, rule: Option<&Rule>) -> Option<VoiceMessage> {
         match rule {
-            Some(rule) => Ok(rule.pass_voice(self.duplicate())),
-            None => Ok(Some(self.duplicate())),
+            Some(rule) => rule.pass_voice(self),
+            None => Some(self),
         }
     }
 
     #[inline]
-    fn to_message(&self) -> Result<Message, OutOfMemory> {
-        Ok(self.message())
+    fn into_message(self) -> Message {
+        self.message()
     }
 }
 
 impl Carried for Message {
     ghost bytes = { λ m. m };
 
-    fn through(&self, rule: Option<&Rule>) -> Result<Option<Message>, OutOfMemory> {
-        let same = self.duplicate()?;
+    fn once_more(&self) -> Result<Message, OutOfMemory> {
+        self.duplicate()
+    }
+
+    fn through(self, rule: Option<&Rule>) -> Option<Message> {
         match rule {
-            Some(rule) => Ok(rule.pass(same)),
-            None => Ok(Some(same)),
+            Some(rule) => rule.pass(self),
+            None => Some(self),
         }
     }
 
-    fn to_message(&self) -> Result<Message, OutOfMemory> {
-        self.duplicate()
+    fn into_message(self) -> Message {
+        self
     }
 }

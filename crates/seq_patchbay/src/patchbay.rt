@@ -92,8 +92,11 @@ impl Desk for Patchbay {
         // Mostly there is one way by each of them.
         out.reserve(targets.len())?;
         match VoiceMessage::of(message) {
-            Some(voice) => spread(clients, graph, moment, HOPS, targets, &voice, out),
-            None => spread(clients, graph, moment, HOPS, targets, message, out),
+            Some(voice) => spread(clients, graph, moment, HOPS, targets, voice, out),
+            None => {
+                let same = message.duplicate()?;
+                spread(clients, graph, moment, HOPS, targets, same, out)
+            }
         }
     }
 }

@@ -1,84 +1,90 @@
-use Rattle.std.proofs.Common.{◌++◌, ◌-◌, ℕ, List, [], Some, None, refl, sym, ap, ◌∙◌, append-nil}
-use Rattle.std.specs.Option.{option_map, option_to_list}
-use Rattle.std.proofs.lemmas.List.{drop_all}
-use Rattle.patch_graph.specs.Cursor.{at_port}
-use Rattle.seq_state.specs.Copies.{filter_at, copy}
+use Rattle.std.proofs.Common.{◌++◌, ◌-◌, List, Some, sym, ap, ◌∙◌, append-nil, arith}
+use Rattle.std.specs.Option.{option_map}
+use Rattle.std.specs.FinMap
 use Rattle.std.specs.List.{flat_map}
+use Rattle.std.proofs.lemmas.List.{drop_all}
 use Rattle.node_table.specs.declared.number.Addr.{Addr}
 use Rattle.seq_state.specs.declared.log.Delivery.{Delivery}
+use Rattle.seq_state.specs.Own.{filter_of}
 use Rattle.seq_state.specs.Step.{offered, delivered}
-use Rattle.seq_patchbay.specs.Carrying.{copies_by, spread}
-use Rattle.seq_patchbay.proofs.Sent.{spread-none, spread-hops, by-port, by-filter, let-through, sent-one}
-use Rattle.seq_patchbay.proofs.sending.+spread.Goals.{in-Port+in_ok-to_message-in-Port+in_ok-deliver-in-Port, in-Filter+in_ok-passed-in-Filter+in-Some+in_ok-spread-in-Filter, in-Filter+in_ok-passed-in-Filter+in_default}
+use Rattle.seq_patchbay.specs.Carrying.{copies_to, spread}
+use Rattle.seq_patchbay.proofs.Sent.{spread-none, spread-hops, to-filter, to-none, to-only, sent-one}
 use Rattle.seq_patchbay.proofs.sending.+spread.Goals as goal
 
-pub returns-then-hops-eq0-clause-pools : goal.returns-then-hops-eq0-clause-pools
-returns-then-hops-eq0-clause-pools g t c =
-    let a = c.args in
-    sym (ap (offered a.clients.now.pools) (spread-none a.clients.now.clients a.graph.now a.moment a.hops a.targets.now (g.M.Carried.bytes a.message.now) c.if-hops-eq0.true))
+-- ---- to a node
 
-pub returns-then-hops-eq0-clause-sent : goal.returns-then-hops-eq0-clause-sent
-returns-then-hops-eq0-clause-sent g t c =
+pub send_to-returns-then-hops-eq0-clause-pools : goal.send_to-returns-then-hops-eq0-clause-pools
+send_to-returns-then-hops-eq0-clause-pools g t c =
+    let a = c.args in
+    let l = c.loop-node in
+    ap (λ cs. cs.pools) l.invariant.clients
+    ∙ ap (offered a.clients.now.pools) (sym (to-none a.clients.now.clients a.graph.now a.moment l.hops l.node.now (g.M.Carried.bytes l.message) c.in-Filter.filter c.in-Filter.is c.if-hops-eq0.true) ∙ l.invariant.same)
+
+pub send_to-returns-then-hops-eq0-clause-sent : goal.send_to-returns-then-hops-eq0-clause-sent
+send_to-returns-then-hops-eq0-clause-sent g t c =
+    let a = c.args in
+    let l = c.loop-node in
+    ap (λ v. v.items) l.invariant.out ∙ sym (append-nil a.out.now.items)
+    ∙ ap (λ ds. a.out.now.items ++ delivered a.clients.now.pools ds) (sym (to-none a.clients.now.clients a.graph.now a.moment l.hops l.node.now (g.M.Carried.bytes l.message) c.in-Filter.filter c.in-Filter.is c.if-hops-eq0.true) ∙ l.invariant.same)
+
+pub send_to-loop-node-preserved : goal.send_to-loop-node-preserved
+send_to-loop-node-preserved g t c =
+    let a = c.args in
+    let l = c.loop-node in
+    let now = a.clients.now.clients in
+    record {
+      hops = omega arith;
+      clients = l.invariant.clients;
+      out = l.invariant.out;
+      same =
+          sym (to-only now a.graph.now a.moment l.hops c.targets.result.now c.next-item.result (g.M.Carried.bytes c.in-Some.passed) (omega arith) (omega arith) c.next-item.is c.if-hops-eq0.false)
+          ∙ ap (λ ts. spread now a.graph.now a.moment l.hops ts (g.M.Carried.bytes c.in-Some.passed)) c.targets.ensures
+          ∙ sym (to-filter now a.graph.now a.moment l.hops l.node.now (g.M.Carried.bytes l.message) c.in-Filter.filter c.in-Filter.is _ (c.rule.ensures ∙ ap (λ cs. option_map (λ f. f.rule) (filter_of (FinMap.get cs.clients l.node.now.client) c.in-Filter.filter)) l.invariant.clients)
+          (Some (g.M.Carried.bytes c.in-Some.passed)) (ap (option_map g.M.Carried.bytes) (sym c.in-Some.is) ∙ c.through-passed.ensures))
+          ∙ l.invariant.same;
+    }
+
+-- ---- to one node after another
+
+pub spread-returns-then-hops-eq0-clause-pools : goal.spread-returns-then-hops-eq0-clause-pools
+spread-returns-then-hops-eq0-clause-pools g t c =
+    let a = c.args in
+    sym (ap (offered a.clients.now.pools) (spread-none a.clients.now.clients a.graph.now a.moment a.hops a.targets.now (g.M.Carried.bytes a.message) c.if-hops-eq0.true))
+
+pub spread-returns-then-hops-eq0-clause-sent : goal.spread-returns-then-hops-eq0-clause-sent
+spread-returns-then-hops-eq0-clause-sent g t c =
     let a = c.args in
     sym (append-nil a.out.now.items)
-    ∙ sym (ap (λ ds. a.out.now.items ++ delivered a.clients.now.pools ds) (spread-none a.clients.now.clients a.graph.now a.moment a.hops a.targets.now (g.M.Carried.bytes a.message.now) c.if-hops-eq0.true))
+    ∙ sym (ap (λ ds. a.out.now.items ++ delivered a.clients.now.pools ds) (spread-none a.clients.now.clients a.graph.now a.moment a.hops a.targets.now (g.M.Carried.bytes a.message) c.if-hops-eq0.true))
 
-pub loop-target-init : goal.loop-target-init
-loop-target-init g t c = record { clients = refl; pools = refl; sent = refl }
-
-pub loop-target-preserved : goal.loop-target-preserved
-loop-target-preserved g t c =
+pub spread-loop-target-preserved : goal.spread-loop-target-preserved
+spread-loop-target-preserved g t c =
     let a = c.args in
-    let inv = c.loop-target.invariant in
-    let was = c.loop-target.clients in
-    let now = c.match-target.clients in
+    let l = c.loop-target in
+    let sent = c.in_ok-send_to.ensures in
     let target = c.target-item.result in
-    let message : List ℕ = g.M.Carried.bytes a.message.now in
-    let behind : List Addr → List ℕ → List Delivery = λ ts m. spread a.clients.now.clients a.graph.now a.moment (a.hops - 1) ts m in
-    let one : Addr → List Delivery = copies_by a.clients.now.clients a.graph.now a.moment behind message in
-    elim c.match-target.branch [
-      | in-Port+in_ok-to_message-in-Port+in_ok-deliver-in-Port w ↦
-          let same = by-port a.clients.now.clients a.graph.now a.moment behind message target w.in-Port.port w.in-Port.is
-          ∙ ap (λ m. option_to_list (copy a.moment (at_port (record { client = target.client; port = w.in-Port.port })) (Some m))) (sym w.in_ok-to_message-in-Port.ensures) in
-          let both = sent-one one a.targets.now c.loop-target.target-index target _ c.loop-target-test.true c.target-item.is same was.pools now.pools _ c.loop-target.out.items c.match-target.out.items _
-          (ap (λ x. x.pools) w.clients-is ∙ w.in_ok-deliver-in-Port.ensures.pools) (ap (λ x. x.items) w.out-is ∙ w.in_ok-deliver-in-Port.ensures.sent) inv.pools inv.sent in
-          record { clients = ap (λ x. x.clients) w.clients-is ∙ w.in_ok-deliver-in-Port.ensures.clients ∙ inv.clients; pools = both.0; sent = both.1 }
-      | in-Filter+in_ok-passed-in-Filter+in-Some+in_ok-spread-in-Filter w ↦
-          let passes = sym (let-through (filter_at a.clients.now.clients target.client target.node) _ message (w.rule_at.ensures ∙ ap (λ cs. option_map (λ f. f.rule) (filter_at cs target.client target.node)) inv.clients))
-          ∙ sym w.in_ok-passed-in-Filter.ensures ∙ ap (option_map g.M.Carried.bytes) w.in-Some.is in
-          let same = by-filter a.clients.now.clients a.graph.now a.moment behind message target w.in-Filter.field-0 w.in-Filter.is (Some (g.M.Carried.bytes w.in-Some.passed)) passes
-          ∙ ap (λ ts. behind ts (g.M.Carried.bytes w.in-Some.passed)) (sym w.targets-behind.ensures)
-          ∙ ap (λ cs. spread cs a.graph.now a.moment (a.hops - 1) w.targets-behind.result.now (g.M.Carried.bytes w.in-Some.passed)) (sym inv.clients) in
-          let both = sent-one one a.targets.now c.loop-target.target-index target _ c.loop-target-test.true c.target-item.is same was.pools now.pools _ c.loop-target.out.items c.match-target.out.items _
-          (ap (λ x. x.pools) w.clients-is ∙ w.in_ok-spread-in-Filter.ensures.pools) (ap (λ x. x.items) w.out-is ∙ w.in_ok-spread-in-Filter.ensures.sent) inv.pools inv.sent in
-          record { clients = ap (λ x. x.clients) w.clients-is ∙ w.in_ok-spread-in-Filter.ensures.clients ∙ inv.clients; pools = both.0; sent = both.1 }
-      | in-Filter+in_ok-passed-in-Filter+in_default w ↦
-          let stops = sym (let-through (filter_at a.clients.now.clients target.client target.node) _ message (w.rule_at.ensures ∙ ap (λ cs. option_map (λ f. f.rule) (filter_at cs target.client target.node)) inv.clients))
-          ∙ sym w.in_ok-passed-in-Filter.ensures ∙ ap (option_map g.M.Carried.bytes) w.in_default.is in
-          let same = by-filter a.clients.now.clients a.graph.now a.moment behind message target w.in-Filter.field-0 w.in-Filter.is None stops in
-          let both = sent-one one a.targets.now c.loop-target.target-index target [] c.loop-target-test.true c.target-item.is same was.pools now.pools _ c.loop-target.out.items c.match-target.out.items _
-          (ap (λ x. x.pools) w.clients-is) (ap (λ x. x.items) w.out-is ∙ sym (append-nil c.loop-target.out.items)) inv.pools inv.sent in
-          record { clients = ap (λ x. x.clients) w.clients-is ∙ inv.clients; pools = both.0; sent = both.1 }
-    ]
+    let one : Addr → List Delivery = λ node. copies_to a.clients.now.clients a.graph.now a.moment (a.hops - 1) node (g.M.Carried.bytes a.message) in
+    let same = ap (copies_to a.clients.now.clients a.graph.now a.moment (a.hops - 1) target) (sym c.in_ok-message.ensures)
+    ∙ ap (λ cs. copies_to cs a.graph.now a.moment (a.hops - 1) target (g.M.Carried.bytes c.in_ok-message.message)) (sym l.invariant.clients) in
+    let both = sent-one one a.targets.now l.target-index target _ c.loop-target-test.true c.target-item.is same l.clients.pools c.send_to.new.clients.pools _ l.out.items c.send_to.new.out.items _
+    sent.pools sent.sent l.invariant.pools l.invariant.sent in
+    record { clients = sent.clients ∙ l.invariant.clients; pools = both.0; sent = both.1 }
 
-pub returns-clause-clients : goal.returns-clause-clients
-returns-clause-clients g t c = c.loop-target.invariant.clients
-
-pub returns-clause-pools : goal.returns-clause-pools
-returns-clause-pools g t c =
+pub spread-returns-clause-pools : goal.spread-returns-clause-pools
+spread-returns-clause-pools g t c =
     let a = c.args in
-    let behind : List Addr → List ℕ → List Delivery = λ ts m. spread a.clients.now.clients a.graph.now a.moment (a.hops - 1) ts m in
-    let one : Addr → List Delivery = copies_by a.clients.now.clients a.graph.now a.moment behind (g.M.Carried.bytes a.message.now) in
-    ap (λ ts. offered c.loop-target.clients.pools (flat_map one ts)) (sym (drop_all c.loop-target.target-index a.targets.now c.loop-target-test.false))
-    ∙ c.loop-target.invariant.pools
-    ∙ ap (offered a.clients.now.pools) (sym (spread-hops a.clients.now.clients a.graph.now a.moment a.hops a.targets.now (g.M.Carried.bytes a.message.now) c.if-hops-eq0.false))
+    let l = c.loop-target in
+    let one : Addr → List Delivery = λ node. copies_to a.clients.now.clients a.graph.now a.moment (a.hops - 1) node (g.M.Carried.bytes a.message) in
+    ap (λ ts. offered l.clients.pools (flat_map one ts)) (sym (drop_all l.target-index a.targets.now c.loop-target-test.false))
+    ∙ l.invariant.pools
+    ∙ ap (offered a.clients.now.pools) (sym (spread-hops a.clients.now.clients a.graph.now a.moment a.hops a.targets.now (g.M.Carried.bytes a.message) c.if-hops-eq0.false))
 
-pub returns-clause-sent : goal.returns-clause-sent
-returns-clause-sent g t c =
+pub spread-returns-clause-sent : goal.spread-returns-clause-sent
+spread-returns-clause-sent g t c =
     let a = c.args in
-    let behind : List Addr → List ℕ → List Delivery = λ ts m. spread a.clients.now.clients a.graph.now a.moment (a.hops - 1) ts m in
-    let one : Addr → List Delivery = copies_by a.clients.now.clients a.graph.now a.moment behind (g.M.Carried.bytes a.message.now) in
-    sym (append-nil c.loop-target.out.items)
-    ∙ ap (λ ts. c.loop-target.out.items ++ delivered c.loop-target.clients.pools (flat_map one ts)) (sym (drop_all c.loop-target.target-index a.targets.now c.loop-target-test.false))
-    ∙ c.loop-target.invariant.sent
-    ∙ ap (λ ds. a.out.now.items ++ delivered a.clients.now.pools ds) (sym (spread-hops a.clients.now.clients a.graph.now a.moment a.hops a.targets.now (g.M.Carried.bytes a.message.now) c.if-hops-eq0.false))
+    let l = c.loop-target in
+    let one : Addr → List Delivery = λ node. copies_to a.clients.now.clients a.graph.now a.moment (a.hops - 1) node (g.M.Carried.bytes a.message) in
+    sym (append-nil l.out.items)
+    ∙ ap (λ ts. l.out.items ++ delivered l.clients.pools (flat_map one ts)) (sym (drop_all l.target-index a.targets.now c.loop-target-test.false))
+    ∙ l.invariant.sent
+    ∙ ap (λ ds. a.out.now.items ++ delivered a.clients.now.pools ds) (sym (spread-hops a.clients.now.clients a.graph.now a.moment a.hops a.targets.now (g.M.Carried.bytes a.message) c.if-hops-eq0.false))
