@@ -8,6 +8,7 @@ use Rattle.cell_pools.specs.Pools.{empty_pool, most_waiting}
 use Rattle.midi_wire.specs.Readings.{rest}
 use Rattle.node_table.specs.Text.{addr_text}
 use Rattle.node_table.specs.declared.number.Node.TheVariants.{Port}
+use Rattle.node_table.specs.declared.number.PortAddr.{PortAddr}
 use Rattle.patch_graph.specs.Edges.{edge}
 use Rattle.seq_state.specs.declared.input.Command.{Command}
 use Rattle.seq_state.specs.declared.input.Command.TheVariants.{Open, CreatePort, Connect, Bytes, Receive}
@@ -61,11 +62,14 @@ passing bytes = joining ++ flat_map passage (pieces bytes)
 
 -- ---- the text
 
+-- a moment and a port
+abbrev pub heading : ℕ → PortAddr → List ℕ
+heading moment target =
+    decimal moment ++ 32 ∷ [] ++ addr_text target.client (Port target.port)
+
 -- a delivery: its moment, its port and its message
 abbrev pub delivery_line : Delivery → List ℕ
-delivery_line d =
-    decimal d.moment ++ 32 ∷ [] ++ addr_text d.target.client (Port d.target.port)
-    ++ spaced d.message ++ 10 ∷ []
+delivery_line d = heading d.moment d.target ++ spaced d.message ++ 10 ∷ []
 
 -- a line for each delivery of the plain run
 unfoldable pub thru_text : List ℕ → List ℕ

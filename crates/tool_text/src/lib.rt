@@ -5,6 +5,7 @@ mod choice;
 mod dump;
 mod escaped;
 mod fault;
+mod heading;
 mod laws;
 mod limits;
 mod printing;

@@ -11,6 +11,7 @@ ghost use Rattle.tool_text.specs.Stream.{lines_of, HasRoom, StopsShort};
 ghost use Rattle.tool_text.specs.Thru.{delivery_line, thru_line, thru_text, stream_of, said, joining, most_piece, after_input, IsPassing, IsFed};
 
 use crate::fault::ToolFault;
+use crate::heading::Heading;
 use crate::printing::{Printer, print_stream};
 use agenda_heap::HeapAgenda;
 use byte_io::{Sink, Source};
@@ -19,7 +20,7 @@ use memory::{Items, OutOfMemory};
 use node_table::{Addr, Caps, ClientId, Node, PortNo};
 use seq_engine::{Command, Delivery, Engine, Input, StepOut};
 use std::alloc::Global;
-use text_forms::{push_decimal, push_port_addr, push_spaced};
+use text_forms::push_spaced;
 
 /// How many bytes are passed on at once. Each completes at most two messages, so that a piece completes no more than
 /// `MOST_WAITING`, for which the second client has room.
@@ -254,20 +255,25 @@ fn pass_part<'b>(
     let source = ClientId::new(128).unwrap();
     let sink = ClientId::new(129).unwrap();
     let delivered = take(engine, source, piece_of(alloc, part)?)?;
-    add_lines(delivered, bytes, text)?;
+    add_lines(alloc, delivered, bytes, text)?;
     say(engine, sink, Command::Receive { max: MOST_WAITING })
 }
 
 /// Adds a line for each delivery. What was in `bytes` is lost.
 fn add_lines(
+    alloc: Global,
     delivered: Items<Delivery>,
     bytes: &mut Vec<u8>,
     text: &mut Vec<u8>,
 ) -> Result<(), OutOfMemory>
     ensures { OnOk result (text.new.items ≡ text.old.items ++ flat_map delivery_line delivered) }
 {
+    let Some(first) = delivered.as_slice().first() else {
+        return Ok(());
+    };
+    let mut heading = Heading::new(alloc, first.moment, first.target)?;
     for delivery in delivered.as_slice() {
-        push_delivery(delivery, bytes, text)?;
+        push_delivery(delivery, &mut heading, bytes, text)?;
     }
     Ok(())
 }
@@ -275,14 +281,13 @@ fn add_lines(
 /// Adds the line of a delivery. What was in `bytes` is lost.
 fn push_delivery(
     delivery: &Delivery,
+    heading: &mut Heading,
     bytes: &mut Vec<u8>,
     text: &mut Vec<u8>,
 ) -> Result<(), OutOfMemory>
     ensures { OnOk result (text.new.items ≡ text.old.items ++ delivery_line delivery.now) }
 {
-    push_decimal(text, delivery.moment)?;
-    text.push(b' ')?;
-    push_port_addr(text, &delivery.target)?;
+    heading.push(text, delivery.moment, delivery.target)?;
     bytes.clear();
     delivery.message.append_to(bytes)?;
     push_spaced(text, bytes.as_slice())?;
