@@ -22,12 +22,12 @@ abbrev pub is_recorded : PortAddr → Delivery → Bool
 is_recorded port d = comes_to port d && stands_in_files (begins (status_of d.message))
 
 -- the event of an entry, where it came to this port
-abbrev pub event_at : PortAddr → LogEntry → Option Event
-event_at port (Delivered d) =
+abbrev pub recorded_event : PortAddr → LogEntry → Option Event
+recorded_event port (Delivered d) =
     if is_recorded port d
     then Some (record { tick = tick_at recording_clock d.moment; message = d.message }) else None
-event_at port (Replied place moment client reply) = None
+recorded_event port (Replied place moment client reply) = None
 
 -- what came to a port, each at the last tick that has come by its moment
 abbrev pub recorded : PortAddr → List LogEntry → List Event
-recorded port log = filter_map (event_at port) log
+recorded port log = filter_map (recorded_event port) log

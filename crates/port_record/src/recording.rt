@@ -6,7 +6,7 @@ ghost use Rattle.smf_files.specs.Refusals.{refusal_of, refusal_in};
 ghost use Rattle.smf_grammar.specs.Laws.{ReadsBack};
 ghost use Rattle.smf_grammar.specs.Texts.{file_text};
 ghost use Rattle.port_record.specs.declared.recording.TheConstants.{PPQ, TEMPO};
-ghost use Rattle.port_record.specs.Recording.{recording_clock, is_recorded, event_at, recorded};
+ghost use Rattle.port_record.specs.Recording.{recording_clock, is_recorded, recorded_event, recorded};
 
 use memory::OutOfMemory;
 use node_table::PortAddr;
@@ -65,7 +65,7 @@ fn add_event(
 ) -> Result<(), OutOfMemory>
     requires { clock.now ≡ recording_clock }
     ensures { OnOk result (events.new.items
-        ≡ events.old.items ++ option_to_list (event_at port.now entry.now)) }
+        ≡ events.old.items ++ option_to_list (recorded_event port.now entry.now)) }
 {
     if let LogEntry::Delivered(delivery) = entry {
         if is_recorded(port, delivery) {

@@ -9,7 +9,7 @@ use Rattle.script_text.specs.declared.reading.ScriptInput.{ScriptInput}
 use Rattle.script_text.specs.declared.reading.ScriptRead.{ScriptRead}
 use Rattle.script_text.specs.declared.reading.Skip.{Skip}
 use Rattle.script_text.specs.declared.reading.SkipReason.{SkipReason}
-use Rattle.script_text.specs.Parsing.{after, GoesOn}
+use Rattle.script_text.specs.Parsing.{after, IsLineRead}
 use Rattle.script_text.specs.Scripts.{read_from, with_line, fate, latest_after}
 use Rattle.script_text.specs.Words.{is_line_end, lines}
 use Rattle.script_text.proofs.Places.{uncut}
@@ -29,10 +29,10 @@ module _ (client : ℕ) (names : List (List ℕ)) (end : ℕ) (line : List ℕ) 
       ap (λ g. with_line (number + 1) g (read_from client names end (latest_after latest g) (number + 1 + 1) ls)) (sym e)
       ∙ ap (λ n. with_line (number + 1) f (read_from client names end (latest_after latest f) n ls)) two_more
 
-  pub passed_over : PassedOver ≡ fate names end latest line → GoesOn client names end line inputs skips latest number inputs skips latest
+  pub passed_over : PassedOver ≡ fate names end latest line → IsLineRead client names end line inputs skips latest number inputs skips latest
   passed_over e ls = ap (after inputs skips) (first_line PassedOver ls e)
 
-  pub one_skipped : (why : SkipReason) (skips' : List Skip) → Skipped why ≡ fate names end latest line → skips' ≡ skips ++ record { line = number + 1; why = why } ∷ [] → GoesOn client names end line inputs skips latest number inputs skips' latest
+  pub one_skipped : (why : SkipReason) (skips' : List Skip) → Skipped why ≡ fate names end latest line → skips' ≡ skips ++ record { line = number + 1; why = why } ∷ [] → IsLineRead client names end line inputs skips latest number inputs skips' latest
   one_skipped why skips' e f ls =
       let s : Skip = record { line = number + 1; why = why } in
       let r : ScriptRead = rest_from latest ls in
@@ -40,7 +40,7 @@ module _ (client : ℕ) (names : List (List ℕ)) (end : ℕ) (line : List ℕ) 
       ∙ ap (λ (ss : List Skip). let x : ScriptRead = record { client = r.client; inputs = inputs ++ r.inputs; skips = ss } in x) (sym (append_assoc skips (s ∷ []) r.skips) ∙ ap (λ ss. ss ++ r.skips) (sym f))
 
   pub one_taken : (moment : ℕ) (c : Command) (inputs' : List ScriptInput) → Taken moment c ≡ fate names end latest line → inputs' ≡ inputs ++ record { line = number + 1; input = record { moment = moment; actor = client; command = c } } ∷ [] →
-      GoesOn client names end line inputs skips latest number inputs' skips moment
+      IsLineRead client names end line inputs skips latest number inputs' skips moment
   one_taken moment c inputs' e f ls =
       let x : ScriptInput = record { line = number + 1; input = record { moment = moment; actor = client; command = c } } in
       let r : ScriptRead = rest_from moment ls in
@@ -52,7 +52,7 @@ module _ (client : ℕ) (names : List (List ℕ)) (end : ℕ) (line : List ℕ) 
 
 module _ (client : ℕ) (names : List (List ℕ)) (end : ℕ) (rest line : List ℕ) (n : ℕ) (inputs inputs' : List ScriptInput) (skips skips' : List Skip) (latest latest' number number' : ℕ) (whole : ScriptRead) where
   pub next_line : (next : List ℕ) → n ≡ position_or_len is_line_end rest → n < length rest → line ≡ take n rest → next ≡ drop (n + 1) rest → number' ≡ number + 1 →
-      GoesOn client names end line inputs skips latest number inputs' skips' latest' →
+      IsLineRead client names end line inputs skips latest number inputs' skips' latest' →
       after inputs skips (read_from client names end latest (number + 1) (lines rest)) ≡ whole → after inputs' skips' (read_from client names end latest' (number' + 1) (lines next)) ≡ whole
   next_line next e l f g m on h =
       ap (λ k. after inputs' skips' (read_from client names end latest' (k + 1) (lines next))) m
@@ -68,7 +68,7 @@ module _ (client : ℕ) (names : List (List ℕ)) (end : ℕ) (rest line : List 
           ∙ sym (slice_split_first is_line_end rest 0 (omega arith))
 
   pub last_line : n ≡ position_or_len is_line_end rest → n ≤ length rest → length rest ≤ n → line ≡ rest →
-      GoesOn client names end line inputs skips latest number inputs' skips' latest' →
+      IsLineRead client names end line inputs skips latest number inputs' skips' latest' →
       after inputs skips (read_from client names end latest (number + 1) (lines rest)) ≡ whole → (let r : ScriptRead = record { client = client; inputs = inputs'; skips = skips' } in r ≡ whole)
   last_line e l k f on h =
       ap (λ xs. let r : ScriptRead = record { client = client; inputs = xs; skips = skips' } in r) (sym (append-nil inputs'))

@@ -13,7 +13,7 @@ use Rattle.script_text.specs.declared.script.TheConstants.{MOST_SCRIPT}
 use Rattle.script_text.specs.Words.{words, lines, is_line_end, without_return}
 use Rattle.script_text.specs.declared.line.Fate.{Fate}
 use Rattle.script_text.specs.declared.line.Fate.TheVariants.{PassedOver, Skipped, Taken}
-use Rattle.script_text.specs.Scripts.{fate, fate_of, timed, said, is_remark, latest_after, with_line, read_from, script, too_long}
+use Rattle.script_text.specs.Scripts.{fate, fate_of, timed, timed_command, is_remark, latest_after, with_line, read_from, script, too_long_script}
 
 -- ---- whose it is
 
@@ -31,7 +31,7 @@ read_from-client client names end latest n (l ∷ ls) =
 pub script-client : (client : ℕ) (names : List (List ℕ)) (end : ℕ) (text : List ℕ) → (script client names end text).client ≡ client
 script-client client names end text = go (nat_le (length text) MOST_SCRIPT)
   where
-    go : (b : Bool) → (cond b (read_from client names end 0 1 (lines text)) (too_long client)).client ≡ client
+    go : (b : Bool) → (cond b (read_from client names end 0 1 (lines text)) (too_long_script client)).client ≡ client
     go true = read_from-client client names end 0 1 (lines text)
     go false = refl
 
@@ -55,7 +55,7 @@ read_from-by client names end latest n (l ∷ ls) =
 pub script-by : (client : ℕ) (names : List (List ℕ)) (end : ℕ) (text : List ℕ) → list_all (is_by client) (script client names end text).inputs ≡ true
 script-by client names end text = go (nat_le (length text) MOST_SCRIPT)
   where
-    go : (b : Bool) → list_all (is_by client) (cond b (read_from client names end 0 1 (lines text)) (too_long client)).inputs ≡ true
+    go : (b : Bool) → list_all (is_by client) (cond b (read_from client names end 0 1 (lines text)) (too_long_script client)).inputs ≡ true
     go true = read_from-by client names end 0 1 (lines text)
     go false = refl
 
@@ -85,9 +85,9 @@ fate-fits names end latest line = go (words (without_return line))
     go [] = refl
     go (w ∷ rest) = remark (is_remark w)
       where
-        remark : (b : Bool) → fits end latest (cond b PassedOver (timed end latest (said names (w ∷ rest)))) ≡ true
+        remark : (b : Bool) → fits end latest (cond b PassedOver (timed end latest (timed_command names (w ∷ rest)))) ≡ true
         remark true = refl
-        remark false = timed-fits end latest (said names (w ∷ rest))
+        remark false = timed-fits end latest (timed_command names (w ∷ rest))
 
 with_line-within : (end latest n : ℕ) (f : Fate) (r : ScriptRead) → fits end latest f ≡ true → list_all (is_within end) r.inputs ≡ true → list_all (is_within end) (with_line n f r).inputs ≡ true
 with_line-within end latest n PassedOver r e h = h
@@ -103,7 +103,7 @@ read_from-within client names end latest n (l ∷ ls) =
 pub script-within : (client : ℕ) (names : List (List ℕ)) (end : ℕ) (text : List ℕ) → list_all (is_within end) (script client names end text).inputs ≡ true
 script-within client names end text = go (nat_le (length text) MOST_SCRIPT)
   where
-    go : (b : Bool) → list_all (is_within end) (cond b (read_from client names end 0 1 (lines text)) (too_long client)).inputs ≡ true
+    go : (b : Bool) → list_all (is_within end) (cond b (read_from client names end 0 1 (lines text)) (too_long_script client)).inputs ≡ true
     go true = read_from-within client names end 0 1 (lines text)
     go false = refl
 
@@ -141,7 +141,7 @@ lines-few p (b ∷ bytes) = go (p b) (slice_split p bytes) (lines-few p bytes)
 pub script-rise : (client : ℕ) (names : List (List ℕ)) (end : ℕ) (text : List ℕ) → LinesRise 1 (2 ^ 64) (script client names end text).inputs
 script-rise client names end text = go (nat_le (length text) MOST_SCRIPT) refl
   where
-    go : (b : Bool) → nat_le (length text) MOST_SCRIPT ≡ b → LinesRise 1 (2 ^ 64) (cond b (read_from client names end 0 1 (lines text)) (too_long client)).inputs
+    go : (b : Bool) → nat_le (length text) MOST_SCRIPT ≡ b → LinesRise 1 (2 ^ 64) (cond b (read_from client names end 0 1 (lines text)) (too_long_script client)).inputs
     go true e =
         let short : length text ≤ 1048576 = leb-true (length text) 1048576 e in
         let few : length (lines text) ≤ length text + 1 = lines-few is_line_end text in
@@ -195,6 +195,6 @@ read_from-in_order client names end latest n (l ∷ ls) =
 pub script-in_order : (client : ℕ) (names : List (List ℕ)) (end : ℕ) (text : List ℕ) → InOrder (script client names end text).inputs
 script-in_order client names end text = go (nat_le (length text) MOST_SCRIPT)
   where
-    go : (b : Bool) → InOrder (cond b (read_from client names end 0 1 (lines text)) (too_long client)).inputs
+    go : (b : Bool) → InOrder (cond b (read_from client names end 0 1 (lines text)) (too_long_script client)).inputs
     go true = read_from-in_order client names end 0 1 (lines text)
     go false = tt

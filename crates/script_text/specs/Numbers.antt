@@ -148,11 +148,11 @@ due_by letter ticks nanos n =
     else (if letter == byte "n" then option_map nanos n else None)
 
 -- `t480`, `t+480`, `n100` or `n+100`
-abbrev pub due : List ℕ → Option DueAt
-due (letter ∷ sign ∷ word) =
+abbrev pub due_word : List ℕ → Option DueAt
+due_word (letter ∷ sign ∷ word) =
     if sign == byte "+" then due_by letter TickAfter NanosAfter (u64 word)
     else due_by letter Tick Nanos (u64 (sign ∷ word))
-due _ = None
+due_word _ = None
 
 -- ---- files
 

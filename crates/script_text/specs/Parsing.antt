@@ -14,11 +14,11 @@ after inputs skips r = record {
 }
 
 -- whatever lines follow: with this line read, it is the same reading
-abbrev pub GoesOn :
+abbrev pub IsLineRead :
     ℕ → List (List ℕ) → ℕ → List ℕ →
     List ScriptInput → List Skip → ℕ → ℕ →
     List ScriptInput → List Skip → ℕ → Type 0
-GoesOn client names end line inputs skips latest number inputs' skips' latest' =
+IsLineRead client names end line inputs skips latest number inputs' skips' latest' =
     (ls : List (List ℕ)) →
     after inputs skips (read_from client names end latest (number + 1) (line ∷ ls))
     ≡ after inputs' skips' (read_from client names end latest' (number + 2) ls)

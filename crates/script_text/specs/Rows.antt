@@ -2,16 +2,17 @@
 use Rattle.std.specs.Prelude.{◌≡◌, ℕ, pos, negsuc, List, [], ◌∷◌, ◌++◌, Option, Some, None, codes}
 use Rattle.node_table.specs.declared.number.Addr.{Addr}
 use Rattle.node_table.specs.declared.number.QueueAddr.{QueueAddr}
-use Rattle.node_table.specs.declared.number.Node.TheVariants.{Port, Filter}
+use Rattle.node_table.specs.declared.number.Node.TheVariants.{Filter}
 use Rattle.route_filter.specs.declared.rule_args.RuleArgs.{RuleArgs}
 use Rattle.seq_state.specs.declared.input.Command.{Command}
 use Rattle.seq_state.specs.declared.input.Command.TheVariants.{Open, Close, CreatePort, DeletePort, CreateFilter, SetFilter, DeleteFilter, Connect, Disconnect, Bytes, Send, CreateQueue, CreateQueueFrom, DeleteQueue, Start, Stop, Continue, Tempo, QueueStatus, Share, Schedule, Play, DropOutput, Receive, PoolStatus}
 use Rattle.seq_state.specs.declared.input.DueAt.TheVariants.{Tick, TickAfter, Nanos, NanosAfter}
+use Rattle.seq_state.specs.Step.{port_addr}
 use Rattle.script_text.specs.declared.reading.Skip.{Skip}
 use Rattle.script_text.specs.declared.reading.SkipReason.{SkipReason}
 use Rattle.script_text.specs.declared.reading.SkipReason.TheVariants.{Unreadable, PastEnd, Late}
 use Rattle.script_text.specs.Words.{lines, words, without_return}
-use Rattle.script_text.specs.Numbers.{number, u8, u32, u64, shift, caps, addr, queue, due, some_bytes, message}
+use Rattle.script_text.specs.Numbers.{number, u8, u32, u64, shift, caps, addr, queue, due_word, some_bytes, message}
 use Rattle.script_text.specs.Table.{command}
 use Rattle.script_text.specs.Scripts.{script, input_at}
 
@@ -59,19 +60,16 @@ pub record NumberForms : Type 0 where
 
 -- ---- addresses and times
 
-abbrev pub port_at : ℕ → ℕ → Addr
-port_at client port = record { client = client; node = Port port }
+abbrev pub numbered_filter : ℕ → ℕ → Addr
+numbered_filter client filter = record { client = client; node = Filter filter }
 
-abbrev pub filter_at : ℕ → ℕ → Addr
-filter_at client filter = record { client = client; node = Filter filter }
-
-abbrev pub queue_at : ℕ → ℕ → QueueAddr
-queue_at client queue = record { client = client; queue = queue }
+abbrev pub numbered_queue : ℕ → ℕ → QueueAddr
+numbered_queue client queue = record { client = client; queue = queue }
 
 pub record AddressForms : Type 0 where
-  pub port : addr (codes "128:p0") ≡ Some (port_at 128 0)
-  pub filter : addr (codes "191:f15") ≡ Some (filter_at 191 15)
-  pub zeros : addr (codes "0128:p00") ≡ Some (port_at 128 0)
+  pub port : addr (codes "128:p0") ≡ Some (port_addr 128 0)
+  pub filter : addr (codes "191:f15") ≡ Some (numbered_filter 191 15)
+  pub zeros : addr (codes "0128:p00") ≡ Some (port_addr 128 0)
   pub port_past : addr (codes "128:p16") ≡ None
   pub client_past : addr (codes "192:p0") ≡ None
   pub client_below : addr (codes "127:p0") ≡ None
@@ -80,16 +78,16 @@ pub record AddressForms : Type 0 where
   pub no_colon : addr (codes "128p0") ≡ None
   pub two_colons : addr (codes "128::p0") ≡ None
   pub queue_is_no_node : addr (codes "128:q0") ≡ None
-  pub queue_here : queue (codes "128:q7") ≡ Some (queue_at 128 7)
+  pub queue_here : queue (codes "128:q7") ≡ Some (numbered_queue 128 7)
   pub queue_past : queue (codes "128:q8") ≡ None
-  pub tick : due (codes "t480") ≡ Some (Tick 480)
-  pub tick_after : due (codes "t+480") ≡ Some (TickAfter 480)
-  pub nanos : due (codes "n100") ≡ Some (Nanos 100)
-  pub nanos_after : due (codes "n+18446744073709551615") ≡ Some (NanosAfter 18446744073709551615)
-  pub due_past : due (codes "n18446744073709551616") ≡ None
-  pub due_alone : due (codes "t") ≡ None
-  pub due_minus : due (codes "t-1") ≡ None
-  pub due_other : due (codes "s1") ≡ None
+  pub tick : due_word (codes "t480") ≡ Some (Tick 480)
+  pub tick_after : due_word (codes "t+480") ≡ Some (TickAfter 480)
+  pub nanos : due_word (codes "n100") ≡ Some (Nanos 100)
+  pub nanos_after : due_word (codes "n+18446744073709551615") ≡ Some (NanosAfter 18446744073709551615)
+  pub due_past : due_word (codes "n18446744073709551616") ≡ None
+  pub due_alone : due_word (codes "t") ≡ None
+  pub due_minus : due_word (codes "t-1") ≡ None
+  pub due_other : due_word (codes "s1") ≡ None
 
 -- ---- bytes
 
@@ -143,27 +141,27 @@ pub record CommandForms : Type 0 where
       said_by (codes "setfilter 15 65535 1023 0 127 -61 255")
       ≡ Some (SetFilter 15 (some_rule (Some 255)))
   pub connect :
-      said_by (codes "connect 131:p0 131:f0") ≡ Some (Connect (port_at 131 0) (filter_at 131 0))
+      said_by (codes "connect 131:p0 131:f0") ≡ Some (Connect (port_addr 131 0) (numbered_filter 131 0))
   pub bytes : said_by (codes "bytes 0 7D 40") ≡ Some (Bytes 0 (0x7D ∷ 0x40 ∷ []))
   pub no_bytes : said_by (codes "bytes 0") ≡ None
   pub send : said_by (codes "send 0 f8") ≡ Some (Send 0 (0xF8 ∷ []))
   pub first_file : said_by (codes "queuefrom 7 m.mid") ≡ Some (CreateQueueFrom 7 1)
-  pub no_file : said_by (codes "play 128:q0 0 none.mid") ≡ Some (Play (queue_at 128 0) 0 3)
+  pub no_file : said_by (codes "play 128:q0 0 none.mid") ≡ Some (Play (numbered_queue 128 0) 0 3)
   pub schedule :
       said_by (codes "schedule 131:q0 0 n5 FE")
-      ≡ Some (Schedule (queue_at 131 0) 0 (Nanos 5) (0xFE ∷ []))
-  pub share : said_by (codes "share 130:q1") ≡ Some (Share (queue_at 130 1))
+      ≡ Some (Schedule (numbered_queue 131 0) 0 (Nanos 5) (0xFE ∷ []))
+  pub share : said_by (codes "share 130:q1") ≡ Some (Share (numbered_queue 130 1))
   pub delete_port : said_by (codes "unport 15") ≡ Some (DeletePort 15)
   pub delete_filter : said_by (codes "unfilter 0") ≡ Some (DeleteFilter 0)
   pub disconnect :
-      said_by (codes "disconnect 128:f1 191:p2") ≡ Some (Disconnect (filter_at 128 1) (port_at 191 2))
+      said_by (codes "disconnect 128:f1 191:p2") ≡ Some (Disconnect (numbered_filter 128 1) (port_addr 191 2))
   pub queue : said_by (codes "queue 7 480 500000") ≡ Some (CreateQueue 7 480 500000)
-  pub delete_queue : said_by (codes "unqueue 128:q3") ≡ Some (DeleteQueue (queue_at 128 3))
-  pub start : said_by (codes "start 128:q0") ≡ Some (Start (queue_at 128 0))
-  pub stop : said_by (codes "stop 128:q0") ≡ Some (Stop (queue_at 128 0))
-  pub resume : said_by (codes "continue 128:q0") ≡ Some (Continue (queue_at 128 0))
-  pub tempo : said_by (codes "tempo 128:q0 250000") ≡ Some (Tempo (queue_at 128 0) 250000)
-  pub status : said_by (codes "status 128:q0") ≡ Some (QueueStatus (queue_at 128 0))
+  pub delete_queue : said_by (codes "unqueue 128:q3") ≡ Some (DeleteQueue (numbered_queue 128 3))
+  pub start : said_by (codes "start 128:q0") ≡ Some (Start (numbered_queue 128 0))
+  pub stop : said_by (codes "stop 128:q0") ≡ Some (Stop (numbered_queue 128 0))
+  pub resume : said_by (codes "continue 128:q0") ≡ Some (Continue (numbered_queue 128 0))
+  pub tempo : said_by (codes "tempo 128:q0 250000") ≡ Some (Tempo (numbered_queue 128 0) 250000)
+  pub status : said_by (codes "status 128:q0") ≡ Some (QueueStatus (numbered_queue 128 0))
   pub drop_output : said_by (codes "drop") ≡ Some DropOutput
   pub receive : said_by (codes "receive 2000") ≡ Some (Receive 2000)
 
@@ -193,8 +191,8 @@ pub record ScriptForms : Type 0 where
         inputs =
             input_at 1 0 131 (Open (codes "x") 1 1)
             ∷ input_at 3 1 131 (CreatePort 0 (codes "in") (record { 0 = 66 }))
-            ∷ input_at 5 2 131 (Connect (port_at 128 0) (port_at 131 0))
-            ∷ input_at 7 3 131 (Connect (port_at 131 0) (filter_at 131 0)) ∷ [];
+            ∷ input_at 5 2 131 (Connect (port_addr 128 0) (port_addr 131 0))
+            ∷ input_at 7 3 131 (Connect (port_addr 131 0) (numbered_filter 131 0)) ∷ [];
         skips = skipped 2 Unreadable ∷ skipped 4 Late ∷ skipped 6 PastEnd ∷ [];
       }
   pub remarks : script 128 [] 8 remarks_text ≡

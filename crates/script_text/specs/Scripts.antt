@@ -16,9 +16,9 @@ use Rattle.script_text.specs.Words.{lines, words, without_return}
 -- ---- a line
 
 -- a moment, and a command
-abbrev pub said : List (List ℕ) → Reads (ℕ × Command)
-said names [] = None
-said names (moment ∷ rest) =
+abbrev pub timed_command : List (List ℕ) → Reads (ℕ × Command)
+timed_command names [] = None
+timed_command names (moment ∷ rest) =
     option_and_then (λ m. option_map (λ c. (m, c)) (command names rest)) (u64 moment)
 
 -- a command is taken where its moment is not past the end, and not below that of the last one taken
@@ -36,7 +36,7 @@ is_remark (b ∷ word) = b == byte "#"
 abbrev pub fate_of : List (List ℕ) → ℕ → ℕ → List (List ℕ) → Fate
 fate_of names end latest [] = PassedOver
 fate_of names end latest (w ∷ rest) =
-    if is_remark w then PassedOver else timed end latest (said names (w ∷ rest))
+    if is_remark w then PassedOver else timed end latest (timed_command names (w ∷ rest))
 
 abbrev pub fate : List (List ℕ) → ℕ → ℕ → List ℕ → Fate
 fate names end latest line = fate_of names end latest (words (without_return line))
@@ -70,8 +70,8 @@ read_from client names end latest n (l ∷ ls) =
     with_line n (fate names end latest l)
     (read_from client names end (latest_after latest (fate names end latest l)) (n + 1) ls)
 
-abbrev pub too_long : ℕ → ScriptRead
-too_long client = record {
+abbrev pub too_long_script : ℕ → ScriptRead
+too_long_script client = record {
   client = client;
   inputs = [];
   skips = record { line = 0; why = TooLong } ∷ [];
@@ -81,4 +81,4 @@ too_long client = record {
 abbrev pub script : ℕ → List (List ℕ) → ℕ → List ℕ → ScriptRead
 script client names end text =
     if nat_le (length text) MOST_SCRIPT then read_from client names end 0 1 (lines text)
-    else too_long client
+    else too_long_script client

@@ -5,7 +5,7 @@ use Rattle.std.specs.Str.{bytes_eq}
 use Rattle.route_filter.specs.declared.rule_args.RuleArgs.{RuleArgs}
 use Rattle.seq_state.specs.declared.input.Command.{Command}
 use Rattle.seq_state.specs.declared.input.Command.TheVariants.{Open, Close, CreatePort, DeletePort, CreateFilter, SetFilter, DeleteFilter, Connect, Disconnect, Bytes, Send, CreateQueue, CreateQueueFrom, DeleteQueue, Start, Stop, Continue, Tempo, QueueStatus, Share, Schedule, Play, DropOutput, Receive, PoolStatus}
-use Rattle.script_text.specs.Numbers.{any, u8, u16, u32, shift, node_number, queue_number, caps, some_bytes, message, addr, queue, due, place_of}
+use Rattle.script_text.specs.Numbers.{any, u8, u16, u32, shift, node_number, queue_number, caps, some_bytes, message, addr, queue, due_word, place_of}
 
 -- what all of the words say
 abbrev pub Reads : Type 0 → Type 0
@@ -68,7 +68,7 @@ file names word = Some (place_of word names)
 abbrev pub table : List (List ℕ) → List CommandForm
 table names =
     command_form (codes "schedule")
-    (queue ▸ λ q. node_number ▸ λ p. due ▸ λ at. all message (Schedule q p at))
+    (queue ▸ λ q. node_number ▸ λ p. due_word ▸ λ at. all message (Schedule q p at))
     ∷ command_form (codes "send") (node_number ▸ λ p. all message (Send p))
     ∷ command_form (codes "bytes") (node_number ▸ λ p. all some_bytes (Bytes p))
     ∷ command_form (codes "play") (queue ▸ λ q. node_number ▸ λ p. file names ▸ λ f. done (Play q p f))

@@ -86,7 +86,7 @@ pub(crate) fn queue_of(word: &[u8]) -> Option<QueueAddr>
 
 /// `t480`, `t+480`, `n100` or `n+100`.
 pub(crate) fn due_of(word: &[u8]) -> Option<DueAt>
-    ensures { result ≡ says.due word.now }
+    ensures { result ≡ says.due_word word.now }
 {
     match word {
         [b't', b'+', digits @ ..] => {

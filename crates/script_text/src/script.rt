@@ -4,7 +4,7 @@ ghost use Rattle.std.specs.Prelude.{◌≡◌, ◌≤◌, ◌<◌, ◌+◌, ◌^
 ghost use Rattle.std.specs.List.{position_or_len};
 ghost use Rattle.script_text.specs.Scripts.{script, read_from};
 ghost use Rattle.script_text.specs.Words.{is_line_end, lines};
-ghost use Rattle.script_text.specs.Parsing.{GoesOn};
+ghost use Rattle.script_text.specs.Parsing.{IsLineRead};
 
 use crate::line::{Fate, fate_of};
 use crate::reading::{ScriptInput, ScriptRead, Skip, SkipReason};
@@ -72,7 +72,7 @@ impl Reading {
     ) -> Result<(), OutOfMemory>
         requires few { length names.now ≤ MOST_FILES }
         requires small { self.old.number < 2 ^ 32 }
-        ensures goes_on { OnOk result (GoesOn
+        ensures goes_on { OnOk result (IsLineRead
             client (map (λ n. n.items) names.now) until line.now
             self.old.inputs.items self.old.skips.items self.old.latest self.old.number
             self.new.inputs.items self.new.skips.items self.new.latest) }

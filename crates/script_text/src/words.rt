@@ -235,8 +235,8 @@ impl<'b> Words<'b> {
 
     /// A due time.
     pub(crate) fn due(&mut self) -> Result<DueAt, Unread>
-        ensures ok { IfOk result (λ x. taken says.due self.old ≡ Some (x, self.new)) }
-        ensures err { OnErr result (taken says.due self.old ≡ None) }
+        ensures ok { IfOk result (λ x. taken says.due_word self.old ≡ Some (x, self.new)) }
+        ensures err { OnErr result (taken says.due_word self.old ≡ None) }
         ensures only { IfErr result (λ e. e ≡ Unread.Unreadable) }
     {
         let word = self.word().ok_or(Unread::Unreadable)?;

@@ -19,7 +19,7 @@ use Rattle.seq_state.specs.State.{Client, Event, Pool, State}
 use Rattle.seq_state.specs.Own.{new_client, new_port, put_port, put_queue}
 use Rattle.seq_state.specs.Table.{command_row}
 use Rattle.seq_state.specs.Step.{Stepped, port_addr, caps_at}
-use Rattle.seq_runs.specs.Rows.{at, caps, queue_at, note}
+use Rattle.seq_runs.specs.Rows.{an_input, caps_by_bits, a_queue, a_note}
 use Rattle.seq_runs.proofs.Traces.{Settles, Trace, thus, quiet}
 use Rattle.seq_runs.proofs.CommandSteps.{holding, opened, joined, still, opens, changes, connects}
 use Rattle.seq_runs.proofs.Worked.{finds}
@@ -42,7 +42,7 @@ nothing-pending s m owner e clients pools edges same = still (around s clients p
 
 abbrev pub sender : List ℕ → ℕ → Client
 sender name out_size =
-    put_port 0 (Some (new_port (codes "out") (caps 33))) (new_client name 8 out_size)
+    put_port 0 (Some (new_port (codes "out") (caps_by_bits 33))) (new_client name 8 out_size)
 
 abbrev pub entered : State → ℕ → List ℕ → ℕ → State
 entered s actor name out_size = opened s actor name 8 out_size
@@ -52,7 +52,7 @@ ready s actor name out_size = holding (entered s actor name out_size) actor (sen
 
 abbrev pub sender_inputs : ℕ → List ℕ → ℕ → List Input
 sender_inputs actor name out_size =
-    at 0 actor (Open name 8 out_size) ∷ at 0 actor (CreatePort 0 (codes "out") (caps 33)) ∷ []
+    an_input 0 actor (Open name 8 out_size) ∷ an_input 0 actor (CreatePort 0 (codes "out") (caps_by_bits 33)) ∷ []
 
 abbrev pub sender_steps : State → ℕ → List ℕ → ℕ → List Stepped
 sender_steps s actor name out_size =
@@ -60,7 +60,7 @@ sender_steps s actor name out_size =
 
 -- what still matters of the bytes of its port
 abbrev pub with_fed : Client → List ℕ → Client
-with_fed c bytes = put_port 0 (Some (record (new_port (codes "out") (caps 33)) { fed = bytes })) c
+with_fed c bytes = put_port 0 (Some (record (new_port (codes "out") (caps_by_bits 33)) { fed = bytes })) c
 
 -- ---- it has a queue that runs
 
@@ -85,7 +85,7 @@ performing s actor name out_size =
 
 abbrev pub queue_inputs : ℕ → List Input
 queue_inputs actor =
-    at 0 actor (CreateQueue 0 480 500000) ∷ at 0 actor (Start (queue_at actor 0)) ∷ []
+    an_input 0 actor (CreateQueue 0 480 500000) ∷ an_input 0 actor (Start (a_queue actor 0)) ∷ []
 
 abbrev pub queue_steps : State → ℕ → List ℕ → ℕ → List Stepped
 queue_steps s actor name out_size =
@@ -108,7 +108,7 @@ module _ (files : List File) (s : State) (actor owner : ℕ) (name : List ℕ) (
       thus (opens files (calm s.clients s.pools s.edges refl) actor name 8 out_size free named
       sized)
       (thus (changes files (calm t.clients t.pools t.edges (simp (finds, apart))) actor
-      (CreatePort 0 (codes "out") (caps 33)) (sender name out_size)
+      (CreatePort 0 (codes "out") (caps_by_bits 33)) (sender name out_size)
       (simp (finds, eq-eqb actor actor refl))) more)
 
 module _ (files : List File) (s : State) (actor owner : ℕ) (name : List ℕ) (out_size : ℕ)
@@ -126,14 +126,14 @@ module _ (files : List File) (s : State) (actor owner : ℕ) (name : List ℕ) (
       (CreateQueue 0 480 500000) (player name out_size)
       (simp (finds, eq-eqb actor actor refl)))
       (thus (changes files (calm u.clients u.pools u.edges (simp (finds, apart))) actor
-      (Start (queue_at actor 0)) (with_queue (player name out_size) false 0 (Some 0))
+      (Start (a_queue actor 0)) (with_queue (player name out_size) false 0 (Some 0))
       (simp (finds, eq-eqb actor actor refl))) more)
 
 -- ---- 129 listens to 128
 
 abbrev pub listener : ℕ → ℕ → Client
 listener in_size bits =
-    put_port 0 (Some (new_port (codes "in") (caps bits))) (new_client (codes "b") in_size 8)
+    put_port 0 (Some (new_port (codes "in") (caps_by_bits bits))) (new_client (codes "b") in_size 8)
 
 abbrev pub arrived : State → ℕ → State
 arrived s in_size = opened s 129 (codes "b") in_size 8
@@ -146,8 +146,8 @@ listening s in_size bits = joined (settled_in s in_size bits) (port_addr 128 0) 
 
 abbrev pub listener_inputs : ℕ → ℕ → List Input
 listener_inputs in_size bits =
-    at 0 129 (Open (codes "b") in_size 8) ∷ at 0 129 (CreatePort 0 (codes "in") (caps bits))
-    ∷ at 0 129 (Connect (port_addr 128 0) (port_addr 129 0)) ∷ []
+    an_input 0 129 (Open (codes "b") in_size 8) ∷ an_input 0 129 (CreatePort 0 (codes "in") (caps_by_bits bits))
+    ∷ an_input 0 129 (Connect (port_addr 128 0) (port_addr 129 0)) ∷ []
 
 abbrev pub listener_steps : State → ℕ → ℕ → List Stepped
 listener_steps s in_size bits =
@@ -155,7 +155,7 @@ listener_steps s in_size bits =
 
 pub listens : (files : List File) (s : State) (in_size bits : ℕ) {rest : List Input}
     {after : List Stepped} → IsCalm s 0 128 → FinMap.get s.clients 129 ≡ None →
-    caps_at s (port_addr 128 0) ≡ Some (caps 33) → s.edges ≡ [] →
+    caps_at s (port_addr 128 0) ≡ Some (caps_by_bits 33) → s.edges ≡ [] →
     is_size in_size && is_size 8 ≡ true → can 2 bits ≡ true →
     Trace files (listening s in_size bits) rest after →
     Trace files s (listener_inputs in_size bits ++ rest) (listener_steps s in_size bits ++ after)
@@ -166,14 +166,14 @@ listens files s in_size bits calm free source none sized writable more =
     thus (opens files (calm s.clients s.pools s.edges refl) 129 (codes "b") in_size 8 free refl
     sized)
     (thus (changes files (calm t.clients t.pools t.edges (simp finds)) 129
-    (CreatePort 0 (codes "in") (caps bits)) (listener in_size bits) (simp finds))
+    (CreatePort 0 (codes "in") (caps_by_bits bits)) (listener in_size bits) (simp finds))
     (thus (connects files (calm u.clients u.pools u.edges (simp finds)) 129 (port_addr 128 0)
     (port_addr 129 0) (simp (finds, source, none, writable))) more))
 
 -- ---- the events of the file
 
 abbrev pub first_note : Event
-first_note = record { due = Tick 0; message = note 0x3C }
+first_note = record { due = Tick 0; message = a_note 0x3C }
 
 abbrev pub last_note : Event
 last_note = record { due = Tick 480; message = 0x90 ∷ 0x3C ∷ 0x00 ∷ [] }

@@ -26,7 +26,7 @@ use Rattle.seq_state.specs.Step.{Stepped, sent, send_copies, without_due, event_
 use Rattle.seq_state.specs.Laws.{all_timed, sorted}
 use Rattle.seq_state.proofs.Effects.{patch_step, none-lost, none-dropped, put-same, step-asks, step-connects, step-parts}
 use Rattle.seq_state.proofs.Sorted.{by}
-use Rattle.seq_runs.specs.Rows.{at}
+use Rattle.seq_runs.specs.Rows.{an_input}
 use Rattle.seq_runs.proofs.Traces.{Settles, Comes}
 use Rattle.seq_runs.proofs.Worked.{to, settled_to, moved, with_own-moved, answer, command-step, own-step, refused-step, patch-step, settle-sorted, settle-still}
 
@@ -162,28 +162,28 @@ with_own-plays s actor q port accepted e es =
 module _ {s u : State} {m : ℕ} {ds : List Delivery} (files : List File) (first : Settles s m u ds)
     (actor : ℕ) where
   pub comes : (command : Command) (d : Stepped) → command_step files u m actor command ≡ d →
-      Comes files s (at m actor command) (to d.state (ds ++ d.delivered) d.reply)
+      Comes files s (an_input m actor command) (to d.state (ds ++ d.delivered) d.reply)
   comes command d e =
-      record { comes = command-step files s u (at m actor command) ds first.settles d e }
+      record { comes = command-step files s u (an_input m actor command) ds first.settles d e }
 
   pub refuses : (command : Command) (r : Refusal) → refusal_of files u m actor command ≡ Some r →
-      Comes files s (at m actor command) (to u (ds ++ []) (Refused (number_of r)))
+      Comes files s (an_input m actor command) (to u (ds ++ []) (Refused (number_of r)))
   refuses command r e =
-      record { comes = refused-step files s u (at m actor command) ds first.settles r e }
+      record { comes = refused-step files s u (an_input m actor command) ds first.settles r e }
 
   -- a command that is not refused
   does : (command : Command) (own : Own) (v t : State) (es : List Delivery) →
       answer (row_of files u m actor command) ≡ (None, own) →
       with_own u actor (queue_named command) own ≡ v → sent v (send_copies u m actor own.sends) ≡
       settled_to t es →
-      Comes files s (at m actor command) (to t (ds ++ es) (own.reply (FinMap.get u.pools actor)))
+      Comes files s (an_input m actor command) (to t (ds ++ es) (own.reply (FinMap.get u.pools actor)))
   does command own v t es r w e =
-      record { comes = own-step files s u (at m actor command) ds first.settles own v t es r w e }
+      record { comes = own-step files s u (an_input m actor command) ds first.settles own v t es r w e }
 
   -- one that was not open opens
   pub opens : (name : List ℕ) (in_size out_size : ℕ) → FinMap.get u.clients actor ≡ None →
       is_name name ≡ true → is_size in_size && is_size out_size ≡ true →
-      Comes files s (at m actor (Open name in_size out_size))
+      Comes files s (an_input m actor (Open name in_size out_size))
       (to (opened u actor name in_size out_size) (ds ++ []) Done)
   unfolding command_row
   opens name in_size out_size free named sized =
@@ -194,14 +194,14 @@ module _ {s u : State} {m : ℕ} {ds : List Delivery} (files : List File) (first
       (simp (free, named, sized)) (with_own-kept u actor None client pool) refl
 
   pub closes : refusal_of files u m actor Close ≡ None →
-      Comes files s (at m actor Close) (to (closed u actor) (ds ++ []) Done)
+      Comes files s (an_input m actor Close) (to (closed u actor) (ds ++ []) Done)
   unfolding command_row
   closes e =
       does Close leaving (closed u actor) (closed u actor) [] (ap (λ r. (r, leaving)) e) refl refl
 
   -- one that is open has something else then, and nothing goes
   pub changes : (command : Command) (c : Client) → answer (row_of files u m actor command) ≡
-      (None, done_with (Some c)) → Comes files s (at m actor command)
+      (None, done_with (Some c)) → Comes files s (an_input m actor command)
       (to (holding u actor c) (ds ++ []) Done)
   changes command c e =
       does command (done_with (Some c)) (holding u actor c) (holding u actor c) [] e
@@ -211,7 +211,7 @@ module _ {s u : State} {m : ℕ} {ds : List Delivery} (files : List File) (first
   pub gives-up : (command : Command) (c : Client) (gone : Node → Bool) (dropped : Playback → Bool)
       (queue_gone : ℕ → Bool) →
       answer (row_of files u m actor command) ≡ (None, without c gone dropped queue_gone) →
-      Comes files s (at m actor command)
+      Comes files s (an_input m actor command)
       (to (moved u actor (queue_named command) (without c gone dropped queue_gone)) (ds ++ [])
       Done)
   gives-up command c gone dropped queue_gone e =
@@ -223,20 +223,20 @@ module _ {s u : State} {m : ℕ} {ds : List Delivery} (files : List File) (first
   patches : (command : Command) (f : List Edge → List Edge) →
       command_step files u m actor command ≡ patch_step u (refusal_of files u m actor command) f →
       refusal_of files u m actor command ≡ None →
-      Comes files s (at m actor command) (to (record u { edges = f u.edges }) (ds ++ []) Done)
+      Comes files s (an_input m actor command) (to (record u { edges = f u.edges }) (ds ++ []) Done)
   patches command f c e =
-      record { comes = patch-step files s u (at m actor command) ds first.settles f c e }
+      record { comes = patch-step files s u (an_input m actor command) ds first.settles f c e }
 
   pub connects : (source target : Addr) →
       refusal_of files u m actor (Connect source target) ≡ None →
-      Comes files s (at m actor (Connect source target)) (to (joined u source target) (ds ++ []) Done)
+      Comes files s (an_input m actor (Connect source target)) (to (joined u source target) (ds ++ []) Done)
   connects source target =
       patches (Connect source target) (connected source target)
       (step-connects files u m actor source target)
 
   pub parts : (source target : Addr) →
       refusal_of files u m actor (Disconnect source target) ≡ None →
-      Comes files s (at m actor (Disconnect source target))
+      Comes files s (an_input m actor (Disconnect source target))
       (to (parted u source target) (ds ++ []) Done)
   parts source target =
       patches (Disconnect source target) (disconnected source target)
@@ -247,7 +247,7 @@ module _ {s u : State} {m : ℕ} {ds : List Delivery} (files : List File) (first
       queue_named command ≡ Some q →
       answer (row_of files u m actor command) ≡
       (None, with_playback u actor (playback port m (x ∷ xs))) →
-      Comes files s (at m actor command)
+      Comes files s (an_input m actor command)
       (to (playing u actor q (playback port m (x ∷ xs))) (ds ++ []) Done)
   plays-one command q port x xs named e =
       let own : Own = with_playback u actor (playback port m (x ∷ xs)) in
@@ -258,7 +258,7 @@ module _ {s u : State} {m : ℕ} {ds : List Delivery} (files : List File) (first
   pub schedules : (q : QueueAddr) (port : ℕ) (due : DueAt) (message : List ℕ) (d : Due) →
       answer (row_of files u m actor (Schedule q port due message)) ≡
       (None, with_playback u actor (single port m d message)) →
-      Comes files s (at m actor (Schedule q port due message))
+      Comes files s (an_input m actor (Schedule q port due message))
       (to (playing u actor q (single port m d message)) (ds ++ []) Done)
   schedules q port due message d e =
       plays-one (Schedule q port due message) q port (record { due = d; message = message }) [] refl
@@ -267,14 +267,14 @@ module _ {s u : State} {m : ℕ} {ds : List Delivery} (files : List File) (first
   pub plays : (q : QueueAddr) (port file : ℕ) (x : Event) (xs : List Event) →
       answer (row_of files u m actor (Play q port file)) ≡
       (None, with_playback u actor (playback port m (x ∷ xs))) →
-      Comes files s (at m actor (Play q port file))
+      Comes files s (an_input m actor (Play q port file))
       (to (playing u actor q (playback port m (x ∷ xs))) (ds ++ []) Done)
   plays q port file x xs e = plays-one (Play q port file) q port x xs refl e
 
   pub sends : (port : ℕ) (message : List ℕ) (t : State) (es : List Delivery) →
       refusal_of files u m actor (Send port message) ≡ None →
       sent u (send_copies u m actor (from_port port message ∷ [])) ≡ settled_to t es →
-      Comes files s (at m actor (Send port message)) (to t (ds ++ es) Done)
+      Comes files s (an_input m actor (Send port message)) (to t (ds ++ es) Done)
   unfolding command_row
   sends port message t es r e =
       let own : Own = record (done_with (FinMap.get u.clients actor)) {
@@ -288,14 +288,14 @@ module _ {s u : State} {m : ℕ} {ds : List Delivery} (files : List File) (first
       (es : List Delivery) →
       answer (row_of files u m actor (Bytes port bytes)) ≡ (None, sending c port ms) →
       sent (holding u actor c) (send_copies u m actor (map (from_port port) ms)) ≡ settled_to t es →
-      Comes files s (at m actor (Bytes port bytes)) (to t (ds ++ es) (Messages (length ms)))
+      Comes files s (an_input m actor (Bytes port bytes)) (to t (ds ++ es) (Messages (length ms)))
   feeds port bytes c ms t es r e =
       does (Bytes port bytes) (sending c port ms) (holding u actor c) t es r
       (with_own-held u actor None (Some c)) e
 
   pub asks : (status : Reply) → refusal_of files u m actor PoolStatus ≡ None →
       pool_status (used u actor) (FinMap.get u.pools actor) ≡ status →
-      Comes files s (at m actor PoolStatus) (to u (ds ++ []) status)
+      Comes files s (an_input m actor PoolStatus) (to u (ds ++ []) status)
   asks status r e =
       let told : Reply → Stepped = to u [] in
       comes PoolStatus (told status)
@@ -305,7 +305,7 @@ module _ {s u : State} {m : ℕ} {ds : List Delivery} (files : List File) (first
 
   pub asks-queue : (q : QueueAddr) (status : Reply) → refusal_of files u m actor (QueueStatus q) ≡
       None → queue_status m (named_queue u.clients actor (Some q)) ≡ status →
-      Comes files s (at m actor (QueueStatus q)) (to u (ds ++ []) status)
+      Comes files s (an_input m actor (QueueStatus q)) (to u (ds ++ []) status)
   unfolding command_row
   asks-queue q status r e =
       let told : Reply → Own = λ x. record (done_with (FinMap.get u.clients actor)) { reply = λ p. x } in

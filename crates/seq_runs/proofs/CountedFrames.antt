@@ -13,7 +13,7 @@ use Rattle.seq_state.specs.State.{Client, State, start}
 use Rattle.seq_state.specs.Own.{held_queue, one_tempo, playback, put_queue}
 use Rattle.seq_state.specs.Table.{command_row}
 use Rattle.seq_state.specs.Step.{Stepped}
-use Rattle.seq_runs.specs.Rows.{frames, frames_song, queue_at, came, waits, counted_frames, CountedFrames}
+use Rattle.seq_runs.specs.Rows.{frames, frames_song, a_queue, a_delivery, an_arrival, counted_frames, CountedFrames}
 use Rattle.seq_runs.proofs.Traces.{Settles, Trace, ends, thus, quiet, trace-log}
 use Rattle.seq_runs.proofs.CommandSteps.{holding, pooled, filled, playing, still, sorts, refuses, changes, plays}
 use Rattle.seq_runs.proofs.Beginnings.{around, IsCalm, nothing-pending, sender, ready, sender_steps, becomes-sender, listening, listener_steps, listens, first_note, last_note}
@@ -32,7 +32,7 @@ abbrev s3 : State
 s3 = holding s2 128 framed
 
 abbrev s4 : State
-s4 = playing s3 128 (queue_at 128 0) (playback 0 0 (first_note ∷ last_note ∷ []))
+s4 = playing s3 128 (a_queue 128 0) (playback 0 0 (first_note ∷ last_note ∷ []))
 
 abbrev with_both : Client
 with_both = put_queue 1 (Some (held_queue (one_tempo 480 500000))) framed
@@ -70,17 +70,17 @@ trace =
     becomes-sender files start 128 0 (codes "a") 8 (nothing-pending start 0 0 refl) refl
     (simp finds) refl refl
     (thus (changes files (still s2 0 refl) 128 (CreateQueueFrom 0 0) framed (simp finds))
-    (thus (plays files (still s3 0 refl) 128 (queue_at 128 0) 0 0 first_note (last_note ∷ [])
+    (thus (plays files (still s3 0 refl) 128 (a_queue 128 0) 0 0 first_note (last_note ∷ [])
     (simp finds))
     (thus (refuses files (sorts s4 0 s4 [] (simp (finds, moment-held))) 128
-    (Tempo (queue_at 128 0) 250000) refusal.BadTempo (simp finds))
+    (Tempo (a_queue 128 0) 250000) refusal.BadTempo (simp finds))
     (thus (changes files (sorts s4 0 s4 [] (simp (finds, moment-held))) 128
     (CreateQueue 1 480 500000) with_both (simp finds))
-    (thus (refuses files (calm s6.clients s6.pools s6.edges refl) 128 (Play (queue_at 128 1) 0 0)
+    (thus (refuses files (calm s6.clients s6.pools s6.edges refl) 128 (Play (a_queue 128 1) 0 0)
     refusal.DivisionDiffers (simp finds))
     (listens files s6 8 66 calm (simp finds) (simp finds) refl refl refl
     (thus (changes files (sorts s10 1 s10 [] (simp (finds, moment-held))) 128
-    (Start (queue_at 128 0)) started (simp finds)) ends)))))))
+    (Start (a_queue 128 0)) started (simp finds)) ends)))))))
 
 first-due : IsDue frames 0 1 0 (Tick 0) (Some 1)
 unfolding nanos_at numerator duration tempo_or resolution
@@ -93,11 +93,11 @@ last-due = clock-moment frames 0 1 0 200000000 (Tick 480) refl (omega arith)
 abbrev u : State
 u =
     pooled (pooled (record s11 { pending = [] }) 129
-    (filled 8 (waits 1 0 first_note.message ∷ []) 0))
-    129 (filled 8 (waits 1 0 first_note.message ∷ waits 200000001 0 last_note.message ∷ []) 0)
+    (filled 8 (an_arrival 1 0 first_note.message ∷ []) 0))
+    129 (filled 8 (an_arrival 1 0 first_note.message ∷ an_arrival 200000001 0 last_note.message ∷ []) 0)
 
 abbrev sent_last : List Delivery
-sent_last = came 1 129 0 first_note.message ∷ came 200000001 129 0 last_note.message ∷ []
+sent_last = a_delivery 1 129 0 first_note.message ∷ a_delivery 200000001 129 0 last_note.message ∷ []
 
 last : Settles s11 600000000 u sent_last
 unfolding ways

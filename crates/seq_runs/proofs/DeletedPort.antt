@@ -13,7 +13,7 @@ use Rattle.seq_state.specs.State.{State, Client, start}
 use Rattle.seq_state.specs.Own.{put_port}
 use Rattle.seq_state.specs.Table.{command_row}
 use Rattle.seq_state.specs.Step.{Stepped, port_addr}
-use Rattle.seq_runs.specs.Rows.{queue_at, note, came, waits, deleted_port, DeletedPort}
+use Rattle.seq_runs.specs.Rows.{a_queue, a_note, a_delivery, an_arrival, deleted_port, DeletedPort}
 use Rattle.seq_runs.proofs.Traces.{Settles, Trace, ends, thus, quiet, trace-log}
 use Rattle.seq_runs.proofs.CommandSteps.{without, pooled, filled, joined, single, playing, still, sorts, gives-up, connects, schedules, asks}
 use Rattle.seq_runs.proofs.Beginnings.{around, IsCalm, nothing-pending, player, with_queue, performing, player_steps, becomes-sender, starts-queue, listening, listener_steps, listens}
@@ -23,7 +23,7 @@ abbrev s4 : State
 s4 = performing start 128 (codes "a") 8
 
 abbrev s5 : State
-s5 = playing s4 128 (queue_at 128 0) (single 0 0 (Nanos 100) (note 0x01))
+s5 = playing s4 128 (a_queue 128 0) (single 0 0 (Nanos 100) (a_note 0x01))
 
 abbrev s8 : State
 s8 = listening s5 8 66
@@ -41,7 +41,7 @@ abbrev s14 : State
 s14 = moved s13 128 None (without without_port (same_node (Port 0)) (λ p. p.port == 0) (λ n. false))
 
 abbrev s16 : State
-s16 = playing s14 130 (queue_at 130 0) (single 0 60 (Nanos 100) (note 0x02))
+s16 = playing s14 130 (a_queue 130 0) (single 0 60 (Nanos 100) (a_note 0x02))
 
 abbrev after : List Stepped
 after =
@@ -68,7 +68,7 @@ trace =
     becomes-sender [] start 128 0 (codes "a") 8 (nothing-pending start 0 0 refl) refl (simp finds)
     refl refl
     (starts-queue [] start 128 0 (codes "a") 8 (nothing-pending start 0 0 refl) refl
-    (thus (schedules [] (still s4 0 refl) 128 (queue_at 128 0) 0 (due_at.Nanos 100) (note 0x01)
+    (thus (schedules [] (still s4 0 refl) 128 (a_queue 128 0) 0 (due_at.Nanos 100) (a_note 0x01)
     (Nanos 100) (simp finds))
     (listens [] s5 8 66 calm (simp finds) (simp finds) refl refl refl
     (becomes-sender [] s8 130 128 (codes "c") 8 calm-again refl (simp finds) refl refl
@@ -78,15 +78,15 @@ trace =
     (thus (gives-up [] (sorts s13 50 s13 [] (simp (finds, first))) 128 (DeletePort 0) without_port
     (same_node (Port 0)) (λ p. p.port == 0) (λ n. false) (simp finds))
     (thus (asks [] (still s14 50 refl) 128 (Pools 0 0 0) (simp finds) (simp finds))
-    (thus (schedules [] (still s14 60 refl) 130 (queue_at 130 0) 0 (due_at.Nanos 100) (note 0x02)
+    (thus (schedules [] (still s14 60 refl) 130 (a_queue 130 0) 0 (due_at.Nanos 100) (a_note 0x02)
     (Nanos 100) (simp finds)) ends)))))))))
 
 abbrev u : State
-u = pooled (record s16 { pending = [] }) 129 (filled 8 (waits 100 0 (note 0x02) ∷ []) 0)
+u = pooled (record s16 { pending = [] }) 129 (filled 8 (an_arrival 100 0 (a_note 0x02) ∷ []) 0)
 
-last : Settles s16 200 u (came 100 129 0 (note 0x02) ∷ [])
+last : Settles s16 200 u (a_delivery 100 129 0 (a_note 0x02) ∷ [])
 unfolding ways
-last = sorts s16 200 u (came 100 129 0 (note 0x02) ∷ []) (simp (finds, paths-ways, second))
+last = sorts s16 200 u (a_delivery 100 129 0 (a_note 0x02) ∷ []) (simp (finds, paths-ways, second))
 
 pub run : DeletedPort
 run = trace-log trace last

@@ -12,7 +12,7 @@ use Rattle.seq_state.specs.State.{Client, State, start}
 use Rattle.seq_state.specs.Own.{playback, put_queue}
 use Rattle.seq_state.specs.Table.{command_row}
 use Rattle.seq_state.specs.Step.{Stepped}
-use Rattle.seq_runs.specs.Rows.{song, queue_at, note, dropped_output, DroppedOutput}
+use Rattle.seq_runs.specs.Rows.{song, a_queue, a_note, dropped_output, DroppedOutput}
 use Rattle.seq_runs.proofs.Traces.{Trace, ends, thus, quiet, trace-log}
 use Rattle.seq_runs.proofs.CommandSteps.{without, single, playing, still, sorts, refuses, gives-up, schedules, plays, asks}
 use Rattle.seq_runs.proofs.Beginnings.{around, IsCalm, nothing-pending, player, with_queue, performing, player_steps, becomes-sender, starts-queue, listening, listener_steps, listens, first_note, last_note}
@@ -22,14 +22,14 @@ abbrev s4 : State
 s4 = performing start 128 (codes "a") 2
 
 abbrev s5 : State
-s5 = playing s4 128 (queue_at 128 0) (single 0 0 (Nanos 100) (note 0x01))
+s5 = playing s4 128 (a_queue 128 0) (single 0 0 (Nanos 100) (a_note 0x01))
 
 abbrev s6 : State
-s6 = playing s5 128 (queue_at 128 0) (playback 0 0 (first_note ∷ last_note ∷ []))
+s6 = playing s5 128 (a_queue 128 0) (playback 0 0 (first_note ∷ last_note ∷ []))
 
 -- the file's first event has gone, to nobody
 abbrev u6 : State
-u6 = playing s5 128 (queue_at 128 0) (playback 0 0 (last_note ∷ []))
+u6 = playing s5 128 (a_queue 128 0) (playback 0 0 (last_note ∷ []))
 
 abbrev s10 : State
 s10 = listening u6 8 66
@@ -42,7 +42,7 @@ s11 = moved s10 128 None (without a (λ n. false) (λ p. true) (λ n. false))
 
 abbrev s13 : State
 s13 =
-    moved s11 128 (Some (queue_at 128 0))
+    moved s11 128 (Some (a_queue 128 0))
     (without (put_queue 0 None a) (λ n. false) (λ p. false) (λ n. n == 0))
 
 abbrev after : List Stepped
@@ -73,20 +73,20 @@ trace =
     becomes-sender (song ∷ []) start 128 0 (codes "a") 2 (nothing-pending start 0 0 refl) refl
     (simp finds) refl refl
     (starts-queue (song ∷ []) start 128 0 (codes "a") 2 (nothing-pending start 0 0 refl) refl
-    (thus (schedules (song ∷ []) (still s4 0 refl) 128 (queue_at 128 0) 0 (due_at.Nanos 100)
-    (note 0x01) (Nanos 100) (simp finds))
-    (thus (plays (song ∷ []) (sorts s5 0 s5 [] (simp (finds, scheduled-due))) 128 (queue_at 128 0) 0
+    (thus (schedules (song ∷ []) (still s4 0 refl) 128 (a_queue 128 0) 0 (due_at.Nanos 100)
+    (a_note 0x01) (Nanos 100) (simp finds))
+    (thus (plays (song ∷ []) (sorts s5 0 s5 [] (simp (finds, scheduled-due))) 128 (a_queue 128 0) 0
     0 first_note (last_note ∷ []) (simp finds))
     (thus (refuses (song ∷ [])
     (sorts s6 0 u6 [] (simp (finds, paths-ways, scheduled-due, first-due, last-due))) 128
-    (Schedule (queue_at 128 0) 0 (due_at.Nanos 100) (0xF8 ∷ [])) refusal.OutFull (simp finds))
+    (Schedule (a_queue 128 0) 0 (due_at.Nanos 100) (0xF8 ∷ [])) refusal.OutFull (simp finds))
     (listens (song ∷ []) u6 8 66 calm (simp finds) (simp finds) refl refl refl
     (thus (gives-up (song ∷ []) (sorts s10 50 s10 [] (simp (finds, scheduled-due, last-due))) 128
     DropOutput a (λ n. false) (λ p. true) (λ n. false) (simp finds))
     (thus (asks (song ∷ []) (still s11 50 refl) 128 (Pools 0 0 0) (simp finds) (simp finds))
-    (thus (gives-up (song ∷ []) (still s11 50 refl) 128 (DeleteQueue (queue_at 128 0))
+    (thus (gives-up (song ∷ []) (still s11 50 refl) 128 (DeleteQueue (a_queue 128 0))
     (put_queue 0 None a) (λ n. false) (λ p. false) (λ n. n == 0) (simp finds))
-    (thus (refuses (song ∷ []) (still s13 50 refl) 128 (QueueStatus (queue_at 128 0))
+    (thus (refuses (song ∷ []) (still s13 50 refl) 128 (QueueStatus (a_queue 128 0))
     refusal.NoQueue (simp finds)) ends)))))))))
 
 pub run : DroppedOutput

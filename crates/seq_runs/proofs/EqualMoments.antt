@@ -8,7 +8,7 @@ use Rattle.seq_state.specs.declared.input.DueAt.TheVariants as due_at
 use Rattle.seq_state.specs.State.{State, start}
 use Rattle.seq_state.specs.Table.{command_row}
 use Rattle.seq_state.specs.Step.{Stepped, port_addr}
-use Rattle.seq_runs.specs.Rows.{queue_at, note, came, waits, equal_moments, EqualMoments}
+use Rattle.seq_runs.specs.Rows.{a_queue, a_note, a_delivery, an_arrival, equal_moments, EqualMoments}
 use Rattle.seq_runs.proofs.Traces.{Settles, Trace, ends, thus, quiet, trace-log}
 use Rattle.seq_runs.proofs.CommandSteps.{pooled, filled, joined, single, playing, still, sorts, connects, schedules}
 use Rattle.seq_runs.proofs.Beginnings.{nothing-pending, performing, player_steps, becomes-sender, starts-queue, listening, listener_steps, listens}
@@ -27,10 +27,10 @@ abbrev s12 : State
 s12 = joined s11 (port_addr 130 0) (port_addr 129 0)
 
 abbrev s13 : State
-s13 = playing s12 130 (queue_at 130 0) (single 0 1 (Nanos 100) (note 0x02))
+s13 = playing s12 130 (a_queue 130 0) (single 0 1 (Nanos 100) (a_note 0x02))
 
 abbrev s14 : State
-s14 = playing s13 128 (queue_at 128 0) (single 0 2 (Nanos 100) (note 0x01))
+s14 = playing s13 128 (a_queue 128 0) (single 0 2 (Nanos 100) (a_note 0x01))
 
 abbrev after : List Stepped
 after =
@@ -55,20 +55,20 @@ trace =
     refl
     (starts-queue [] s7 130 0 (codes "c") 8 (nothing-pending s7 0 0 refl) refl
     (thus (connects [] (still s11 1 refl) 129 (port_addr 130 0) (port_addr 129 0) (simp finds))
-    (thus (schedules [] (still s12 1 refl) 130 (queue_at 130 0) 0 (due_at.Nanos 100) (note 0x02)
+    (thus (schedules [] (still s12 1 refl) 130 (a_queue 130 0) 0 (due_at.Nanos 100) (a_note 0x02)
     (Nanos 100) (simp finds))
-    (thus (schedules [] (sorts s13 2 s13 [] (simp (finds, first))) 128 (queue_at 128 0) 0
-    (due_at.Nanos 100) (note 0x01) (Nanos 100) (simp finds)) ends)))))))
+    (thus (schedules [] (sorts s13 2 s13 [] (simp (finds, first))) 128 (a_queue 128 0) 0
+    (due_at.Nanos 100) (a_note 0x01) (Nanos 100) (simp finds)) ends)))))))
 
 abbrev u : State
 u =
-    pooled (pooled (record s14 { pending = [] }) 129 (filled 8 (waits 100 0 (note 0x02) ∷ []) 0))
-    129 (filled 8 (waits 100 0 (note 0x02) ∷ waits 100 0 (note 0x01) ∷ []) 0)
+    pooled (pooled (record s14 { pending = [] }) 129 (filled 8 (an_arrival 100 0 (a_note 0x02) ∷ []) 0))
+    129 (filled 8 (an_arrival 100 0 (a_note 0x02) ∷ an_arrival 100 0 (a_note 0x01) ∷ []) 0)
 
-last : Settles s14 200 u (came 100 129 0 (note 0x02) ∷ came 100 129 0 (note 0x01) ∷ [])
+last : Settles s14 200 u (a_delivery 100 129 0 (a_note 0x02) ∷ a_delivery 100 129 0 (a_note 0x01) ∷ [])
 unfolding ways
 last =
-    sorts s14 200 u (came 100 129 0 (note 0x02) ∷ came 100 129 0 (note 0x01) ∷ [])
+    sorts s14 200 u (a_delivery 100 129 0 (a_note 0x02) ∷ a_delivery 100 129 0 (a_note 0x01) ∷ [])
     (simp (finds, paths-ways, first, second))
 
 pub run : EqualMoments

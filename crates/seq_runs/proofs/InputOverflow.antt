@@ -13,7 +13,7 @@ use Rattle.seq_state.specs.Own.{new_client, new_port, put_port}
 use Rattle.seq_state.specs.Table.{command_row}
 use Rattle.seq_state.specs.Step.{Stepped, port_addr}
 use Rattle.seq_state.proofs.Effects.{step-takes}
-use Rattle.seq_runs.specs.Rows.{caps, note, came, waits, input_overflow, InputOverflow}
+use Rattle.seq_runs.specs.Rows.{caps_by_bits, a_note, a_delivery, an_arrival, input_overflow, InputOverflow}
 use Rattle.seq_runs.proofs.Traces.{Trace, ends, thus, quiet, trace-log}
 use Rattle.seq_runs.proofs.CommandSteps.{holding, pooled, filled, opened, joined, still, comes, opens, changes, connects, sends, feeds, asks}
 use Rattle.seq_runs.proofs.Beginnings.{nothing-pending, sender, ready, sender_steps, becomes-sender, with_fed, listening, listener_steps, listens}
@@ -26,7 +26,7 @@ abbrev s5 : State
 s5 = listening s2 2 66
 
 abbrev other : Client
-other = put_port 0 (Some (new_port (codes "in") (caps 66))) (new_client (codes "c") 8 8)
+other = put_port 0 (Some (new_port (codes "in") (caps_by_bits 66))) (new_client (codes "c") 8 8)
 
 abbrev s6 : State
 s6 = opened s5 130 (codes "c") 8 8
@@ -43,8 +43,8 @@ fed = with_fed (sender (codes "a") 8) (0x90 ∷ [])
 -- the pools of 129, with what is lost, and of 130, with the notes that came to both
 abbrev both : State → List ℕ → List ℕ → ℕ → State
 both s small large lost =
-    pooled (pooled s 129 (filled 2 (map (λ n. waits 5 0 (note n)) small) lost)) 130
-    (filled 8 (map (λ n. waits 5 0 (note n)) large) 0)
+    pooled (pooled s 129 (filled 2 (map (λ n. an_arrival 5 0 (a_note n)) small) lost)) 130
+    (filled 8 (map (λ n. an_arrival 5 0 (a_note n)) large) 0)
 
 abbrev s9 : State
 s9 =
@@ -53,26 +53,26 @@ s9 =
 
 abbrev copies : List Delivery
 copies =
-    came 5 129 0 (note 0x01) ∷ came 5 130 0 (note 0x01) ∷ came 5 129 0 (note 0x02)
-    ∷ came 5 130 0 (note 0x02) ∷ came 5 130 0 (note 0x03) ∷ []
+    a_delivery 5 129 0 (a_note 0x01) ∷ a_delivery 5 130 0 (a_note 0x01) ∷ a_delivery 5 129 0 (a_note 0x02)
+    ∷ a_delivery 5 130 0 (a_note 0x02) ∷ a_delivery 5 130 0 (a_note 0x03) ∷ []
 
 abbrev s11 : State
-s11 = pooled s9 129 (filled 2 (waits 5 0 (note 0x02) ∷ []) 1)
+s11 = pooled s9 129 (filled 2 (an_arrival 5 0 (a_note 0x02) ∷ []) 1)
 
 abbrev s12 : State
 s12 =
-    pooled (pooled s11 129 (filled 2 (waits 5 0 (note 0x02) ∷ waits 7 0 (note 0x04) ∷ []) 1))
-    130 (filled 8 (waits 5 0 (note 0x01) ∷ waits 5 0 (note 0x02) ∷ waits 5 0 (note 0x03)
-    ∷ waits 7 0 (note 0x04) ∷ []) 0)
+    pooled (pooled s11 129 (filled 2 (an_arrival 5 0 (a_note 0x02) ∷ an_arrival 7 0 (a_note 0x04) ∷ []) 1))
+    130 (filled 8 (an_arrival 5 0 (a_note 0x01) ∷ an_arrival 5 0 (a_note 0x02) ∷ an_arrival 5 0 (a_note 0x03)
+    ∷ an_arrival 7 0 (a_note 0x04) ∷ []) 0)
 
 abbrev last_copies : List Delivery
-last_copies = came 7 129 0 (note 0x04) ∷ came 7 130 0 (note 0x04) ∷ []
+last_copies = a_delivery 7 129 0 (a_note 0x04) ∷ a_delivery 7 130 0 (a_note 0x04) ∷ []
 
 abbrev after : List Stepped
 after =
     sender_steps start 128 (codes "a") 8 ++ listener_steps s2 2 66 ++ quiet (s6 ∷ s7 ∷ s8 ∷ [])
     ++ to s9 copies (Messages 3)
-    ∷ to s9 [] (Pools 2 1 0) ∷ to s11 [] (Received (waits 5 0 (note 0x01) ∷ []))
+    ∷ to s9 [] (Pools 2 1 0) ∷ to s11 [] (Received (an_arrival 5 0 (a_note 0x01) ∷ []))
     ∷ to s12 last_copies Done ∷ []
 
 trace : Trace [] start input_overflow after
@@ -82,16 +82,16 @@ trace =
     refl refl
     (listens [] s2 2 66 (nothing-pending s2 0 128 refl) (simp finds) (simp finds) refl refl refl
     (thus (opens [] (still s5 0 refl) 130 (codes "c") 8 8 (simp finds) refl refl)
-    (thus (changes [] (still s6 0 refl) 130 (CreatePort 0 (codes "in") (caps 66)) other
+    (thus (changes [] (still s6 0 refl) 130 (CreatePort 0 (codes "in") (caps_by_bits 66)) other
     (simp finds))
     (thus (connects [] (still s7 0 refl) 130 (port_addr 128 0) (port_addr 130 0) (simp finds))
     (thus (feeds [] (still s8 5 refl) 128 0 (0x90 ∷ 0x01 ∷ 0x40 ∷ 0x02 ∷ 0x40 ∷ 0x03 ∷ 0x40 ∷ [])
-    fed (note 0x01 ∷ note 0x02 ∷ note 0x03 ∷ []) s9 copies (simp finds)
+    fed (a_note 0x01 ∷ a_note 0x02 ∷ a_note 0x03 ∷ []) s9 copies (simp finds)
     (simp (finds, paths-ways)))
     (thus (asks [] (still s9 6 refl) 129 (Pools 2 1 0) (simp finds) (simp finds))
     (thus (comes [] (still s9 6 refl) 129 (Receive 1)
-    (to s11 [] (Received (waits 5 0 (note 0x01) ∷ []))) (step-takes [] s9 6 129 1 ∙ simp finds))
-    (thus (sends [] (still s11 7 refl) 128 0 (note 0x04) s12 last_copies (simp finds)
+    (to s11 [] (Received (an_arrival 5 0 (a_note 0x01) ∷ []))) (step-takes [] s9 6 129 1 ∙ simp finds))
+    (thus (sends [] (still s11 7 refl) 128 0 (a_note 0x04) s12 last_copies (simp finds)
     (simp (finds, paths-ways))) ends))))))))
 
 pub run : InputOverflow

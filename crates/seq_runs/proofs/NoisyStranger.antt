@@ -18,7 +18,7 @@ use Rattle.seq_state.specs.State.{Client, State, start}
 use Rattle.seq_state.specs.Own.{new_client, new_port, new_filter, put_port, put_filter}
 use Rattle.seq_state.specs.Table.{command_row}
 use Rattle.seq_state.specs.Step.{Stepped, plain, port_addr}
-use Rattle.seq_runs.specs.Rows.{caps, queue_at, note, came, waits, noisy_stranger, is_one_of_two, NoisyStranger}
+use Rattle.seq_runs.specs.Rows.{caps_by_bits, a_queue, a_note, a_delivery, an_arrival, noisy_stranger, is_one_of_two, NoisyStranger}
 use Rattle.seq_runs.proofs.Traces.{Trace, ends, thus, quiet, log_of, trace-log, StaysClosed, stays, stayed, closed-trace, trace-closed}
 use Rattle.seq_runs.proofs.CommandSteps.{holding, pooled, filled, opened, closed, joined, single, playing, still, sorts, refuses, opens, closes, changes, connects, schedules, sends}
 use Rattle.seq_runs.proofs.Beginnings.{nothing-pending, ready, sender_steps, becomes-sender, with_queue, listening, listener_steps, listens}
@@ -32,10 +32,10 @@ s5 = listening s2 8 2
 
 -- the stranger with a port, a filter and a queue
 abbrev with_port : Client
-with_port = put_port 0 (Some (new_port (codes "y") (caps 99))) (new_client (codes "x") 1 1)
+with_port = put_port 0 (Some (new_port (codes "y") (caps_by_bits 99))) (new_client (codes "x") 1 1)
 
 abbrev with_filter : Client
-with_filter = put_filter 0 (Some (new_filter (caps 99) (moved_by (pos 0)))) with_port
+with_filter = put_filter 0 (Some (new_filter (caps_by_bits 99) (moved_by (pos 0)))) with_port
 
 abbrev stranger : Client
 stranger = with_queue with_filter false 0 None
@@ -56,23 +56,23 @@ abbrev s13 : State
 s13 = holding s12 131 stranger
 
 abbrev s14 : State
-s14 = playing s13 131 (queue_at 131 0) (single 0 2 (Nanos 5) (note 0x7F))
+s14 = playing s13 131 (a_queue 131 0) (single 0 2 (Nanos 5) (a_note 0x7F))
 
 abbrev s16 : State
 s16 =
-    pooled (pooled s14 129 (filled 8 (waits 5 0 (note 0x3C) ∷ []) 0)) 131
-    (filled 1 (waits 5 0 (note 0x3C) ∷ []) 0)
+    pooled (pooled s14 129 (filled 8 (an_arrival 5 0 (a_note 0x3C) ∷ []) 0)) 131
+    (filled 1 (an_arrival 5 0 (a_note 0x3C) ∷ []) 0)
 
 abbrev s17 : State
 s17 =
-    pooled (pooled s16 129 (filled 8 (waits 5 0 (note 0x3C) ∷ waits 6 0 (note 0x3D) ∷ []) 0)) 131
-    (filled 1 (waits 5 0 (note 0x3C) ∷ []) 1)
+    pooled (pooled s16 129 (filled 8 (an_arrival 5 0 (a_note 0x3C) ∷ an_arrival 6 0 (a_note 0x3D) ∷ []) 0)) 131
+    (filled 1 (an_arrival 5 0 (a_note 0x3C) ∷ []) 1)
 
 abbrev s18 : State
 s18 = closed s17 131
 
 abbrev copies : List Delivery
-copies = came 5 129 0 (note 0x3C) ∷ came 5 131 0 (note 0x3C) ∷ []
+copies = a_delivery 5 129 0 (a_note 0x3C) ∷ a_delivery 5 131 0 (a_note 0x3C) ∷ []
 
 abbrev after : List Stepped
 after =
@@ -80,7 +80,7 @@ after =
     ++ to s8 [] (Refused 11) ∷ to s8 [] (Refused 10)
     ∷ to s8 [] (Refused 10) ∷ quiet (s12 ∷ s13 ∷ s14 ∷ []) ++ to s14 [] (Refused 24)
     ∷ to s16 copies Done
-    ∷ to s17 (came 6 129 0 (note 0x3D) ∷ []) Done ∷ quiet (s18 ∷ [])
+    ∷ to s17 (a_delivery 6 129 0 (a_note 0x3D) ∷ []) Done ∷ quiet (s18 ∷ [])
 
 trace : Trace [] start noisy_stranger after
 unfolding command_row most_sources ways begins kind_of_status
@@ -89,7 +89,7 @@ trace =
     refl refl
     (listens [] s2 8 2 (nothing-pending s2 0 128 refl) (simp finds) (simp finds) refl refl refl
     (thus (opens [] (still s5 1 refl) 131 (codes "x") 1 1 (simp finds) refl refl)
-    (thus (changes [] (still s6 1 refl) 131 (CreatePort 0 (codes "y") (caps 99)) with_port
+    (thus (changes [] (still s6 1 refl) 131 (CreatePort 0 (codes "y") (caps_by_bits 99)) with_port
     (simp finds))
     (thus (connects [] (still s7 1 refl) 129 (port_addr 128 0) (port_addr 131 0) (simp finds))
     (thus (refuses [] (still s8 1 refl) 131 (Connect (port_addr 128 0) (port_addr 131 0))
@@ -98,17 +98,17 @@ trace =
     refusal.NotPermitted (simp finds))
     (thus (refuses [] (still s8 2 refl) 131 (Disconnect (port_addr 128 0) (port_addr 129 0))
     refusal.NotPermitted (simp finds))
-    (thus (changes [] (still s8 2 refl) 131 (CreateFilter 0 (caps 99) (moved_by (pos 0)))
+    (thus (changes [] (still s8 2 refl) 131 (CreateFilter 0 (caps_by_bits 99) (moved_by (pos 0)))
     with_filter (simp finds))
     (thus (changes [] (still s12 2 refl) 131 (CreateQueue 0 480 500000) stranger (simp finds))
-    (thus (schedules [] (still s13 2 refl) 131 (queue_at 131 0) 0 (due_at.Nanos 5) (note 0x7F)
+    (thus (schedules [] (still s13 2 refl) 131 (a_queue 131 0) 0 (due_at.Nanos 5) (a_note 0x7F)
     (Nanos 5) (simp finds))
     (thus (refuses [] (sorts s14 2 s14 [] (simp (finds, moment-held))) 131
-    (Schedule (queue_at 131 0) 0 (due_at.Nanos 5) (note 0x7F)) refusal.OutFull (simp finds))
-    (thus (sends [] (sorts s14 5 s14 [] (simp (finds, moment-held))) 128 0 (note 0x3C) s16 copies
+    (Schedule (a_queue 131 0) 0 (due_at.Nanos 5) (a_note 0x7F)) refusal.OutFull (simp finds))
+    (thus (sends [] (sorts s14 5 s14 [] (simp (finds, moment-held))) 128 0 (a_note 0x3C) s16 copies
     (simp finds) (simp (finds, paths-ways)))
-    (thus (sends [] (sorts s16 6 s16 [] (simp (finds, moment-held))) 128 0 (note 0x3D) s17
-    (came 6 129 0 (note 0x3D) ∷ []) (simp finds) (simp (finds, paths-ways)))
+    (thus (sends [] (sorts s16 6 s16 [] (simp (finds, moment-held))) 128 0 (a_note 0x3D) s17
+    (a_delivery 6 129 0 (a_note 0x3D) ∷ []) (simp finds) (simp (finds, paths-ways)))
     (thus (closes [] (sorts s17 9 s17 [] (simp (finds, moment-held))) 131 (simp finds))
     ends))))))))))))))
 

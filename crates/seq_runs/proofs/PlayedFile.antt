@@ -12,7 +12,7 @@ use Rattle.seq_state.specs.State.{Client, State, start}
 use Rattle.seq_state.specs.Own.{playback}
 use Rattle.seq_state.specs.Table.{command_row}
 use Rattle.seq_state.specs.Step.{Stepped}
-use Rattle.seq_runs.specs.Rows.{song, queue_at, note, came, waits, played_file, PlayedFile}
+use Rattle.seq_runs.specs.Rows.{song, a_queue, a_note, a_delivery, an_arrival, played_file, PlaysFile}
 use Rattle.seq_runs.proofs.Traces.{Settles, Trace, ends, thus, quiet, trace-log}
 use Rattle.seq_runs.proofs.CommandSteps.{holding, pooled, filled, single, playing, still, sorts, changes, schedules, plays}
 use Rattle.seq_runs.proofs.Beginnings.{around, IsCalm, nothing-pending, ready, sender_steps, becomes-sender, player, with_queue, prepared, listening, listener_steps, listens, first_note, last_note}
@@ -25,13 +25,13 @@ abbrev s3 : State
 s3 = prepared start 128 (codes "a") 8
 
 abbrev s4 : State
-s4 = playing s3 128 (queue_at 128 0) (playback 0 0 (first_note ∷ last_note ∷ []))
+s4 = playing s3 128 (a_queue 128 0) (playback 0 0 (first_note ∷ last_note ∷ []))
 
 abbrev s7 : State
 s7 = listening s4 8 66
 
 abbrev s8 : State
-s8 = playing s7 128 (queue_at 128 0) (single 0 1 (Tick 480) (note 0x05))
+s8 = playing s7 128 (a_queue 128 0) (single 0 1 (Tick 480) (a_note 0x05))
 
 abbrev started : Client
 started = with_queue (player (codes "a") 8) false 0 (Some 1)
@@ -56,13 +56,13 @@ trace =
     (simp finds) refl refl
     (thus (changes (song ∷ []) (still s2 0 refl) 128 (CreateQueueFrom 0 0) (player (codes "a") 8)
     (simp finds))
-    (thus (plays (song ∷ []) (still s3 0 refl) 128 (queue_at 128 0) 0 0 first_note (last_note ∷ [])
+    (thus (plays (song ∷ []) (still s3 0 refl) 128 (a_queue 128 0) 0 0 first_note (last_note ∷ [])
     (simp finds))
     (listens (song ∷ []) s4 8 66 calm (simp finds) (simp finds) refl refl refl
-    (thus (schedules (song ∷ []) (sorts s7 1 s7 [] (simp (finds, moment-held))) 128 (queue_at 128 0)
-    0 (due_at.Tick 480) (note 0x05) (Tick 480) (simp finds))
+    (thus (schedules (song ∷ []) (sorts s7 1 s7 [] (simp (finds, moment-held))) 128 (a_queue 128 0)
+    0 (due_at.Tick 480) (a_note 0x05) (Tick 480) (simp finds))
     (thus (changes (song ∷ []) (sorts s8 1 s8 [] (simp (finds, moment-held))) 128
-    (Start (queue_at 128 0)) started (simp finds)) ends)))))
+    (Start (a_queue 128 0)) started (simp finds)) ends)))))
 
 first-due : IsDue two_a_second 0 1 0 (Tick 0) (Some 1)
 unfolding nanos_at numerator duration tempo_or resolution
@@ -77,27 +77,27 @@ unfolding nanos_at numerator duration tempo_or resolution
 scheduled-due = clock-moment two_a_second 0 1 1 500000000 (Tick 480) refl (omega arith)
 
 abbrev u0 : State
-u0 = pooled (record s9 { pending = [] }) 129 (filled 8 (waits 1 0 first_note.message ∷ []) 0)
+u0 = pooled (record s9 { pending = [] }) 129 (filled 8 (an_arrival 1 0 first_note.message ∷ []) 0)
 
 abbrev u1 : State
 u1 =
-    pooled u0 129 (filled 8 (waits 1 0 first_note.message ∷ waits 500000001 0 last_note.message
+    pooled u0 129 (filled 8 (an_arrival 1 0 first_note.message ∷ an_arrival 500000001 0 last_note.message
     ∷ []) 0)
 
 abbrev u2 : State
 u2 =
-    pooled u1 129 (filled 8 (waits 1 0 first_note.message ∷ waits 500000001 0 last_note.message
-    ∷ waits 500000001 0 (note 0x05) ∷ []) 0)
+    pooled u1 129 (filled 8 (an_arrival 1 0 first_note.message ∷ an_arrival 500000001 0 last_note.message
+    ∷ an_arrival 500000001 0 (a_note 0x05) ∷ []) 0)
 
 abbrev sent_last : List Delivery
 sent_last =
-    came 1 129 0 first_note.message ∷ came 500000001 129 0 last_note.message
-    ∷ came 500000001 129 0 (note 0x05) ∷ []
+    a_delivery 1 129 0 first_note.message ∷ a_delivery 500000001 129 0 last_note.message
+    ∷ a_delivery 500000001 129 0 (a_note 0x05) ∷ []
 
 last : Settles s9 600000000 u2 sent_last
 unfolding ways
 last =
     sorts s9 600000000 u2 sent_last (simp (finds, paths-ways, first-due, last-due, scheduled-due))
 
-pub run : PlayedFile
+pub run : PlaysFile
 run = trace-log trace last

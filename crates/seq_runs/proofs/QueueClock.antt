@@ -13,7 +13,7 @@ use Rattle.seq_state.specs.State.{Client, Pending, State, start}
 use Rattle.seq_state.specs.Own.{put_queue}
 use Rattle.seq_state.specs.Table.{command_row}
 use Rattle.seq_state.specs.Step.{Stepped, pending_of}
-use Rattle.seq_runs.specs.Rows.{queue_at, note, came, waits, queue_clock, QueueClock}
+use Rattle.seq_runs.specs.Rows.{a_queue, a_note, a_delivery, an_arrival, queue_clock, QueueClock}
 use Rattle.seq_runs.proofs.Traces.{Trace, ends, thus, quiet, trace-log}
 use Rattle.seq_runs.proofs.CommandSteps.{holding, pooled, filled, single, playing, still, sorts, changes, schedules, asks, asks-queue}
 use Rattle.seq_runs.proofs.Beginnings.{around, IsCalm, nothing-pending, ready, sender_steps, becomes-sender, player, with_queue, prepared, listening, listener_steps, listens}
@@ -26,16 +26,16 @@ abbrev s3 : State
 s3 = prepared start 128 (codes "a") 8
 
 abbrev s4 : State
-s4 = playing s3 128 (queue_at 128 0) (single 0 0 (Nanos 100) (note 0x01))
+s4 = playing s3 128 (a_queue 128 0) (single 0 0 (Nanos 100) (a_note 0x01))
 
 abbrev s5 : State
-s5 = playing s4 128 (queue_at 128 0) (single 0 0 (Nanos 200) (note 0x02))
+s5 = playing s4 128 (a_queue 128 0) (single 0 0 (Nanos 200) (a_note 0x02))
 
 abbrev s6 : State
-s6 = playing s5 128 (queue_at 128 0) (single 0 0 (Nanos 18446744073709551615) (note 0x03))
+s6 = playing s5 128 (a_queue 128 0) (single 0 0 (Nanos 18446744073709551615) (a_note 0x03))
 
 abbrev s7 : State
-s7 = playing s6 128 (queue_at 128 0) (single 0 0 (Tick 2) (note 0x04))
+s7 = playing s6 128 (a_queue 128 0) (single 0 0 (Tick 2) (a_note 0x04))
 
 abbrev s10 : State
 s10 = listening s7 8 66
@@ -57,13 +57,13 @@ abbrev faster : Client
 faster = put_queue 0 (Some (record { clock = faster_clock; shared = false })) resumed
 
 abbrev second : Pending
-second = pending_of 128 (Some (queue_at 128 0)) (single 0 0 (Nanos 200) (note 0x02))
+second = pending_of 128 (Some (a_queue 128 0)) (single 0 0 (Nanos 200) (a_note 0x02))
 
 abbrev third : Pending
-third = pending_of 128 (Some (queue_at 128 0)) (single 0 0 (Nanos 18446744073709551615) (note 0x03))
+third = pending_of 128 (Some (a_queue 128 0)) (single 0 0 (Nanos 18446744073709551615) (a_note 0x03))
 
 abbrev fourth : Pending
-fourth = pending_of 128 (Some (queue_at 128 0)) (single 0 0 (Tick 2) (note 0x04))
+fourth = pending_of 128 (Some (a_queue 128 0)) (single 0 0 (Tick 2) (a_note 0x04))
 
 abbrev s11 : State
 s11 = holding s10 128 started
@@ -71,7 +71,7 @@ s11 = holding s10 128 started
 abbrev u11 : State
 u11 =
     pooled (record s11 { pending = second ∷ third ∷ fourth ∷ [] }) 129
-    (filled 8 (waits 110 0 (note 0x01) ∷ []) 0)
+    (filled 8 (an_arrival 110 0 (a_note 0x01) ∷ []) 0)
 
 abbrev s12 : State
 s12 = holding u11 128 stopped
@@ -82,7 +82,7 @@ s13 = holding s12 128 resumed
 abbrev u13 : State
 u13 =
     pooled (record s13 { pending = third ∷ fourth ∷ [] }) 129
-    (filled 8 (waits 110 0 (note 0x01) ∷ waits 500 0 (note 0x02) ∷ []) 0)
+    (filled 8 (an_arrival 110 0 (a_note 0x01) ∷ an_arrival 500 0 (a_note 0x02) ∷ []) 0)
 
 abbrev s14 : State
 s14 = holding u13 128 faster
@@ -90,16 +90,16 @@ s14 = holding u13 128 faster
 abbrev u14 : State
 u14 =
     pooled (record s14 { pending = third ∷ [] }) 129
-    (filled 8 (waits 110 0 (note 0x01) ∷ waits 500 0 (note 0x02) ∷ waits 1562800 0 (note 0x04) ∷ [])
+    (filled 8 (an_arrival 110 0 (a_note 0x01) ∷ an_arrival 500 0 (a_note 0x02) ∷ an_arrival 1562800 0 (a_note 0x04) ∷ [])
     0)
 
 abbrev after : List Stepped
 after =
     sender_steps start 128 (codes "a") 8 ++ quiet (s3 ∷ s4 ∷ s5 ∷ s6 ∷ s7 ∷ [])
     ++ listener_steps s7 8 66 ++ quiet (s11 ∷ [])
-    ++ to s12 (came 110 129 0 (note 0x01) ∷ []) Done ∷ to s13 [] Done
-    ∷ to s14 (came 500 129 0 (note 0x02) ∷ []) Done
-    ∷ to u14 (came 1562800 129 0 (note 0x04) ∷ []) (Queue true 2 1562500) ∷ to u14 [] (Pools 0 0 1)
+    ++ to s12 (a_delivery 110 129 0 (a_note 0x01) ∷ []) Done ∷ to s13 [] Done
+    ∷ to s14 (a_delivery 500 129 0 (a_note 0x02) ∷ []) Done
+    ∷ to u14 (a_delivery 1562800 129 0 (a_note 0x04) ∷ []) (Queue true 2 1562500) ∷ to u14 [] (Pools 0 0 1)
     ∷ []
 
 first-due : IsDue two_a_second 0 10 0 (Nanos 100) (Some 110)
@@ -151,27 +151,27 @@ trace =
     refl refl
     (thus (changes [] (still s2 0 refl) 128 (CreateQueue 0 480 500000) (player (codes "a") 8)
     (simp finds))
-    (thus (schedules [] (still s3 0 refl) 128 (queue_at 128 0) 0 (due_at.Nanos 100) (note 0x01)
+    (thus (schedules [] (still s3 0 refl) 128 (a_queue 128 0) 0 (due_at.Nanos 100) (a_note 0x01)
     (Nanos 100) (simp finds))
-    (thus (schedules [] (sorts s4 0 s4 [] (simp (finds, moment-held))) 128 (queue_at 128 0) 0
-    (due_at.Nanos 200) (note 0x02) (Nanos 200) (simp finds))
-    (thus (schedules [] (sorts s5 0 s5 [] (simp (finds, moment-held))) 128 (queue_at 128 0) 0
-    (due_at.Nanos 18446744073709551615) (note 0x03) (Nanos 18446744073709551615) (simp finds))
-    (thus (schedules [] (sorts s6 0 s6 [] (simp (finds, moment-held))) 128 (queue_at 128 0) 0
-    (due_at.Tick 2) (note 0x04) (Tick 2) (simp finds))
+    (thus (schedules [] (sorts s4 0 s4 [] (simp (finds, moment-held))) 128 (a_queue 128 0) 0
+    (due_at.Nanos 200) (a_note 0x02) (Nanos 200) (simp finds))
+    (thus (schedules [] (sorts s5 0 s5 [] (simp (finds, moment-held))) 128 (a_queue 128 0) 0
+    (due_at.Nanos 18446744073709551615) (a_note 0x03) (Nanos 18446744073709551615) (simp finds))
+    (thus (schedules [] (sorts s6 0 s6 [] (simp (finds, moment-held))) 128 (a_queue 128 0) 0
+    (due_at.Tick 2) (a_note 0x04) (Tick 2) (simp finds))
     (listens [] s7 8 66 calm (simp finds) (simp finds) refl refl refl
-    (thus (changes [] (sorts s10 10 s10 [] (simp (finds, moment-held))) 128 (Start (queue_at 128 0))
+    (thus (changes [] (sorts s10 10 s10 [] (simp (finds, moment-held))) 128 (Start (a_queue 128 0))
     started (simp finds))
-    (thus (changes [] (sorts s11 110 u11 (came 110 129 0 (note 0x01) ∷ [])
+    (thus (changes [] (sorts s11 110 u11 (a_delivery 110 129 0 (a_note 0x01) ∷ [])
     (simp (finds, paths-ways, first-due, second-due, third-due, fourth-due))) 128
-    (Stop (queue_at 128 0)) stopped (simp finds))
+    (Stop (a_queue 128 0)) stopped (simp finds))
     (thus (changes [] (sorts s12 400 s12 [] (simp (finds, moment-held))) 128
-    (Continue (queue_at 128 0)) resumed (simp finds))
-    (thus (changes [] (sorts s13 1300 u13 (came 500 129 0 (note 0x02) ∷ [])
+    (Continue (a_queue 128 0)) resumed (simp finds))
+    (thus (changes [] (sorts s13 1300 u13 (a_delivery 500 129 0 (a_note 0x02) ∷ [])
     (simp (finds, paths-ways, second-later, third-later, fourth-later))) 128
-    (Tempo (queue_at 128 0) 250000) faster (simp (finds, first-tick)))
-    (thus (asks-queue [] (sorts s14 1562800 u14 (came 1562800 129 0 (note 0x04) ∷ [])
-    (simp (finds, paths-ways, third-last, fourth-last))) 128 (queue_at 128 0)
+    (Tempo (a_queue 128 0) 250000) faster (simp (finds, first-tick)))
+    (thus (asks-queue [] (sorts s14 1562800 u14 (a_delivery 1562800 129 0 (a_note 0x04) ∷ [])
+    (simp (finds, paths-ways, third-last, fourth-last))) 128 (a_queue 128 0)
     (Queue true 2 1562500) (simp finds) (simp (finds, tick-at_second)))
     (thus (asks [] (sorts u14 1562800 u14 [] (simp (finds, third-last))) 128 (Pools 0 0 1)
     (simp finds) (simp finds)) ends))))))))))))

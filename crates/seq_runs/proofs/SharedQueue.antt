@@ -15,7 +15,7 @@ use Rattle.seq_state.specs.State.{Client, State, start}
 use Rattle.seq_state.specs.Own.{new_client, put_queue}
 use Rattle.seq_state.specs.Table.{command_row}
 use Rattle.seq_state.specs.Step.{Stepped, pending_of, port_addr}
-use Rattle.seq_runs.specs.Rows.{caps, queue_at, note, came, waits, shared_queue, SharedQueue}
+use Rattle.seq_runs.specs.Rows.{caps_by_bits, a_queue, a_note, a_delivery, an_arrival, shared_queue, SharedQueue}
 use Rattle.seq_runs.proofs.Traces.{Trace, ends, thus, quiet, trace-log, StaysClosed, stays, stayed, closed-trace, trace-closed}
 use Rattle.seq_runs.proofs.CommandSteps.{without, holding, pooled, filled, joined, single, playing, still, sorts, refuses, opens, changes, gives-up, connects, schedules, asks, asks-queue}
 use Rattle.seq_runs.proofs.Beginnings.{nothing-pending, entered, ready, sender_steps, becomes-sender, with_queue, listener, arrived, settled_in}
@@ -52,10 +52,10 @@ abbrev s8 : State
 s8 = joined s7 (port_addr 130 0) (port_addr 129 0)
 
 abbrev s9 : State
-s9 = playing s8 130 (queue_at 128 0) (single 0 1 (Nanos 20) (note 0x01))
+s9 = playing s8 130 (a_queue 128 0) (single 0 1 (Nanos 20) (a_note 0x01))
 
 abbrev s10 : State
-s10 = playing s9 130 (queue_at 128 0) (single 0 1 (Nanos 100) (note 0x02))
+s10 = playing s9 130 (a_queue 128 0) (single 0 1 (Nanos 100) (a_note 0x02))
 
 abbrev s14 : State
 s14 = holding s10 128 started
@@ -63,13 +63,13 @@ s14 = holding s10 128 started
 abbrev u14 : State
 u14 =
     pooled (record s14 {
-      pending = pending_of 130 (Some (queue_at 128 0))
-          (single 0 1 (Nanos 100) (note 0x02)) ∷ [];
-    }) 129 (filled 8 (waits 30 0 (note 0x01) ∷ []) 0)
+      pending = pending_of 130 (Some (a_queue 128 0))
+          (single 0 1 (Nanos 100) (a_note 0x02)) ∷ [];
+    }) 129 (filled 8 (an_arrival 30 0 (a_note 0x01) ∷ []) 0)
 
 abbrev s15 : State
 s15 =
-    moved u14 128 (Some (queue_at 128 0))
+    moved u14 128 (Some (a_queue 128 0))
     (without (put_queue 0 None started) (λ n. false) (λ p. false) (λ n. n == 0))
 
 abbrev after : List Stepped
@@ -78,7 +78,7 @@ after =
     ++ quiet (s8 ∷ s9 ∷ s10 ∷ [])
     ++ to s10 [] (Queue false 0 0) ∷ to s10 [] (Refused 16) ∷ to s10 [] (Refused 16)
     ∷ to s14 [] Done
-    ∷ to s15 (came 30 129 0 (note 0x01) ∷ []) Done ∷ to s15 [] (Pools 0 0 0)
+    ∷ to s15 (a_delivery 30 129 0 (a_note 0x01) ∷ []) Done ∷ to s15 [] (Pools 0 0 0)
     ∷ to s15 [] (Refused 16) ∷ []
 
 first : IsDue two_a_second 0 10 1 (Nanos 20) (Some 30)
@@ -92,30 +92,30 @@ unfolding command_row most_sources ways
 trace =
     thus (opens [] (still start 0 refl) 128 (codes "a") 8 8 (simp finds) refl refl)
     (thus (changes [] (still s1 0 refl) 128 (CreateQueue 0 480 500000) owner (simp finds))
-    (thus (changes [] (still s2 0 refl) 128 (Share (queue_at 128 0)) sharing (simp finds))
+    (thus (changes [] (still s2 0 refl) 128 (Share (a_queue 128 0)) sharing (simp finds))
     (thus (opens [] (still s3 0 refl) 129 (codes "b") 8 8 (simp finds) refl refl)
-    (thus (changes [] (still s4 0 refl) 129 (CreatePort 0 (codes "in") (caps 66)) (listener 8 66)
+    (thus (changes [] (still s4 0 refl) 129 (CreatePort 0 (codes "in") (caps_by_bits 66)) (listener 8 66)
     (simp finds))
     (becomes-sender [] s5 130 0 (codes "c") 2 (nothing-pending s5 0 0 refl) refl (simp finds) refl
     refl
     (thus (connects [] (still s7 1 refl) 129 (port_addr 130 0) (port_addr 129 0) (simp finds))
-    (thus (schedules [] (still s8 1 refl) 130 (queue_at 128 0) 0 (due_at.Nanos 20) (note 0x01)
+    (thus (schedules [] (still s8 1 refl) 130 (a_queue 128 0) 0 (due_at.Nanos 20) (a_note 0x01)
     (Nanos 20) (simp finds))
-    (thus (schedules [] (sorts s9 1 s9 [] (simp (finds, moment-held))) 130 (queue_at 128 0) 0
-    (due_at.Nanos 100) (note 0x02) (Nanos 100) (simp finds))
-    (thus (asks-queue [] (sorts s10 1 s10 [] (simp (finds, moment-held))) 130 (queue_at 128 0)
+    (thus (schedules [] (sorts s9 1 s9 [] (simp (finds, moment-held))) 130 (a_queue 128 0) 0
+    (due_at.Nanos 100) (a_note 0x02) (Nanos 100) (simp finds))
+    (thus (asks-queue [] (sorts s10 1 s10 [] (simp (finds, moment-held))) 130 (a_queue 128 0)
     (Queue false 0 0) (simp finds) (simp (finds, tick-at_first)))
-    (thus (refuses [] (sorts s10 1 s10 [] (simp (finds, moment-held))) 130 (Start (queue_at 128 0))
+    (thus (refuses [] (sorts s10 1 s10 [] (simp (finds, moment-held))) 130 (Start (a_queue 128 0))
     refusal.NotYours (simp finds))
     (thus (refuses [] (sorts s10 1 s10 [] (simp (finds, moment-held))) 130
-    (QueueStatus (queue_at 128 1)) refusal.NotYours (simp finds))
-    (thus (changes [] (sorts s10 10 s10 [] (simp (finds, moment-held))) 128 (Start (queue_at 128 0))
+    (QueueStatus (a_queue 128 1)) refusal.NotYours (simp finds))
+    (thus (changes [] (sorts s10 10 s10 [] (simp (finds, moment-held))) 128 (Start (a_queue 128 0))
     started (simp finds))
-    (thus (gives-up [] (sorts s14 60 u14 (came 30 129 0 (note 0x01) ∷ [])
-    (simp (finds, paths-ways, first, second))) 128 (DeleteQueue (queue_at 128 0))
+    (thus (gives-up [] (sorts s14 60 u14 (a_delivery 30 129 0 (a_note 0x01) ∷ [])
+    (simp (finds, paths-ways, first, second))) 128 (DeleteQueue (a_queue 128 0))
     (put_queue 0 None started) (λ n. false) (λ p. false) (λ n. n == 0) (simp finds))
     (thus (asks [] (still s15 60 refl) 130 (Pools 0 0 0) (simp finds) (simp finds))
-    (thus (refuses [] (still s15 61 refl) 130 (QueueStatus (queue_at 128 0)) refusal.NotYours
+    (thus (refuses [] (still s15 61 refl) 130 (QueueStatus (a_queue 128 0)) refusal.NotYours
     (simp finds)) ends)))))))))))))))
 
 pub run : SharedQueue

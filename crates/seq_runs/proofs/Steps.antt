@@ -16,7 +16,7 @@ use Rattle.seq_state.specs.Refusals.{number_of}
 use Rattle.seq_state.specs.State.{State}
 use Rattle.seq_state.specs.Table.{command_row}
 use Rattle.seq_state.specs.Step.{settle, Stepped, unless, refusal_of, effect_of, step}
-use Rattle.seq_runs.specs.Rows.{at, caps, queue_at, note, waits}
+use Rattle.seq_runs.specs.Rows.{an_input, caps_by_bits, a_queue, a_note, an_arrival}
 use Rattle.seq_runs.specs.Steps.{hall, both_waiting, files, EachStep}
 use Rattle.seq_runs.proofs.Worked.{settled_to, command-step, refused-step, settle-sorted, settle-still, tick-at_first, ways, paths-ways, finds}
 
@@ -46,82 +46,82 @@ pub each_step : EachStep
 unfolding command_row ways begins kind_of_status
 each_step = record {
   two_filters =
-      let i : Input = at 5 128 (Send 0 (note 60)) in
+      let i : Input = an_input 5 128 (Send 0 (a_note 60)) in
       ap (λ a. a.delivered) (taken hall i still (simp finds)) ∙ simp (finds, paths-ways);
   below_the_second =
-      let i : Input = at 5 128 (Send 0 (note 59)) in
+      let i : Input = an_input 5 128 (Send 0 (a_note 59)) in
       ap (λ a. a.delivered) (taken hall i still (simp finds)) ∙ simp (finds, paths-ways);
   port_one =
-      let i : Input = at 5 130 (Send 0 (note 60)) in
+      let i : Input = an_input 5 130 (Send 0 (a_note 60)) in
       ap (λ a. a.delivered) (taken hall i still (simp finds)) ∙ simp (finds, paths-ways);
   port_one_waits =
-      let i : Input = at 5 130 (Send 0 (note 60)) in
+      let i : Input = an_input 5 130 (Send 0 (a_note 60)) in
       ap (λ a. FinMap.get a.state.pools 129) (taken hall i still (simp finds))
       ∙ simp (finds, paths-ways);
-  play_on_shared = replies hall (at 5 130 (Play (queue_at 128 0) 0 0)) still Done (simp finds) refl;
+  play_on_shared = replies hall (an_input 5 130 (Play (a_queue 128 0) 0 0)) still Done (simp finds) refl;
   schedule_on_shared =
-      replies hall (at 5 130 (Schedule (queue_at 128 0) 0 (due_at.Nanos 9) (note 60))) still Done
+      replies hall (an_input 5 130 (Schedule (a_queue 128 0) 0 (due_at.Nanos 9) (a_note 60))) still Done
       (simp finds) refl;
   status_of_shared =
-      replies hall (at 5 130 (QueueStatus (queue_at 128 0))) still (Queue false 0 0) (simp finds)
+      replies hall (an_input 5 130 (QueueStatus (a_queue 128 0))) still (Queue false 0 0) (simp finds)
       (simp (finds, tick-at_first));
   start_of_shared =
-      refuses hall (at 5 130 (Start (queue_at 128 0))) still refusal.NotYours (simp finds);
+      refuses hall (an_input 5 130 (Start (a_queue 128 0))) still refusal.NotYours (simp finds);
   stop_of_shared =
-      refuses hall (at 5 130 (Stop (queue_at 128 0))) still refusal.NotYours (simp finds);
+      refuses hall (an_input 5 130 (Stop (a_queue 128 0))) still refusal.NotYours (simp finds);
   continue_of_shared =
-      refuses hall (at 5 130 (Continue (queue_at 128 0))) still refusal.NotYours (simp finds);
+      refuses hall (an_input 5 130 (Continue (a_queue 128 0))) still refusal.NotYours (simp finds);
   tempo_of_shared =
-      refuses hall (at 5 130 (Tempo (queue_at 128 0) 250000)) still refusal.NotYours (simp finds);
+      refuses hall (an_input 5 130 (Tempo (a_queue 128 0) 250000)) still refusal.NotYours (simp finds);
   share_of_shared =
-      refuses hall (at 5 130 (Share (queue_at 128 0))) still refusal.NotYours (simp finds);
+      refuses hall (an_input 5 130 (Share (a_queue 128 0))) still refusal.NotYours (simp finds);
   delete_of_shared =
-      refuses hall (at 5 130 (DeleteQueue (queue_at 128 0))) still refusal.NotYours (simp finds);
+      refuses hall (an_input 5 130 (DeleteQueue (a_queue 128 0))) still refusal.NotYours (simp finds);
   used_by_guest =
-      replies both_waiting (at 0 130 PoolStatus) held (Pools 0 0 1) (simp finds) (simp finds);
+      replies both_waiting (an_input 0 130 PoolStatus) held (Pools 0 0 1) (simp finds) (simp finds);
   used_by_host =
-      replies both_waiting (at 0 128 PoolStatus) held (Pools 0 0 1) (simp finds) (simp finds);
+      replies both_waiting (an_input 0 128 PoolStatus) held (Pools 0 0 1) (simp finds) (simp finds);
   used_by_listener =
-      replies both_waiting (at 0 129 PoolStatus) held (Pools 1 5 0) (simp finds) (simp finds);
+      replies both_waiting (an_input 0 129 PoolStatus) held (Pools 1 5 0) (simp finds) (simp finds);
   dropped_by_guest =
-      let i : Input = at 0 130 DropOutput in
+      let i : Input = an_input 0 130 DropOutput in
       ap (λ a. a.state.pending) (taken both_waiting i held (simp finds));
   dropped_by_host =
-      let i : Input = at 0 128 DropOutput in
+      let i : Input = an_input 0 128 DropOutput in
       ap (λ a. a.state.pending) (taken both_waiting i held (simp finds));
-  shared_twice = replies hall (at 5 128 (Share (queue_at 128 0))) still Done (simp finds) refl;
+  shared_twice = replies hall (an_input 5 128 (Share (a_queue 128 0))) still Done (simp finds) refl;
   made_private = made;
-  least_sizes = replies hall (at 5 131 (Open (codes "d") 1 1)) still Done (simp finds) refl;
+  least_sizes = replies hall (an_input 5 131 (Open (codes "d") 1 1)) still Done (simp finds) refl;
   greatest_sizes =
-      replies hall (at 5 131 (Open (codes "d") 2000 2000)) still Done (simp finds) refl;
+      replies hall (an_input 5 131 (Open (codes "d") 2000 2000)) still Done (simp finds) refl;
   longest_name =
-      replies hall (at 5 128 (CreatePort 1 (codes "abcdefghijklmnopqrstuvwxyz012345") (caps 0)))
+      replies hall (an_input 5 128 (CreatePort 1 (codes "abcdefghijklmnopqrstuvwxyz012345") (caps_by_bits 0)))
       still Done (simp finds) refl;
-  least_queue = replies hall (at 5 128 (CreateQueue 3 1 1)) still Done (simp finds) refl;
+  least_queue = replies hall (an_input 5 128 (CreateQueue 3 1 1)) still Done (simp finds) refl;
   greatest_queue =
-      replies hall (at 5 128 (CreateQueue 3 32767 16777215)) still Done (simp finds) refl;
+      replies hall (an_input 5 128 (CreateQueue 3 32767 16777215)) still Done (simp finds) refl;
   receive_one =
-      replies hall (at 5 129 (Receive 1)) still (Received (waits 3 0 (note 1) ∷ [])) (simp finds)
+      replies hall (an_input 5 129 (Receive 1)) still (Received (an_arrival 3 0 (a_note 1) ∷ [])) (simp finds)
       (simp finds);
   receive_many =
-      replies hall (at 5 129 (Receive 2000)) still (Received (waits 3 0 (note 1) ∷ [])) (simp finds)
+      replies hall (an_input 5 129 (Receive 2000)) still (Received (an_arrival 3 0 (a_note 1) ∷ [])) (simp finds)
       (simp finds);
   greatest_time =
-      replies hall (at 5 128 (Schedule (queue_at 128 0) 0 (due_at.NanosAfter (2 ^ 64 - 1))
-      (note 60))) still Done (simp finds) refl;
+      replies hall (an_input 5 128 (Schedule (a_queue 128 0) 0 (due_at.NanosAfter (2 ^ 64 - 1))
+      (a_note 60))) still Done (simp finds) refl;
   greatest_tick =
-      replies hall (at 5 128 (Schedule (queue_at 128 0) 0 (due_at.TickAfter (2 ^ 64 - 1))
-      (note 60))) still Done (simp (finds, tick-at_first)) refl;
+      replies hall (an_input 5 128 (Schedule (a_queue 128 0) 0 (due_at.TickAfter (2 ^ 64 - 1))
+      (a_note 60))) still Done (simp (finds, tick-at_first)) refl;
 }
   where
     i : Input
-    i = at 5 128 (CreateQueueFrom 3 0)
+    i = an_input 5 128 (CreateQueueFrom 3 0)
 
     u : State
     u = (effect_of files hall 5 128 i.command).state
 
     asks : Input
-    asks = at 5 130 (QueueStatus (queue_at 128 3))
+    asks = an_input 5 130 (QueueStatus (a_queue 128 3))
 
     made : (step files (step files hall i).state asks).reply ≡ Refused 16
     made =

@@ -14,7 +14,7 @@ use Rattle.seq_state.specs.State.{Client, State, start}
 use Rattle.seq_state.specs.Own.{new_client, new_port, put_port}
 use Rattle.seq_state.specs.Table.{command_row}
 use Rattle.seq_state.specs.Step.{Stepped, port_addr}
-use Rattle.seq_runs.specs.Rows.{caps, note, came, waits, third_clients, is_one_of_two, ThirdClients}
+use Rattle.seq_runs.specs.Rows.{caps_by_bits, a_note, a_delivery, an_arrival, third_clients, is_one_of_two, ThirdClients}
 use Rattle.seq_runs.proofs.Traces.{Trace, ends, thus, quiet, trace-log, StaysClosed, stays, stayed, closed-trace, trace-closed}
 use Rattle.seq_runs.proofs.CommandSteps.{holding, pooled, filled, opened, joined, parted, still, refuses, opens, changes, connects, parts, feeds}
 use Rattle.seq_runs.proofs.Beginnings.{entered, arrived}
@@ -22,16 +22,16 @@ use Rattle.seq_runs.proofs.Worked.{to, ways, paths-ways, finds}
 
 -- a client whose port 0 is not to be exported, and whose port 1 others may not subscribe to
 abbrev with_one : Client
-with_one = put_port 0 (Some (new_port (codes "o") (caps 161))) (new_client (codes "a") 8 8)
+with_one = put_port 0 (Some (new_port (codes "o") (caps_by_bits 161))) (new_client (codes "a") 8 8)
 
 abbrev with_both : Client
-with_both = put_port 1 (Some (new_port (codes "o") (caps 1))) with_one
+with_both = put_port 1 (Some (new_port (codes "o") (caps_by_bits 1))) with_one
 
 abbrev fed : Client
-fed = put_port 1 (Some (record (new_port (codes "o") (caps 1)) { fed = 0x90 ∷ [] })) with_both
+fed = put_port 1 (Some (record (new_port (codes "o") (caps_by_bits 1)) { fed = 0x90 ∷ [] })) with_both
 
 abbrev target : Client
-target = put_port 0 (Some (new_port (codes "i") (caps 66))) (new_client (codes "b") 8 8)
+target = put_port 0 (Some (new_port (codes "i") (caps_by_bits 66))) (new_client (codes "b") 8 8)
 
 abbrev s1 : State
 s1 = entered start 128 (codes "a") 8
@@ -61,25 +61,25 @@ abbrev s11 : State
 s11 = parted s10 (port_addr 128 0) (port_addr 129 0)
 
 abbrev s14 : State
-s14 = pooled (holding s11 128 fed) 129 (filled 8 (waits 4 0 (note 0x3C) ∷ []) 0)
+s14 = pooled (holding s11 128 fed) 129 (filled 8 (an_arrival 4 0 (a_note 0x3C) ∷ []) 0)
 
 abbrev after : List Stepped
 after =
     quiet (s1 ∷ s2 ∷ s3 ∷ s4 ∷ s5 ∷ s6 ∷ []) ++ to s6 [] (Refused 10) ∷ to s8 [] Done
     ∷ to s8 [] (Refused 10) ∷ to s10 [] Done ∷ to s11 [] Done
     ∷ to s11 [] (Refused 12) ∷ to s11 [] (Refused 10)
-    ∷ to s14 (came 4 129 0 (note 0x3C) ∷ []) (Messages 1) ∷ []
+    ∷ to s14 (a_delivery 4 129 0 (a_note 0x3C) ∷ []) (Messages 1) ∷ []
 
 trace : Trace [] start third_clients after
 unfolding command_row most_sources ways begins kind_of_status reading rest
 trace =
     thus (opens [] (still start 0 refl) 128 (codes "a") 8 8 (simp finds) refl refl)
-    (thus (changes [] (still s1 0 refl) 128 (CreatePort 0 (codes "o") (caps 161)) with_one
+    (thus (changes [] (still s1 0 refl) 128 (CreatePort 0 (codes "o") (caps_by_bits 161)) with_one
     (simp finds))
-    (thus (changes [] (still s2 0 refl) 128 (CreatePort 1 (codes "o") (caps 1)) with_both
+    (thus (changes [] (still s2 0 refl) 128 (CreatePort 1 (codes "o") (caps_by_bits 1)) with_both
     (simp finds))
     (thus (opens [] (still s3 0 refl) 129 (codes "b") 8 8 (simp finds) refl refl)
-    (thus (changes [] (still s4 0 refl) 129 (CreatePort 0 (codes "i") (caps 66)) target
+    (thus (changes [] (still s4 0 refl) 129 (CreatePort 0 (codes "i") (caps_by_bits 66)) target
     (simp finds))
     (thus (opens [] (still s5 0 refl) 130 (codes "c") 8 8 (simp finds) refl refl)
     (thus (refuses [] (still s6 0 refl) 130 (Connect (port_addr 128 0) (port_addr 129 0))
@@ -93,8 +93,8 @@ trace =
     refusal.NotConnected (simp finds))
     (thus (refuses [] (still s11 3 refl) 130 (Disconnect (port_addr 128 1) (port_addr 129 0))
     refusal.NotPermitted (simp finds))
-    (thus (feeds [] (still s11 4 refl) 128 1 (0x90 ∷ 0x3C ∷ 0x40 ∷ []) fed (note 0x3C ∷ []) s14
-    (came 4 129 0 (note 0x3C) ∷ []) (simp finds) (simp (finds, paths-ways))) ends)))))))))))))
+    (thus (feeds [] (still s11 4 refl) 128 1 (0x90 ∷ 0x3C ∷ 0x40 ∷ []) fed (a_note 0x3C ∷ []) s14
+    (a_delivery 4 129 0 (a_note 0x3C) ∷ []) (simp finds) (simp (finds, paths-ways))) ends)))))))))))))
 
 pub run : ThirdClients
 run = trace-log trace (still s14 10 refl)

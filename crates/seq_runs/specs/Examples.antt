@@ -18,18 +18,18 @@ use Rattle.seq_state.specs.Refusals.{number_of}
 use Rattle.seq_state.specs.State.{PortInfo, FilterInfo, Queue, Client, Pool, State, start}
 use Rattle.seq_state.specs.Own.{held_queue, one_tempo}
 use Rattle.seq_state.specs.Step.{offer, step, port_addr}
-use Rattle.seq_runs.specs.Rows.{at, caps, filter_addr, queue_at, note, came, waits}
+use Rattle.seq_runs.specs.Rows.{an_input, caps_by_bits, filter_addr, a_queue, a_note, a_delivery, an_arrival}
 
 -- ---- the states
 
 abbrev pub out_port : PortInfo
-out_port = record { name = codes "out"; caps = caps 33; fed = [] }
+out_port = record { name = codes "out"; caps = caps_by_bits 33; fed = [] }
 
 abbrev pub in_port : PortInfo
-in_port = record { name = codes "in"; caps = caps 66; fed = [] }
+in_port = record { name = codes "in"; caps = caps_by_bits 66; fed = [] }
 
 abbrev pub thru : FilterInfo
-thru = record { caps = caps 99; rule = open_rule }
+thru = record { caps = caps_by_bits 99; rule = open_rule }
 
 -- ports that others may read, with the numbers below n
 abbrev pub out_ports : ℕ → FinMap nat_cmp PortInfo
@@ -71,8 +71,8 @@ studio =
       pending = [];
     }
 
-abbrev pub numbers : List ℕ
-numbers = 0 ∷ 1 ∷ 2 ∷ 3 ∷ 4 ∷ 5 ∷ 6 ∷ 7 ∷ 8 ∷ 9 ∷ 10 ∷ 11 ∷ 12 ∷ 13 ∷ 14 ∷ 15 ∷ []
+abbrev pub port_numbers : List ℕ
+port_numbers = 0 ∷ 1 ∷ 2 ∷ 3 ∷ 4 ∷ 5 ∷ 6 ∷ 7 ∷ 8 ∷ 9 ∷ 10 ∷ 11 ∷ 12 ∷ 13 ∷ 14 ∷ 15 ∷ []
 
 -- two players with sixteen ports each, all of which the listener hears
 abbrev pub crowd : State
@@ -80,13 +80,13 @@ crowd =
     record {
       clients = FinMap.insert (FinMap.insert (FinMap.insert FinMap.empty 128 (player 16)) 129 listener) 130 (player 16);
       pools = FinMap.insert (FinMap.insert (FinMap.insert FinMap.empty 128 pool) 129 pool) 130 pool;
-      edges = map (λ n. edge (port_addr 128 n) (port_addr 129 0)) numbers ++ map (λ n. edge (port_addr 130 n) (port_addr 129 0)) numbers;
+      edges = map (λ n. edge (port_addr 128 n) (port_addr 129 0)) port_numbers ++ map (λ n. edge (port_addr 130 n) (port_addr 129 0)) port_numbers;
       pending = [];
     }
 
 -- the player has an event on a queue that is held
-abbrev pub waiting : State
-waiting = record studio { pending = record { client = 128; queue = queue_at 128 0; playback = record { port = 0; accepted = 0; events = record { due = Nanos 5; message = note 60 } ∷ [] } } ∷ [] }
+abbrev pub waiting_player : State
+waiting_player = record studio { pending = record { client = 128; queue = a_queue 128 0; playback = record { port = 0; accepted = 0; events = record { due = Nanos 5; message = a_note 60 } ∷ [] } } ∷ [] }
 
 -- one file without events, of 480 ticks per quarter note
 abbrev pub files : List File
@@ -94,48 +94,48 @@ files = record { division = 480; entries = record { tick = 0; tempo = 500000 } �
 
 -- ---- the answers
 
-abbrev pub Refuses : State → Input → Refusal → Type 0
-Refuses s i r = (step files s i).reply ≡ Refused (number_of r)
+abbrev pub IsRefused : State → Input → Refusal → Type 0
+IsRefused s i r = (step files s i).reply ≡ Refused (number_of r)
 
 pub record EachRefusal : Type 0 where
-  pub not_open : Refuses start (at 0 128 Close) refusal.NotOpen
+  pub not_open : IsRefused start (an_input 0 128 Close) refusal.NotOpen
   -- the sizes are not looked at
-  pub already_open : Refuses studio (at 0 128 (Open (codes "a") 0 8)) refusal.AlreadyOpen
+  pub already_open : IsRefused studio (an_input 0 128 (Open (codes "a") 0 8)) refusal.AlreadyOpen
   -- a name has no space
-  pub bad_name : Refuses start (at 0 128 (Open (codes "a b") 0 8)) refusal.BadName
-  pub bad_size : Refuses start (at 0 128 (Open (codes "a") 0 8)) refusal.BadSize
+  pub bad_name : IsRefused start (an_input 0 128 (Open (codes "a b") 0 8)) refusal.BadName
+  pub bad_size : IsRefused start (an_input 0 128 (Open (codes "a") 0 8)) refusal.BadSize
   -- the lowest note is above the highest
-  pub bad_rule : Refuses studio (at 0 128 (CreateFilter 0 (caps 99) (record open_rule { low = 60; high = 50 }))) refusal.BadRule
-  pub node_exists : Refuses studio (at 0 128 (CreatePort 0 (codes "out") (caps 33))) refusal.NodeExists
-  pub no_node : Refuses studio (at 0 128 (DeletePort 1)) refusal.NoNode
+  pub bad_rule : IsRefused studio (an_input 0 128 (CreateFilter 0 (caps_by_bits 99) (record open_rule { low = 60; high = 50 }))) refusal.BadRule
+  pub node_exists : IsRefused studio (an_input 0 128 (CreatePort 0 (codes "out") (caps_by_bits 33))) refusal.NodeExists
+  pub no_node : IsRefused studio (an_input 0 128 (DeletePort 1)) refusal.NoNode
   -- the target is not there either
-  pub no_sender : Refuses studio (at 0 128 (Connect (port_addr 128 1) (port_addr 128 2))) refusal.NoSender
-  pub no_dest : Refuses studio (at 0 128 (Connect (port_addr 128 0) (port_addr 129 1))) refusal.NoDest
+  pub no_sender : IsRefused studio (an_input 0 128 (Connect (port_addr 128 1) (port_addr 128 2))) refusal.NoSender
+  pub no_dest : IsRefused studio (an_input 0 128 (Connect (port_addr 128 0) (port_addr 129 1))) refusal.NoDest
   -- the source has no READ, and the target no WRITE
-  pub not_permitted : Refuses studio (at 0 128 (Connect (port_addr 129 0) (port_addr 128 0))) refusal.NotPermitted
-  pub already_connected : Refuses studio (at 0 129 (Connect (port_addr 128 0) (port_addr 129 0))) refusal.AlreadyConnected
-  pub not_connected : Refuses studio (at 0 129 (Disconnect (filter_addr 128 0) (port_addr 129 0))) refusal.NotConnected
+  pub not_permitted : IsRefused studio (an_input 0 128 (Connect (port_addr 129 0) (port_addr 128 0))) refusal.NotPermitted
+  pub already_connected : IsRefused studio (an_input 0 129 (Connect (port_addr 128 0) (port_addr 129 0))) refusal.AlreadyConnected
+  pub not_connected : IsRefused studio (an_input 0 129 (Disconnect (filter_addr 128 0) (port_addr 129 0))) refusal.NotConnected
   -- thirty-two are there already
-  pub sources_full : Refuses crowd (at 0 129 (Connect (filter_addr 128 0) (port_addr 129 0))) refusal.SourcesFull
+  pub sources_full : IsRefused crowd (an_input 0 129 (Connect (filter_addr 128 0) (port_addr 129 0))) refusal.SourcesFull
   -- a chain of filters would come back to its beginning
-  pub cycle : Refuses studio (at 0 128 (Connect (filter_addr 128 1) (filter_addr 128 0))) refusal.Cycle
+  pub cycle : IsRefused studio (an_input 0 128 (Connect (filter_addr 128 1) (filter_addr 128 0))) refusal.Cycle
   -- the tempo is not looked at
-  pub queue_exists : Refuses studio (at 0 128 (CreateQueue 0 96 0)) refusal.QueueExists
+  pub queue_exists : IsRefused studio (an_input 0 128 (CreateQueue 0 96 0)) refusal.QueueExists
   -- whether it is there or not
-  pub not_yours : Refuses studio (at 0 128 (Start (queue_at 129 0))) refusal.NotYours
-  pub no_queue : Refuses studio (at 0 128 (Start (queue_at 128 7))) refusal.NoQueue
-  pub queue_running : Refuses studio (at 0 128 (Start (queue_at 128 1))) refusal.QueueRunning
-  pub queue_stopped : Refuses studio (at 0 128 (Stop (queue_at 128 0))) refusal.QueueStopped
-  pub no_file : Refuses studio (at 0 128 (Play (queue_at 128 0) 0 1)) refusal.NoFile
-  pub division_differs : Refuses studio (at 0 128 (Play (queue_at 128 0) 0 0)) refusal.DivisionDiffers
-  pub bad_tempo : Refuses studio (at 0 128 (CreateQueue 3 96 0)) refusal.BadTempo
+  pub not_yours : IsRefused studio (an_input 0 128 (Start (a_queue 129 0))) refusal.NotYours
+  pub no_queue : IsRefused studio (an_input 0 128 (Start (a_queue 128 7))) refusal.NoQueue
+  pub queue_running : IsRefused studio (an_input 0 128 (Start (a_queue 128 1))) refusal.QueueRunning
+  pub queue_stopped : IsRefused studio (an_input 0 128 (Stop (a_queue 128 0))) refusal.QueueStopped
+  pub no_file : IsRefused studio (an_input 0 128 (Play (a_queue 128 0) 0 1)) refusal.NoFile
+  pub division_differs : IsRefused studio (an_input 0 128 (Play (a_queue 128 0) 0 0)) refusal.DivisionDiffers
+  pub bad_tempo : IsRefused studio (an_input 0 128 (CreateQueue 3 96 0)) refusal.BadTempo
   -- the present of the queue is 1
-  pub bad_time : Refuses studio (at 1 128 (Schedule (queue_at 128 1) 0 (due_at.NanosAfter (2 ^ 64 - 1)) (note 60))) refusal.BadTime
-  pub out_full : Refuses waiting (at 0 128 (Schedule (queue_at 128 0) 0 (due_at.Nanos 9) (note 60))) refusal.OutFull
+  pub bad_time : IsRefused studio (an_input 1 128 (Schedule (a_queue 128 1) 0 (due_at.NanosAfter (2 ^ 64 - 1)) (a_note 60))) refusal.BadTime
+  pub out_full : IsRefused waiting_player (an_input 0 128 (Schedule (a_queue 128 0) 0 (due_at.Nanos 9) (a_note 60))) refusal.OutFull
 
 -- a full pool whose count of lost messages has come to its greatest value stays as it is
 abbrev pub worn_out : Pool
-worn_out = record { size = 1; waiting = waits 0 0 (note 60) ∷ []; lost = 18446744073709551615 }
+worn_out = record { size = 1; waiting = an_arrival 0 0 (a_note 60) ∷ []; lost = 18446744073709551615 }
 
 abbrev pub LostStays : Type 0
-LostStays = offer (Some worn_out) (came 1 128 0 (note 61)) ≡ Some worn_out
+LostStays = offer (Some worn_out) (a_delivery 1 128 0 (a_note 61)) ≡ Some worn_out

@@ -14,17 +14,17 @@ use Rattle.seq_state.specs.Files.{File}
 use Rattle.seq_state.specs.State.{FilterInfo, Client, Pool, Pending, State}
 use Rattle.seq_state.specs.Own.{held_queue, one_tempo, public}
 use Rattle.seq_state.specs.Step.{step, port_addr}
-use Rattle.seq_runs.specs.Rows.{at, caps, filter_addr, queue_at, note, came, waits, song}
+use Rattle.seq_runs.specs.Rows.{an_input, caps_by_bits, filter_addr, a_queue, a_note, a_delivery, an_arrival, song}
 use Rattle.seq_runs.specs.Examples.{out_port, in_port}
 
 -- ---- the state
 
 -- a filter that raises notes by a fifth, and one that lets none pass below 67 and raises by an octave
 abbrev pub fifth : FilterInfo
-fifth = record { caps = caps 99; rule = moved_by (pos 7) }
+fifth = record { caps = caps_by_bits 99; rule = moved_by (pos 7) }
 
 abbrev pub high_octave : FilterInfo
-high_octave = record { caps = caps 99; rule = record (moved_by (pos 12)) { low = 67 } }
+high_octave = record { caps = caps_by_bits 99; rule = record (moved_by (pos 12)) { low = 67 } }
 
 -- a client with a port, both filters, and two queues that are held at 0, of which others may use the first
 abbrev pub host : Client
@@ -64,7 +64,7 @@ guest =
 
 -- what the listener has waiting, and what found no room before
 abbrev pub half_full : Pool
-half_full = record { size = 2; waiting = waits 3 0 (note 1) ∷ []; lost = 5 }
+half_full = record { size = 2; waiting = an_arrival 3 0 (a_note 1) ∷ []; lost = 5 }
 
 -- the host's port leads through both filters to the listener's port 0, and the guest's to its port 1
 abbrev pub hall : State
@@ -81,16 +81,16 @@ hall =
     }
 
 -- an event of the guest's, and one of the host's, on the host's first queue
-abbrev pub event_of : ℕ → Pending
-event_of client =
+abbrev pub pending_event : ℕ → Pending
+pending_event client =
     record {
       client = client;
-      queue = queue_at 128 0;
-      playback = record { port = 0; accepted = 0; events = record { due = Nanos 5; message = note 60 } ∷ [] };
+      queue = a_queue 128 0;
+      playback = record { port = 0; accepted = 0; events = record { due = Nanos 5; message = a_note 60 } ∷ [] };
     }
 
 abbrev pub both_waiting : State
-both_waiting = record hall { pending = event_of 130 ∷ event_of 128 ∷ [] }
+both_waiting = record hall { pending = pending_event 130 ∷ pending_event 128 ∷ [] }
 
 abbrev pub files : List File
 files = song ∷ []
@@ -107,44 +107,44 @@ Delivers s i ds = (step files s i).delivered ≡ ds
 
 pub record EachStep : Type 0 where
   -- a message goes through the filters in the order of the path: 60 would not pass the second one first
-  pub two_filters : Delivers hall (at 5 128 (Send 0 (note 60))) (came 5 129 0 (note 79) ∷ [])
+  pub two_filters : Delivers hall (an_input 5 128 (Send 0 (a_note 60))) (a_delivery 5 129 0 (a_note 79) ∷ [])
   -- the second filter tests what the first made of it
-  pub below_the_second : Delivers hall (at 5 128 (Send 0 (note 59))) []
+  pub below_the_second : Delivers hall (an_input 5 128 (Send 0 (a_note 59))) []
   -- a delivery and an arrival name the port that the message came to
-  pub port_one : Delivers hall (at 5 130 (Send 0 (note 60))) (came 5 129 1 (note 60) ∷ [])
+  pub port_one : Delivers hall (an_input 5 130 (Send 0 (a_note 60))) (a_delivery 5 129 1 (a_note 60) ∷ [])
   pub port_one_waits :
-      FinMap.get (step files hall (at 5 130 (Send 0 (note 60)))).state.pools 129
-      ≡ Some (record half_full { waiting = waits 3 0 (note 1) ∷ waits 5 1 (note 60) ∷ [] })
+      FinMap.get (step files hall (an_input 5 130 (Send 0 (a_note 60)))).state.pools 129
+      ≡ Some (record half_full { waiting = an_arrival 3 0 (a_note 1) ∷ an_arrival 5 1 (a_note 60) ∷ [] })
   -- who may use another's shared queue plays on it, schedules on it and asks what it shows
-  pub play_on_shared : Replies hall (at 5 130 (Play (queue_at 128 0) 0 0)) Done
-  pub schedule_on_shared : Replies hall (at 5 130 (Schedule (queue_at 128 0) 0 (due_at.Nanos 9) (note 60))) Done
-  pub status_of_shared : Replies hall (at 5 130 (QueueStatus (queue_at 128 0))) (Queue false 0 0)
+  pub play_on_shared : Replies hall (an_input 5 130 (Play (a_queue 128 0) 0 0)) Done
+  pub schedule_on_shared : Replies hall (an_input 5 130 (Schedule (a_queue 128 0) 0 (due_at.Nanos 9) (a_note 60))) Done
+  pub status_of_shared : Replies hall (an_input 5 130 (QueueStatus (a_queue 128 0))) (Queue false 0 0)
   -- and does nothing else to it
-  pub start_of_shared : Replies hall (at 5 130 (Start (queue_at 128 0))) (Refused 16)
-  pub stop_of_shared : Replies hall (at 5 130 (Stop (queue_at 128 0))) (Refused 16)
-  pub continue_of_shared : Replies hall (at 5 130 (Continue (queue_at 128 0))) (Refused 16)
-  pub tempo_of_shared : Replies hall (at 5 130 (Tempo (queue_at 128 0) 250000)) (Refused 16)
-  pub share_of_shared : Replies hall (at 5 130 (Share (queue_at 128 0))) (Refused 16)
-  pub delete_of_shared : Replies hall (at 5 130 (DeleteQueue (queue_at 128 0))) (Refused 16)
+  pub start_of_shared : Replies hall (an_input 5 130 (Start (a_queue 128 0))) (Refused 16)
+  pub stop_of_shared : Replies hall (an_input 5 130 (Stop (a_queue 128 0))) (Refused 16)
+  pub continue_of_shared : Replies hall (an_input 5 130 (Continue (a_queue 128 0))) (Refused 16)
+  pub tempo_of_shared : Replies hall (an_input 5 130 (Tempo (a_queue 128 0) 250000)) (Refused 16)
+  pub share_of_shared : Replies hall (an_input 5 130 (Share (a_queue 128 0))) (Refused 16)
+  pub delete_of_shared : Replies hall (an_input 5 130 (DeleteQueue (a_queue 128 0))) (Refused 16)
   -- what a client has pending counts as its own, on whoever's queue
-  pub used_by_guest : Replies both_waiting (at 0 130 PoolStatus) (Pools 0 0 1)
-  pub used_by_host : Replies both_waiting (at 0 128 PoolStatus) (Pools 0 0 1)
-  pub used_by_listener : Replies both_waiting (at 0 129 PoolStatus) (Pools 1 5 0)
+  pub used_by_guest : Replies both_waiting (an_input 0 130 PoolStatus) (Pools 0 0 1)
+  pub used_by_host : Replies both_waiting (an_input 0 128 PoolStatus) (Pools 0 0 1)
+  pub used_by_listener : Replies both_waiting (an_input 0 129 PoolStatus) (Pools 1 5 0)
   -- DropOutput drops the actor's and no other's, on whoever's queue
-  pub dropped_by_guest : (step files both_waiting (at 0 130 DropOutput)).state.pending ≡ event_of 128 ∷ []
-  pub dropped_by_host : (step files both_waiting (at 0 128 DropOutput)).state.pending ≡ event_of 130 ∷ []
+  pub dropped_by_guest : (step files both_waiting (an_input 0 130 DropOutput)).state.pending ≡ pending_event 128 ∷ []
+  pub dropped_by_host : (step files both_waiting (an_input 0 128 DropOutput)).state.pending ≡ pending_event 130 ∷ []
   -- a queue may be shared twice
-  pub shared_twice : Replies hall (at 5 128 (Share (queue_at 128 0))) Done
+  pub shared_twice : Replies hall (an_input 5 128 (Share (a_queue 128 0))) Done
   -- a queue that is made from a file is private
   pub made_private :
-      Replies (step files hall (at 5 128 (CreateQueueFrom 3 0))).state (at 5 130 (QueueStatus (queue_at 128 3))) (Refused 16)
+      Replies (step files hall (an_input 5 128 (CreateQueueFrom 3 0))).state (an_input 5 130 (QueueStatus (a_queue 128 3))) (Refused 16)
   -- the least and the greatest of each range are taken
-  pub least_sizes : Replies hall (at 5 131 (Open (codes "d") 1 1)) Done
-  pub greatest_sizes : Replies hall (at 5 131 (Open (codes "d") 2000 2000)) Done
-  pub longest_name : Replies hall (at 5 128 (CreatePort 1 (codes "abcdefghijklmnopqrstuvwxyz012345") (caps 0))) Done
-  pub least_queue : Replies hall (at 5 128 (CreateQueue 3 1 1)) Done
-  pub greatest_queue : Replies hall (at 5 128 (CreateQueue 3 32767 16777215)) Done
-  pub receive_one : Replies hall (at 5 129 (Receive 1)) (Received (waits 3 0 (note 1) ∷ []))
-  pub receive_many : Replies hall (at 5 129 (Receive 2000)) (Received (waits 3 0 (note 1) ∷ []))
-  pub greatest_time : Replies hall (at 5 128 (Schedule (queue_at 128 0) 0 (due_at.NanosAfter (2 ^ 64 - 1)) (note 60))) Done
-  pub greatest_tick : Replies hall (at 5 128 (Schedule (queue_at 128 0) 0 (due_at.TickAfter (2 ^ 64 - 1)) (note 60))) Done
+  pub least_sizes : Replies hall (an_input 5 131 (Open (codes "d") 1 1)) Done
+  pub greatest_sizes : Replies hall (an_input 5 131 (Open (codes "d") 2000 2000)) Done
+  pub longest_name : Replies hall (an_input 5 128 (CreatePort 1 (codes "abcdefghijklmnopqrstuvwxyz012345") (caps_by_bits 0))) Done
+  pub least_queue : Replies hall (an_input 5 128 (CreateQueue 3 1 1)) Done
+  pub greatest_queue : Replies hall (an_input 5 128 (CreateQueue 3 32767 16777215)) Done
+  pub receive_one : Replies hall (an_input 5 129 (Receive 1)) (Received (an_arrival 3 0 (a_note 1) ∷ []))
+  pub receive_many : Replies hall (an_input 5 129 (Receive 2000)) (Received (an_arrival 3 0 (a_note 1) ∷ []))
+  pub greatest_time : Replies hall (an_input 5 128 (Schedule (a_queue 128 0) 0 (due_at.NanosAfter (2 ^ 64 - 1)) (a_note 60))) Done
+  pub greatest_tick : Replies hall (an_input 5 128 (Schedule (a_queue 128 0) 0 (due_at.TickAfter (2 ^ 64 - 1)) (a_note 60))) Done

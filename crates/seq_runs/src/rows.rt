@@ -4,7 +4,7 @@
 ghost use Rattle.seq_runs.specs.Conditions.{EachCondition};
 ghost use Rattle.seq_runs.specs.Examples.{EachRefusal, LostStays};
 ghost use Rattle.seq_runs.specs.Steps.{EachStep};
-ghost use Rattle.seq_runs.specs.Rows.{Circles, SendInside, OpenedAgain, NoisyStranger, EqualMoments, CopiesByEdgeAge, InputOverflow, OutputFull, ThirdClients, DeletedPort, SharedQueue, PlayedFile, DroppedOutput, ChangedFilter, QueueClock, ClosedClient, CountedFrames, RestartedQueue};
+ghost use Rattle.seq_runs.specs.Rows.{Circles, SendInside, OpenedAgain, NoisyStranger, EqualMoments, CopiesByEdgeAge, InputOverflow, OutputFull, ThirdClients, DeletedPort, SharedQueue, PlaysFile, DroppedOutput, ChangedFilter, QueueClock, ClosedClient, CountedFrames, RestartedQueue};
 
 /// Two clients each schedule a note for 100, the one with the greater number first. At equal moments the events come in the
 /// order of their commands, and with their own moment, not by client number nor with the moment of the settling step.
@@ -50,7 +50,7 @@ pub fn shared_queue()
 /// A file is played on a queue that is made from it and starts later. Its first event comes at the start; at equal moments the
 /// file's event comes before the one that was scheduled after the Play. Nothing is sent while the queue is held.
 pub fn played_file()
-    ensures { PlayedFile }
+    ensures { PlaysFile }
 {}
 
 /// A client with room for two has an event and a file pending, and is refused a third, though the file's first event has gone

@@ -16,14 +16,14 @@ use Rattle.seq_session.specs.Rising.{RiseFrom, AreRising}
 use Rattle.seq_session.specs.Merging.{merged}
 use Rattle.seq_session.specs.Logs.{log_text}
 use Rattle.seq_session.specs.AllLogs.{clients_read}
-use Rattle.seq_session.specs.Sessions.{Folder, read, log_of, all_logs, clients_of, script_for}
+use Rattle.seq_session.specs.Sessions.{Folder, read, log_of, all_logs, script_clients, script_for}
 use Rattle.seq_session.specs.Devices.{clients, told, AreOpen, Wrote, AreAlone, log_of_fault, IsReading, LogsTell}
 use Rattle.seq_session.proofs.Blamed.{none_told}
 use Rattle.seq_session.proofs.Isolated.{log_law}
 
 -- ---- the texts
 
-pub read-clients : (folder : Folder) (end : ℕ) (scripts : List Script) → clients_read (map (read folder end) scripts) ≡ clients_of scripts
+pub read-clients : (folder : Folder) (end : ℕ) (scripts : List Script) → clients_read (map (read folder end) scripts) ≡ script_clients scripts
 read-clients folder end [] = refl
 read-clients folder end (s ∷ scripts) =
     ap (λ c. c ∷ clients_read (map (read folder end) scripts)) (script-client s.client folder.names end s.text)
@@ -44,24 +44,24 @@ logs_made folder end scripts reads m entries r e p =
 
 -- ---- each log is isolated
 
-later_scripts : (s : Script) (low : ℕ) (ss xs : List Script) → s.client ≤ low → RiseFrom low (clients_of xs) → AllByRecursion (λ x. script_for x.client ss ≡ Some x) xs → AllByRecursion (λ x. script_for x.client (s ∷ ss) ≡ Some x) xs
+later_scripts : (s : Script) (low : ℕ) (ss xs : List Script) → s.client ≤ low → RiseFrom low (script_clients xs) → AllByRecursion (λ x. script_for x.client ss ≡ Some x) xs → AllByRecursion (λ x. script_for x.client (s ∷ ss) ≡ Some x) xs
 later_scripts s low ss [] l r h = tt
 later_scripts s low ss (x ∷ xs) l r h =
     let m : low < x.client = r.0 in
     (ap (λ b. cond b (Some s) (script_for x.client ss)) (ne_eqb s.client x.client (λ e. omega arith)) ∙ h.0, later_scripts s x.client ss xs (omega arith) r.1 h.1)
 
-own_from : (low : ℕ) (scripts : List Script) → RiseFrom low (clients_of scripts) → AllByRecursion (λ x. script_for x.client scripts ≡ Some x) scripts
+own_from : (low : ℕ) (scripts : List Script) → RiseFrom low (script_clients scripts) → AllByRecursion (λ x. script_for x.client scripts ≡ Some x) scripts
 own_from low [] r = tt
 own_from low (s ∷ scripts) r =
     (ap (λ b. cond b (Some s) (script_for s.client scripts)) (eq-eqb s.client s.client refl), later_scripts s s.client scripts scripts (omega arith) r.1 (own_from s.client scripts r.1))
 
 -- each client's script is the one that stands for it
-own_scripts : (scripts : List Script) → AreRising (clients_of scripts) → AllByRecursion (λ x. script_for x.client scripts ≡ Some x) scripts
+own_scripts : (scripts : List Script) → AreRising (script_clients scripts) → AllByRecursion (λ x. script_for x.client scripts ≡ Some x) scripts
 own_scripts [] r = tt
 own_scripts (s ∷ scripts) r =
     (ap (λ b. cond b (Some s) (script_for s.client scripts)) (eq-eqb s.client s.client refl), later_scripts s s.client scripts scripts (omega arith) r (own_from s.client scripts r))
 
-module _ {W : Type 0} (folder : Folder) (end : ℕ) (taken : W → List ℕ) (scripts : List Script) (rise : AreRising (clients_of scripts)) where
+module _ {W : Type 0} (folder : Folder) (end : ℕ) (taken : W → List ℕ) (scripts : List Script) (rise : AreRising (script_clients scripts)) where
   each_alone : (owners : List Script) (olds news : List W) → AllByRecursion (λ x. script_for x.client scripts ≡ Some x) owners → Wrote taken olds news (map (log_of folder end scripts) owners) → AreAlone folder end taken scripts owners olds news
   each_alone [] [] [] own h = tt
   each_alone [] [] (n ∷ news) own h = h
@@ -93,7 +93,7 @@ none_blamed failed eager blamed sources logs b n s =
     subst (λ bl. LogsTell failed eager bl (clients sources) logs) (sym b)
     (none_told failed eager (clients sources) logs (n ∙ sym (length-map sources (λ s. s.client))) s)
 
-pub told-clients : {R : Type 0} (left : R → List ℕ) (sources : List (ScriptSource R)) → clients_of (told left sources) ≡ clients sources
+pub told-clients : {R : Type 0} (left : R → List ℕ) (sources : List (ScriptSource R)) → script_clients (told left sources) ≡ clients sources
 told-clients left [] = refl
 told-clients left (s ∷ sources) = ap (λ cs. s.client ∷ cs) (told-clients left sources)
 

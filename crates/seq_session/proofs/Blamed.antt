@@ -6,7 +6,7 @@ use Rattle.std.proofs.lemmas.Bool.{false≢true, eqb-true, eq-eqb, ne_eqb}
 use Rattle.seq_session.specs.declared.source.ScriptSource.{ScriptSource}
 use Rattle.seq_session.specs.Rising.{RiseFrom, AreRising}
 use Rattle.seq_session.specs.declared.source.Script.{Script}
-use Rattle.seq_session.specs.Sessions.{clients_of}
+use Rattle.seq_session.specs.Sessions.{script_clients}
 use Rattle.seq_session.specs.Devices.{clients, script_told, told, AreSound, AreOpen, is_of, IsAmong, ReadersTell, IsTold, LogsTell}
 
 -- a client that is among those that rise from a number is above it
@@ -79,24 +79,24 @@ module _ {W : Type 0} (failed eager : W → Bool) where
   rest_log_told c cs blamed log logs told rise b more =
       (subst (IsTold (failed log) (eager log)) (sym (not_first c blamed cs rise b)) told, more)
 
-  told_both : (scripts rest : List Script) (x : Script) (old : W) (more logs : List W) → scripts ≡ x ∷ rest → logs ≡ old ∷ more → length logs ≡ length scripts → length more ≡ length (clients_of rest)
+  told_both : (scripts rest : List Script) (x : Script) (old : W) (more logs : List W) → scripts ≡ x ∷ rest → logs ≡ old ∷ more → length logs ≡ length scripts → length more ≡ length (script_clients rest)
   told_both scripts rest x old more logs e f n =
       let a : length logs ≡ length (old ∷ more) = ap length f in
       let b : length scripts ≡ length (x ∷ rest) = ap length e in
-      let d : length (clients_of rest) ≡ length rest = length-map rest (λ (s : Script). s.client) in omega arith
+      let d : length (script_clients rest) ≡ length rest = length-map rest (λ (s : Script). s.client) in omega arith
 
   pub first_log : (scripts rest : List Script) (x : Script) (blamed : Option ℕ) (old log : W) (more logs : List W) → scripts ≡ x ∷ rest → logs ≡ old ∷ more → blamed ≡ Some x.client → IsTold (failed log) (eager log) true →
-      AreRising (clients_of scripts) → length logs ≡ length scripts → AreOpen failed logs → LogsTell failed eager blamed (clients_of scripts) (log ∷ more)
+      AreRising (script_clients scripts) → length logs ≡ length scripts → AreOpen failed logs → LogsTell failed eager blamed (script_clients scripts) (log ∷ more)
   first_log scripts rest x blamed old log more logs e f b t r n s =
-      subst (λ bl. LogsTell failed eager bl (clients_of scripts) (log ∷ more)) (sym b)
-      (subst (λ ss. LogsTell failed eager (Some x.client) (clients_of ss) (log ∷ more)) (sym e)
-      (first_log_told x.client (clients_of rest) log more t (subst (λ ss. AreRising (clients_of ss)) e r) (told_both scripts rest x old more logs e f n) (subst (AreOpen failed) f s).1))
+      subst (λ bl. LogsTell failed eager bl (script_clients scripts) (log ∷ more)) (sym b)
+      (subst (λ ss. LogsTell failed eager (Some x.client) (script_clients ss) (log ∷ more)) (sym e)
+      (first_log_told x.client (script_clients rest) log more t (subst (λ ss. AreRising (script_clients ss)) e r) (told_both scripts rest x old more logs e f n) (subst (AreOpen failed) f s).1))
 
-  pub rest_log : (scripts rest : List Script) (x : Script) (blamed : Option ℕ) (log : W) (more : List W) → scripts ≡ x ∷ rest → IsTold (failed log) (eager log) false → AreRising (clients_of scripts) → IfSome blamed (λ k. IsAmong k (clients_of rest)) →
-      LogsTell failed eager blamed (clients_of rest) more → LogsTell failed eager blamed (clients_of scripts) (log ∷ more)
+  pub rest_log : (scripts rest : List Script) (x : Script) (blamed : Option ℕ) (log : W) (more : List W) → scripts ≡ x ∷ rest → IsTold (failed log) (eager log) false → AreRising (script_clients scripts) → IfSome blamed (λ k. IsAmong k (script_clients rest)) →
+      LogsTell failed eager blamed (script_clients rest) more → LogsTell failed eager blamed (script_clients scripts) (log ∷ more)
   rest_log scripts rest x blamed log more e t r b m =
-      subst (λ ss. LogsTell failed eager blamed (clients_of ss) (log ∷ more)) (sym e)
-      (rest_log_told x.client (clients_of rest) blamed log more t (subst (λ ss. AreRising (clients_of ss)) e r) b m)
+      subst (λ ss. LogsTell failed eager blamed (script_clients ss) (log ∷ more)) (sym e)
+      (rest_log_told x.client (script_clients rest) blamed log more t (subst (λ ss. AreRising (script_clients ss)) e r) b m)
 
 -- ---- lists
 

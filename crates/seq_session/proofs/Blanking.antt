@@ -21,7 +21,7 @@ use Rattle.script_text.specs.declared.reading.SkipReason.TheVariants.{Unreadable
 use Rattle.script_text.specs.Reasons.{reason_text}
 use Rattle.script_text.specs.Words.{words}
 use Rattle.text_forms.specs.Hex.{digit, spaced}
-use Rattle.seq_session.specs.Logs.{skip_line, skips_text, came, delivery_line, got_line, all_refusals, name_in, name_numbered, outcome, below, reply_front}
+use Rattle.seq_session.specs.Logs.{skip_line, skips_text, arrival_text, delivery_line, got_line, all_refusals, name_in, name_numbered, outcome, below, reply_front}
 use Rattle.seq_session.specs.Blank.{is_one_of, cut_short, blank_line, blanked}
 use Rattle.seq_session.proofs.Texts.{IsLine, blanked-line, words-front, words-number, small-other, decimal-small, line-append, line-number}
 
@@ -145,7 +145,7 @@ delivery_stays numbers d t =
     ∙ line_stays numbers line t one (stays numbers line (decimal d.moment) (codes "port") (words tail) second refl)
     ∙ sym (shape (blanked numbers t))
 
-came-shape : (port : ℕ) (message u : List ℕ) → came port message ++ u ≡ 32 ∷ (codes "port " ++ (decimal port ++ spaced message)) ++ 10 ∷ u
+came-shape : (port : ℕ) (message u : List ℕ) → arrival_text port message ++ u ≡ 32 ∷ (codes "port " ++ (decimal port ++ spaced message)) ++ 10 ∷ u
 came-shape port message u = simp append_assoc
 
 got-shape : (m : ℕ) (tail c u : List ℕ) → c ++ u ≡ 32 ∷ tail ++ 10 ∷ u → (codes "got " ++ decimal m ++ c) ++ u ≡ (codes "got " ++ (decimal m ++ 32 ∷ tail)) ++ 10 ∷ u
@@ -155,7 +155,7 @@ got_stays : (numbers : List ℕ) (a : Arrival) (t : List ℕ) → blanked number
 got_stays numbers a t =
     let tail : List ℕ = codes "port " ++ (decimal a.port ++ spaced a.message) in
     let line : List ℕ = codes "got " ++ (decimal a.moment ++ 32 ∷ tail) in
-    let shape : (u : List ℕ) → got_line a ++ u ≡ line ++ 10 ∷ u = λ u. got-shape a.moment tail (came a.port a.message) u (came-shape a.port a.message u) in
+    let shape : (u : List ℕ) → got_line a ++ u ≡ line ++ 10 ∷ u = λ u. got-shape a.moment tail (arrival_text a.port a.message) u (came-shape a.port a.message u) in
     let second : words line ≡ codes "got" ∷ decimal a.moment ∷ words tail =
     words-front (codes "got") (decimal a.moment ++ 32 ∷ tail) refl refl ∙ ap (λ ws. codes "got" ∷ ws) (words-number a.moment tail) in
     let one : IsLine line = line-append (decimal a.moment) (32 ∷ tail) (line-number a.moment) (line-append (decimal a.port) (spaced a.message) (line-number a.port) (line-spaced a.message)) in

@@ -27,9 +27,9 @@ use Rattle.script_text.specs.declared.reading.ScriptRead.{ScriptRead}
 use Rattle.script_text.proofs.Read.{is_by, is_within, LinesRise, script-client, script-by, script-within, script-rise}
 use Rattle.seq_session.specs.declared.source.Script.{Script}
 use Rattle.seq_session.specs.Rising.{RiseFrom, AreRising}
-use Rattle.seq_session.specs.Merging.{sorted, inputs_of, lines_of, not_after}
+use Rattle.seq_session.specs.Merging.{sorted_inputs, inputs_of, lines_of, not_after}
 use Rattle.seq_session.specs.Logs.{delivery_line, outcome, below, reply_front, reply_text, entries_text, skips_text, log_text}
-use Rattle.seq_session.specs.Sessions.{Folder, read, session, clients_of, script_for, only_scripts}
+use Rattle.seq_session.specs.Sessions.{Folder, read, session, script_clients, script_for, only_scripts}
 use Rattle.seq_session.specs.Blank.{is_one_of, outside_lines, blanked, blank}
 use Rattle.seq_session.specs.Laws.{MergeLaw, TimedLaw, LogLaw}
 use Rattle.seq_session.proofs.Sorting.{IsSorted, sorted-sorted, sorted-all, filter-sorted, only-inputs}
@@ -72,7 +72,7 @@ merge_law = record {
 }
   where
     lines_kept : (folder : Folder) (end : ℕ) (member : ℕ → Bool) (scripts : List Script) → session folder end (only_scripts member scripts) ≡ filter (λ x. member x.input.actor) (session folder end scripts)
-    lines_kept folder end member scripts = ap sorted (only-said folder end member scripts) ∙ sym (filter-sorted (λ x. member x.input.actor) (said_in folder end scripts))
+    lines_kept folder end member scripts = ap sorted_inputs (only-said folder end member scripts) ∙ sym (filter-sorted (λ x. member x.input.actor) (said_in folder end scripts))
 
 -- ---- moments
 
@@ -197,7 +197,7 @@ other_fit owner client member numbers e xs h = list_all-weaker (is_by client) (f
         ∙ ap (λ b. not b || (beq (list_any (λ n. eqb x.line n) numbers) (aims_outside owner member x.input.command) && nat_lt x.line (2 ^ 64))) e
 
 -- after the owner's script no other is the owner's
-none_later : (folder : Folder) (end owner low : ℕ) (member : ℕ → Bool) (numbers : List ℕ) (scripts : List Script) → owner ≤ low → RiseFrom low (clients_of scripts) → list_all (fits owner member numbers) (said_in folder end scripts) ≡ true
+none_later : (folder : Folder) (end owner low : ℕ) (member : ℕ → Bool) (numbers : List ℕ) (scripts : List Script) → owner ≤ low → RiseFrom low (script_clients scripts) → list_all (fits owner member numbers) (said_in folder end scripts) ≡ true
 none_later folder end owner low member numbers [] l r = refl
 none_later folder end owner low member numbers (s ∷ scripts) l r =
     let other : eqb s.client owner ≡ false = (let k : low < s.client = r.0 in ne_eqb s.client owner (λ e. omega arith)) in
@@ -208,7 +208,7 @@ none_later folder end owner low member numbers (s ∷ scripts) l r =
 some_same : {A : Type 0} (x y : A) → Some x ≡ Some y → x ≡ y
 some_same x y e = cc
 
-said_fit : (folder : Folder) (end : ℕ) (member : ℕ → Bool) (owner : Script) (low : ℕ) (scripts : List Script) → RiseFrom low (clients_of scripts) → script_for owner.client scripts ≡ Some owner →
+said_fit : (folder : Folder) (end : ℕ) (member : ℕ → Bool) (owner : Script) (low : ℕ) (scripts : List Script) → RiseFrom low (script_clients scripts) → script_for owner.client scripts ≡ Some owner →
     list_all (fits owner.client member (outside_lines member (read folder end owner))) (said_in folder end scripts) ≡ true
 said_fit folder end member owner low [] r e = cc
 said_fit folder end member owner low (s ∷ scripts) r e = go (eqb s.client owner.client) refl e (said_fit folder end member owner s.client scripts r.1)
@@ -229,12 +229,12 @@ said_fit folder end member owner low (s ∷ scripts) r e = go (eqb s.client owne
         (other_fit owner.client s.client member numbers t (read folder end s).inputs (script-by s.client folder.names end s.text))
         (more e)
 
-session_fit : (folder : Folder) (end : ℕ) (member : ℕ → Bool) (owner : Script) (scripts : List Script) → AreRising (clients_of scripts) → script_for owner.client scripts ≡ Some owner →
+session_fit : (folder : Folder) (end : ℕ) (member : ℕ → Bool) (owner : Script) (scripts : List Script) → AreRising (script_clients scripts) → script_for owner.client scripts ≡ Some owner →
     list_all (fits owner.client member (outside_lines member (read folder end owner))) (session folder end scripts) ≡ true
 session_fit folder end member owner scripts r e =
     sorted-all (fits owner.client member (outside_lines member (read folder end owner))) (said_in folder end scripts) (start_at scripts r e)
   where
-    start_at : (ss : List Script) → AreRising (clients_of ss) → script_for owner.client ss ≡ Some owner → list_all (fits owner.client member (outside_lines member (read folder end owner))) (said_in folder end ss) ≡ true
+    start_at : (ss : List Script) → AreRising (script_clients ss) → script_for owner.client ss ≡ Some owner → list_all (fits owner.client member (outside_lines member (read folder end owner))) (said_in folder end ss) ≡ true
     start_at [] r e = cc
     start_at (s ∷ ss) r e = go (eqb s.client owner.client) refl e
       where

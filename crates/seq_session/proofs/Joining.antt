@@ -9,7 +9,7 @@ use Rattle.script_text.specs.declared.reading.ScriptInput.{ScriptInput}
 use Rattle.script_text.specs.Scripts.{script}
 use Rattle.script_text.proofs.Read.{is_from, InOrder, script-in_order}
 use Rattle.script_text.specs.declared.reading.ScriptRead.{ScriptRead}
-use Rattle.seq_session.specs.Merging.{not_after, with_input, sorted, in_order, merged_with, joined_onto, AreSorted}
+use Rattle.seq_session.specs.Merging.{not_after, with_input, sorted_inputs, inputs_in_order, merged_with, joined_onto, AreSorted}
 use Rattle.seq_session.specs.declared.source.Script.{Script}
 use Rattle.seq_session.specs.Sessions.{Folder, read}
 use Rattle.seq_session.proofs.Sorting.{IsSorted}
@@ -60,12 +60,12 @@ placed-joined x (a ∷ xs) ys = go (not_after x a) refl (λ zs. placed-joined x 
     go false e ih = goes_later x a xs ih e ys
 
 -- to sort two lists after each other is to join them sorted
-pub sorted-append : (xs ys : List ScriptInput) → sorted (xs ++ ys) ≡ merged_with (sorted xs) (sorted ys)
+pub sorted-append : (xs ys : List ScriptInput) → sorted_inputs (xs ++ ys) ≡ merged_with (sorted_inputs xs) (sorted_inputs ys)
 sorted-append [] ys = refl
-sorted-append (x ∷ xs) ys = ap (with_input x) (sorted-append xs ys) ∙ placed-joined x (sorted xs) (sorted ys)
+sorted-append (x ∷ xs) ys = ap (with_input x) (sorted-append xs ys) ∙ placed-joined x (sorted_inputs xs) (sorted_inputs ys)
 
 -- what is sorted stays
-pub sorted-same : (xs : List ScriptInput) → IsSorted xs → sorted xs ≡ xs
+pub sorted-same : (xs : List ScriptInput) → IsSorted xs → sorted_inputs xs ≡ xs
 sorted-same [] h = refl
 sorted-same (x ∷ xs) h = ap (with_input x) (sorted-same xs h.1) ∙ first xs h.0
   where
@@ -139,19 +139,19 @@ sorted_back zero reads h = h
 sorted_back (suc n) [] h = tt
 sorted_back (suc n) (r ∷ reads) h = sorted_back n reads h.1
 
-pub by_halves : (n : ℕ) (reads : List ScriptRead) → in_order reads ≡ merged_with (in_order (take n reads)) (in_order (drop n reads))
+pub by_halves : (n : ℕ) (reads : List ScriptRead) → inputs_in_order reads ≡ merged_with (inputs_in_order (take n reads)) (inputs_in_order (drop n reads))
 by_halves n reads =
-    ap in_order (sym (take-append-drop n reads))
-    ∙ ap sorted (flat_map-append (λ (r : ScriptRead). r.inputs) (take n reads) (drop n reads))
+    ap inputs_in_order (sym (take-append-drop n reads))
+    ∙ ap sorted_inputs (flat_map-append (λ (r : ScriptRead). r.inputs) (take n reads) (drop n reads))
     ∙ sorted-append (flat_map (λ (r : ScriptRead). r.inputs) (take n reads)) (flat_map (λ (r : ScriptRead). r.inputs) (drop n reads))
 
 -- one script
-pub one_script : (reads : List ScriptRead) (r : ScriptRead) → length reads ≡ 1 → r ≡ get_or reads 0 r → AreSorted reads → in_order reads ≡ r.inputs
+pub one_script : (reads : List ScriptRead) (r : ScriptRead) → length reads ≡ 1 → r ≡ get_or reads 0 r → AreSorted reads → inputs_in_order reads ≡ r.inputs
 one_script [] r l e h = absurd (omega arith)
-one_script (x ∷ []) r l e h = ap sorted (append-nil x.inputs) ∙ h.0 ∙ ap (λ (y : ScriptRead). y.inputs) (sym e)
+one_script (x ∷ []) r l e h = ap sorted_inputs (append-nil x.inputs) ∙ h.0 ∙ ap (λ (y : ScriptRead). y.inputs) (sym e)
 one_script (x ∷ y ∷ reads) r l e h = absurd (omega arith)
 
-pub no_script : (reads : List ScriptRead) → length reads ≡ 0 → in_order reads ≡ []
+pub no_script : (reads : List ScriptRead) → length reads ≡ 0 → inputs_in_order reads ≡ []
 no_script [] l = refl
 no_script (x ∷ reads) l = absurd (omega arith)
 
@@ -162,8 +162,8 @@ readings_sorted folder end (s ∷ scripts) = (sorted-same (read folder end s).in
 
 -- so is what a parse gives
 pub script_is_sorted : {E : Type 0} (client : ℕ) (names : List (List ℕ)) (end : ℕ) (text : List ℕ) (r : Result ScriptRead E) →
-    IfOk r (λ x. x ≡ script client names end text) → IfOk r (λ x. sorted x.inputs ≡ x.inputs)
+    IfOk r (λ x. x ≡ script client names end text) → IfOk r (λ x. sorted_inputs x.inputs ≡ x.inputs)
 script_is_sorted client names end text (Ok x) h =
-    ap (λ (y : ScriptRead). sorted y.inputs) h ∙ sorted-same (script client names end text).inputs (script-sorted client names end text)
+    ap (λ (y : ScriptRead). sorted_inputs y.inputs) h ∙ sorted-same (script client names end text).inputs (script-sorted client names end text)
     ∙ ap (λ (y : ScriptRead). y.inputs) (sym h)
 script_is_sorted client names end text (Err e) h = tt

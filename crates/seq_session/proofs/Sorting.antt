@@ -5,7 +5,7 @@ use Rattle.std.proofs.lemmas.Bool.Decides.{nat_tests}
 use Rattle.seq_state.specs.Circle.{only}
 use Rattle.seq_state.proofs.Lists.{both_left, both_right, and_both, list_all-weaker}
 use Rattle.script_text.specs.declared.reading.ScriptInput.{ScriptInput}
-use Rattle.seq_session.specs.Merging.{not_after, with_input, sorted, inputs_of}
+use Rattle.seq_session.specs.Merging.{not_after, with_input, sorted_inputs, inputs_of}
 
 -- ---- the order
 
@@ -29,9 +29,9 @@ placed-all p a (b ∷ bs) h k = go (not_after a b) (placed-all p a bs h (both_ri
     go true more = and_both (p a) (list_all p (b ∷ bs)) h k
     go false more = and_both (p b) (list_all p (with_input a bs)) (both_left (p b) (list_all p bs) k) more
 
-pub sorted-all : (p : ScriptInput → Bool) (xs : List ScriptInput) → list_all p xs ≡ true → list_all p (sorted xs) ≡ true
+pub sorted-all : (p : ScriptInput → Bool) (xs : List ScriptInput) → list_all p xs ≡ true → list_all p (sorted_inputs xs) ≡ true
 sorted-all p [] h = refl
-sorted-all p (a ∷ more) h = placed-all p a (sorted more) (both_left (p a) (list_all p more) h) (sorted-all p more (both_right (p a) (list_all p more) h))
+sorted-all p (a ∷ more) h = placed-all p a (sorted_inputs more) (both_left (p a) (list_all p more) h) (sorted-all p more (both_right (p a) (list_all p more) h))
 
 -- what is not after the first is not after the others
 all_after : (a b : ScriptInput) (bs : List ScriptInput) → not_after a b ≡ true → list_all (not_after b) bs ≡ true → list_all (not_after a) bs ≡ true
@@ -45,9 +45,9 @@ placed-sorted a (b ∷ bs) h = go (not_after a b) refl (placed-sorted a bs h.1)
     go true e more = (and_both (not_after a b) (list_all (not_after a) bs) e (all_after a b bs e h.0), h)
     go false e more = (placed-all (not_after b) a bs (not_after-total a b e) h.0, more)
 
-pub sorted-sorted : (xs : List ScriptInput) → IsSorted (sorted xs)
+pub sorted-sorted : (xs : List ScriptInput) → IsSorted (sorted_inputs xs)
 sorted-sorted [] = tt
-sorted-sorted (a ∷ more) = placed-sorted a (sorted more) (sorted-sorted more)
+sorted-sorted (a ∷ more) = placed-sorted a (sorted_inputs more) (sorted-sorted more)
 
 -- ---- a filter of a sorted list
 
@@ -81,11 +81,11 @@ filter-placed p a (b ∷ bs) h = go (not_after a b) refl (filter-placed p a bs h
         both_tests false true = refl
         both_tests false false = refl
 
-pub filter-sorted : (p : ScriptInput → Bool) (xs : List ScriptInput) → filter p (sorted xs) ≡ sorted (filter p xs)
+pub filter-sorted : (p : ScriptInput → Bool) (xs : List ScriptInput) → filter p (sorted_inputs xs) ≡ sorted_inputs (filter p xs)
 filter-sorted p [] = refl
-filter-sorted p (a ∷ more) = filter-placed p a (sorted more) (sorted-sorted more) ∙ ap (λ xs. cond (p a) (with_input a xs) xs) (filter-sorted p more) ∙ go (p a)
+filter-sorted p (a ∷ more) = filter-placed p a (sorted_inputs more) (sorted-sorted more) ∙ ap (λ xs. cond (p a) (with_input a xs) xs) (filter-sorted p more) ∙ go (p a)
   where
-    go : (t : Bool) → cond t (with_input a (sorted (filter p more))) (sorted (filter p more)) ≡ sorted (cond t (a ∷ filter p more) (filter p more))
+    go : (t : Bool) → cond t (with_input a (sorted_inputs (filter p more))) (sorted_inputs (filter p more)) ≡ sorted_inputs (cond t (a ∷ filter p more) (filter p more))
     go true = refl
     go false = refl
 

@@ -6,7 +6,7 @@ use Rattle.seq_state.specs.Step.{IsTimed}
 use Rattle.seq_session.specs.declared.source.Script.{Script}
 use Rattle.seq_session.specs.Rising.{AreRising}
 use Rattle.seq_session.specs.Merging.{inputs_of, AreSorted}
-use Rattle.seq_session.specs.Sessions.{Folder, read, session, log_of, clients_of, script_for, only_scripts}
+use Rattle.seq_session.specs.Sessions.{Folder, read, session, log_of, script_clients, script_for, only_scripts}
 use Rattle.seq_session.specs.Blank.{blank}
 
 -- to merge the scripts of a circle is to keep of the merged list what its members say: the inputs,
@@ -36,7 +36,7 @@ TimedLaw =
 abbrev pub LogLaw : Type 0
 LogLaw =
     (folder : Folder) (end : ℕ) (owner : Script) (member : ℕ → Bool) (scripts : List Script) →
-    AreRising (clients_of scripts) → script_for owner.client scripts ≡ Some owner →
+    AreRising (script_clients scripts) → script_for owner.client scripts ≡ Some owner →
     IsClosed folder.files owner.client member (inputs_of (session folder end scripts)) →
     blank member (read folder end owner) (log_of folder end scripts owner)
     ≡ blank member (read folder end owner) (log_of folder end (only_scripts member scripts) owner)

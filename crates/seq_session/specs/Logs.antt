@@ -26,16 +26,16 @@ skip_line s = codes "skip " ++ decimal s.line ++ codes " " ++ reason_text s.why 
 -- ---- messages
 
 -- ` port 0 90 3C 40`
-abbrev pub came : ℕ → List ℕ → List ℕ
-came port message = codes " port " ++ decimal port ++ spaced message ++ codes "\n"
+abbrev pub arrival_text : ℕ → List ℕ → List ℕ
+arrival_text port message = codes " port " ++ decimal port ++ spaced message ++ codes "\n"
 
 -- `5 port 0 90 3C 40`
 abbrev pub delivery_line : Delivery → List ℕ
-delivery_line d = decimal d.moment ++ came d.target.port d.message
+delivery_line d = decimal d.moment ++ arrival_text d.target.port d.message
 
 -- `got 5 port 0 90 3C 40`
 abbrev pub got_line : Arrival → List ℕ
-got_line a = codes "got " ++ decimal a.moment ++ came a.port a.message
+got_line a = codes "got " ++ decimal a.moment ++ arrival_text a.port a.message
 
 -- ---- replies
 

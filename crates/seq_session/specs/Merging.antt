@@ -18,13 +18,13 @@ abbrev pub with_input : ScriptInput → List ScriptInput → List ScriptInput
 with_input a [] = a ∷ []
 with_input a (b ∷ bs) = if not_after a b then a ∷ b ∷ bs else (b ∷ with_input a bs)
 
-abbrev pub sorted : List ScriptInput → List ScriptInput
-sorted [] = []
-sorted (a ∷ more) = with_input a (sorted more)
+abbrev pub sorted_inputs : List ScriptInput → List ScriptInput
+sorted_inputs [] = []
+sorted_inputs (a ∷ more) = with_input a (sorted_inputs more)
 
 -- the inputs of all scripts, in the order of the run
-abbrev pub in_order : List ScriptRead → List ScriptInput
-in_order reads = sorted (flat_map (λ r. r.inputs) reads)
+abbrev pub inputs_in_order : List ScriptRead → List ScriptInput
+inputs_in_order reads = sorted_inputs (flat_map (λ r. r.inputs) reads)
 
 abbrev pub inputs_of : List ScriptInput → List Input
 inputs_of xs = map (λ x. x.input) xs
@@ -34,7 +34,7 @@ lines_of xs = map (λ x. x.line) xs
 
 -- the list of the run, and beside it the lines
 abbrev pub merged : List ScriptRead → Merged
-merged reads = record { inputs = inputs_of (in_order reads); lines = lines_of (in_order reads) }
+merged reads = record { inputs = inputs_of (inputs_in_order reads); lines = lines_of (inputs_in_order reads) }
 
 -- two sorted lists as one; of two that are alike, that of the first list comes first
 abbrev pub joined_onto : ScriptInput → (List ScriptInput → List ScriptInput) →
@@ -50,4 +50,4 @@ merged_with (a ∷ more) bs = joined_onto a (merged_with more) bs
 -- each reading stands in the order already, as each reading of a script does
 abbrev pub AreSorted : List ScriptRead → Type 0
 AreSorted [] = Unit {0}
-AreSorted (r ∷ reads) = (sorted r.inputs ≡ r.inputs) × AreSorted reads
+AreSorted (r ∷ reads) = (sorted_inputs r.inputs ≡ r.inputs) × AreSorted reads

@@ -11,15 +11,15 @@ use Rattle.seq_session.specs.Logs.{log_text}
 use Rattle.seq_session.specs.Sessions.{Folder, read, session}
 use Rattle.seq_session.specs.Blank.{blanked}
 
-abbrev pub script : ℕ → List ℕ → Script
-script client text = record { client = client; text = text }
+abbrev pub a_script : ℕ → List ℕ → Script
+a_script client text = record { client = client; text = text }
 
 abbrev pub no_files : Folder
 no_files = record { names = []; files = [] }
 
 -- a log entry in short
-abbrev pub came : ℕ → ℕ → List ℕ → LogEntry
-came moment client message =
+abbrev pub delivered_entry : ℕ → ℕ → List ℕ → LogEntry
+delivered_entry moment client message =
     Delivered (record {
       moment = moment;
       target = record { client = client; port = 0 };
@@ -37,28 +37,28 @@ abbrev pub second_text : List ℕ
 second_text = codes "0 open b 8 8\n0 port 0 in 66\n0 connect 128:p0 129:p0"
 
 abbrev pub three : List Script
-three = script 128 first_text ∷ script 129 second_text ∷ script 131 hostile_text ∷ []
+three = a_script 128 first_text ∷ a_script 129 second_text ∷ a_script 131 hostile_text ∷ []
 
 abbrev pub three_log : List LogEntry
 three_log =
     Replied 0 0 128 Done ∷ Replied 1 0 128 Done ∷ Replied 2 0 129 Done ∷ Replied 3 0 129 Done
     ∷ Replied 4 0 129 Done ∷ Replied 5 0 131 Done ∷ Replied 6 1 131 Done ∷ Replied 7 2 131 Done
-    ∷ Replied 8 3 131 (Refused 9) ∷ came 5 129 (0x90 ∷ 0x3C ∷ 0x40 ∷ [])
-    ∷ came 5 131 (0x90 ∷ 0x3C ∷ 0x40 ∷ []) ∷ Replied 9 5 128 (Messages 1) ∷ []
+    ∷ Replied 8 3 131 (Refused 9) ∷ delivered_entry 5 129 (0x90 ∷ 0x3C ∷ 0x40 ∷ [])
+    ∷ delivered_entry 5 131 (0x90 ∷ 0x3C ∷ 0x40 ∷ []) ∷ Replied 9 5 128 (Messages 1) ∷ []
 
 abbrev pub log_in_three : Script → List ℕ
 log_in_three s = log_text (read no_files 10 s) (lines_of (session no_files 10 three)) three_log
 
 pub record HostileLog : Type 0 where
   pub lines : lines_of (session no_files 10 three) ≡ 1 ∷ 2 ∷ 1 ∷ 2 ∷ 3 ∷ 1 ∷ 3 ∷ 5 ∷ 7 ∷ 3 ∷ []
-  pub first : log_in_three (script 128 first_text) ≡
+  pub first : log_in_three (a_script 128 first_text) ≡
       codes "0 line 1 ok\n0 line 2 ok\n5 line 3 ok 1\n"
-  pub second : log_in_three (script 129 second_text) ≡
+  pub second : log_in_three (a_script 129 second_text) ≡
       codes "0 line 1 ok\n0 line 2 ok\n0 line 3 ok\n5 port 0 90 3C 40\n"
-  pub hostile : log_in_three (script 131 hostile_text) ≡
+  pub hostile : log_in_three (a_script 131 hostile_text) ≡
       codes "skip 2 unreadable\nskip 4 late\nskip 6 past-end\n0 line 1 ok\n1 line 3 ok\n"
       ++ codes "2 line 5 ok\n3 line 7 refused 9 NoDest\n5 port 0 90 3C 40\n"
-  pub empty : log_in_three (script 132 []) ≡ []
+  pub empty : log_in_three (a_script 132 []) ≡ []
 
 -- a reply whose place is not in the merged list has no line
 pub record OtherLogs : Type 0 where

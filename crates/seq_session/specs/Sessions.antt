@@ -10,7 +10,7 @@ use Rattle.script_text.specs.declared.reading.ScriptRead.{ScriptRead}
 use Rattle.script_text.specs.declared.reading.ScriptInput.{ScriptInput}
 use Rattle.script_text.specs.Scripts.{script}
 use Rattle.seq_session.specs.declared.source.Script.{Script}
-use Rattle.seq_session.specs.Merging.{in_order, inputs_of, lines_of}
+use Rattle.seq_session.specs.Merging.{inputs_in_order, inputs_of, lines_of}
 use Rattle.seq_session.specs.Logs.{log_text}
 
 -- The files of a run, with their names.
@@ -23,7 +23,7 @@ read folder end s = script s.client folder.names end s.text
 
 -- the inputs of the session, in order, with their lines
 abbrev pub session : Folder → ℕ → List Script → List ScriptInput
-session folder end scripts = in_order (map (read folder end) scripts)
+session folder end scripts = inputs_in_order (map (read folder end) scripts)
 
 -- what happens
 abbrev pub happens : Folder → ℕ → List Script → List LogEntry
@@ -46,8 +46,8 @@ listing_after folder end scripts =
 
 -- ---- scripts by client
 
-abbrev pub clients_of : List Script → List ℕ
-clients_of scripts = map (λ s. s.client) scripts
+abbrev pub script_clients : List Script → List ℕ
+script_clients scripts = map (λ s. s.client) scripts
 
 -- the script of a client, if it has one
 abbrev pub script_for : ℕ → List Script → Option Script

@@ -4,7 +4,7 @@ ghost use Rattle.std.specs.Prelude.{◌≡◌, ◌++◌, Some, OnOk, codes};
 ghost use Rattle.std.specs.Fmt.{decimal};
 ghost use Rattle.std.specs.List.{flat_map};
 ghost use Rattle.script_text.specs.Reasons.{reason_text};
-ghost use Rattle.seq_session.specs.Logs.{skip_line, skips_text, came, delivery_line, got_line, name_numbered, outcome, below, reply_text, entry_text};
+ghost use Rattle.seq_session.specs.Logs.{skip_line, skips_text, arrival_text, delivery_line, got_line, name_numbered, outcome, below, reply_text, entry_text};
 
 use crate::moment::MomentText;
 use memory::OutOfMemory;
@@ -88,7 +88,7 @@ fn push_came(
     port: PortNo,
     message: &Message,
 ) -> Result<(), OutOfMemory>
-    ensures { OnOk result (text.new.items ≡ text.old.items ++ came port message.now) }
+    ensures { OnOk result (text.new.items ≡ text.old.items ++ arrival_text port message.now) }
 {
     scratch.bytes.clear();
     message.append_to(&mut scratch.bytes)?;

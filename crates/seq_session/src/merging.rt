@@ -1,7 +1,7 @@
 //! The scripts of all clients as one list.
 
 ghost use Rattle.std.specs.Prelude.{◌≡◌, ◌<◌, map, length, IfOk};
-ghost use Rattle.seq_session.specs.Merging.{in_order, merged, AreSorted, inputs_of, lines_of};
+ghost use Rattle.seq_session.specs.Merging.{inputs_in_order, merged, AreSorted, inputs_of, lines_of};
 
 use crate::join::join;
 use crate::merged::Merged;
@@ -50,7 +50,7 @@ fn references<'a>(
     reads: &'a [ScriptRead],
 ) -> Result<Vec<&'a ScriptInput>, OutOfMemory>
     requires { AreSorted reads.now }
-    ensures { IfOk result (λ v. map (λ r. r.now) v.items ≡ in_order reads.now) }
+    ensures { IfOk result (λ v. map (λ r. r.now) v.items ≡ inputs_in_order reads.now) }
 {
     if reads.len() > 1 {
         let (left, right) = reads.split_at(reads.len() / 2);

@@ -3,8 +3,8 @@
 ghost use Rattle.std.specs.Prelude.{◌≡◌, map, IfOk, OnOk};
 ghost use Rattle.script_text.specs.Scripts.{script};
 ghost use Rattle.seq_session.specs.AllLogs.{clients_read};
-ghost use Rattle.seq_session.specs.Merging.{sorted, AreSorted};
-ghost use Rattle.seq_session.specs.Sessions.{read, clients_of};
+ghost use Rattle.seq_session.specs.Merging.{sorted_inputs, AreSorted};
+ghost use Rattle.seq_session.specs.Sessions.{read, script_clients};
 
 use crate::named_files::NamedFiles;
 use crate::source::Script;
@@ -22,7 +22,7 @@ pub fn parse_script(
     until: u64,
 ) -> Result<ScriptRead, OutOfMemory>
     ensures reading { IfOk result (λ r. r ≡ script client files.now.names until text.now) }
-    ensures sorted { IfOk result (λ r. sorted r.inputs ≡ r.inputs) }
+    ensures sorted { IfOk result (λ r. sorted_inputs r.inputs ≡ r.inputs) }
 {
     script_text::parse_script(alloc, client, text, files.names(), until)
 }

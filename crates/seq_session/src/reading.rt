@@ -2,7 +2,7 @@
 
 ghost use Rattle.std.specs.Prelude.{◌≡◌, ◌++◌, true, false, is_some, IfOk, OnOk, IfErr, IfSome};
 ghost use Rattle.seq_session.specs.Rising.{AreRising};
-ghost use Rattle.seq_session.specs.Sessions.{clients_of};
+ghost use Rattle.seq_session.specs.Sessions.{script_clients};
 ghost use Rattle.seq_session.specs.Devices.{clients, script_told, told, AreSound, AllTell, reader_blamed, ReadersTell, IsAmong, IsReading};
 
 use crate::fault::SessionFault;
@@ -50,7 +50,7 @@ pub(crate) fn read_all<R: Source>(
     ensures told { AllTell R.tells sources.old
         → OnOk result (scripts.new.items ≡ scripts.old.items ++ told R.left sources.old) }
     ensures of_clients { OnOk result
-        (clients_of scripts.new.items ≡ clients_of scripts.old.items ++ clients sources.old) }
+        (script_clients scripts.new.items ≡ script_clients scripts.old.items ++ clients sources.old) }
     ensures clients { clients sources.new ≡ clients sources.old }
     ensures marks { ReadersTell R.failed (reader_blamed result) sources.new }
     ensures blamed { IfSome (reader_blamed result) (λ k. IsAmong k (clients sources.old)) }

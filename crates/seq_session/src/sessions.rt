@@ -8,7 +8,7 @@ ghost use Rattle.seq_state.specs.Step.{plain, state_after, IsTimed};
 ghost use Rattle.seq_engine.specs.Ending.{listing_of};
 ghost use Rattle.seq_session.specs.Rising.{AreRising};
 ghost use Rattle.seq_session.specs.Merging.{inputs_of};
-ghost use Rattle.seq_session.specs.Sessions.{happens, all_logs, listing_after, clients_of};
+ghost use Rattle.seq_session.specs.Sessions.{happens, all_logs, listing_after, script_clients};
 ghost use Rattle.seq_session.specs.Devices.{clients, told, AreSound, AllTell, AreOpen, TellAll, Wrote, WroteUpTo, AreAlone, reader_blamed, log_blamed, blames_listing, IsAmong, IsReading, ReadersTell, IsTold, LogsTell};
 
 use crate::fault::SessionFault;
@@ -160,7 +160,7 @@ fn run_texts<'f, 'b, A: Agenda + Drop>(
     agenda: A,
     until: u64,
 ) -> Result<SessionTexts, OutOfMemory>
-    requires rising { AreRising (clients_of scripts.now) }
+    requires rising { AreRising (script_clients scripts.now) }
     requires empty { A.content agenda ≡ finmap.empty }
     ensures logs { IfOk result (λ t.
         map (λ l. l.items) t.logs.items ≡ all_logs files.now until scripts.now) }

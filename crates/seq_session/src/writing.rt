@@ -3,7 +3,7 @@
 ghost use Rattle.std.specs.Prelude.{◌≡◌, ◌++◌, true, false, is_err, map, length, OnOk, OnErr, IfErr, IfSome, IsSome};
 ghost use Rattle.byte_io.specs.Moved.{GainsBytes};
 ghost use Rattle.seq_session.specs.Rising.{AreRising};
-ghost use Rattle.seq_session.specs.Sessions.{clients_of};
+ghost use Rattle.seq_session.specs.Sessions.{script_clients};
 ghost use Rattle.seq_session.specs.Devices.{Wrote, WroteUpTo, IsTold, LogsTell, log_of_fault, log_blamed, IsAmong, AreOpen, TellAll};
 
 use crate::fault::SessionFault;
@@ -49,7 +49,7 @@ pub(crate) fn write_logs<W: Sink>(
     logs: &mut [W],
     texts: &[Vec<u8>],
 ) -> Result<(), SessionFault>
-    requires rising { AreRising (clients_of scripts.now) }
+    requires rising { AreRising (script_clients scripts.now) }
     requires logs { length logs.old ≡ length scripts.now }
     requires texts { length texts.now ≡ length scripts.now }
     requires sound { AreOpen W.failed logs.old }
@@ -57,10 +57,10 @@ pub(crate) fn write_logs<W: Sink>(
         → OnOk result (Wrote W.taken logs.old logs.new (map (λ t. t.items) texts.now)) }
     ensures part { TellAll W.tells logs.old
         → IfSome (log_blamed result) (λ k. WroteUpTo W.taken k
-        (clients_of scripts.now) logs.old logs.new (map (λ t. t.items) texts.now)) }
+        (script_clients scripts.now) logs.old logs.new (map (λ t. t.items) texts.now)) }
     ensures marks { LogsTell W.failed W.takes_some (log_blamed result)
-        (clients_of scripts.now) logs.new }
-    ensures blamed { IfSome (log_blamed result) (λ k. IsAmong k (clients_of scripts.now)) }
+        (script_clients scripts.now) logs.new }
+    ensures blamed { IfSome (log_blamed result) (λ k. IsAmong k (script_clients scripts.now)) }
     ensures only { IfErr result (λ e. IsSome (log_of_fault e)) }
 {
     let Some((log, more)) = logs.split_first_mut() else {

@@ -8,7 +8,7 @@ use Rattle.std.proofs.Math.Seq.{get_or-append_seam}
 use Rattle.std.proofs.lemmas.List.Sums.{sum_by-cons, sum_by-append}
 use Rattle.tool_text.specs.declared.program_fault.ProgramFault.{ProgramFault}
 use Rattle.tool_text.specs.declared.program_fault.ProgramFault.TheVariants.{OutOfMemory, NotAScript, TwoScripts}
-use Rattle.session_tools.specs.Words.{script_named, with_script, with_word, with_words, scripts_named, names, is_of, IsOfWord, IsOfWords}
+use Rattle.session_tools.specs.Words.{script_named, with_script, with_word, with_words, scripts_named, names, is_script_of, IsOfWord, IsOfWords}
 
 -- whether a script is a client's
 abbrev pub has : ℕ → ℕ × List ℕ → Bool
@@ -93,7 +93,7 @@ one_read all front w rest scripts more was e = record {
         let grown : count_by (has c) more ≡ cond (s.0 == c) 1 0 + count_by (has c) scripts = one_more c s scripts more h in
         let had : count_by (has c) scripts ≤ count_by (names c) front = was.counted c in
         let a : count_by (names c) (front ++ w ∷ []) ≡ count_by (names c) front + count_by (names c) (w ∷ []) = counted-append (names c) front (w ∷ []) in
-        let b : count_by (names c) (w ∷ []) ≡ cond (s.0 == c) 1 0 + 0 = counted-cons (names c) w [] ∙ ap (λ o. cond (is_of c o) 1 0 + 0) is in
+        let b : count_by (names c) (w ∷ []) ≡ cond (s.0 == c) 1 0 + 0 = counted-cons (names c) w [] ∙ ap (λ o. cond (is_script_of c o) 1 0 + 0) is in
         omega arith
 
 -- a word that adds no script
@@ -113,7 +113,7 @@ wrong all front w rest scripts (TwoScripts client) was h =
     let one : 1 ≤ count_by (has client) scripts = has_one (client, h.0) scripts h.2 in
     let a : count_by (names client) (front ++ w ∷ rest) ≡ count_by (names client) front + count_by (names client) (w ∷ rest) = counted-append (names client) front (w ∷ rest) in
     let b : count_by (names client) (w ∷ rest) ≡ 1 + count_by (names client) rest =
-    counted-cons (names client) w rest ∙ ap (λ o. cond (is_of client o) 1 0 + count_by (names client) rest) h.1
+    counted-cons (names client) w rest ∙ ap (λ o. cond (is_script_of client o) 1 0 + count_by (names client) rest) h.1
     ∙ ap (λ b. cond b 1 0 + count_by (names client) rest) (eq-eqb client client refl) in
     let c : count_by (names client) all ≡ count_by (names client) (front ++ w ∷ rest) = ap (count_by (names client)) was.split in (
       was.named ∙ ap (option_and_then (with_words rest)) none,

@@ -7,18 +7,18 @@ use Rattle.tool_text.specs.declared.fault.ToolFault.{ToolFault}
 use Rattle.tool_text.specs.declared.fault.ToolFault.TheVariants.{OutOfMemory, Write}
 
 -- the line before a client's log
-abbrev pub client_line : ℕ → List ℕ
-client_line client = codes "client " ++ decimal client ++ 10 ∷ []
+abbrev pub client_heading : ℕ → List ℕ
+client_heading client = codes "client " ++ decimal client ++ 10 ∷ []
 
 -- a client's number and its log
-abbrev pub log_text : ℕ → List ℕ → List ℕ
-log_text client log = client_line client ++ log
+abbrev pub headed_log : ℕ → List ℕ → List ℕ
+headed_log client log = client_heading client ++ log
 
 -- the number of each script's client and the log in the same place
 abbrev pub logs_text : List ScriptWord → List MemOutput → List ℕ
 logs_text [] logs = []
 logs_text (s ∷ scripts) [] = []
-logs_text (s ∷ scripts) (l ∷ logs) = log_text s.client l.taken ++ logs_text scripts logs
+logs_text (s ∷ scripts) (l ∷ logs) = headed_log s.client l.taken ++ logs_text scripts logs
 
 -- and then the listing where there is one
 abbrev pub printed_text : List ScriptWord → List MemOutput → Option (List ℕ) → List ℕ

@@ -63,13 +63,13 @@ scripts_named words = with_words words []
 -- ---- what is wrong with words
 
 -- whether it is the client's
-abbrev pub is_of : ℕ → Option (ℕ × List ℕ) → Bool
-is_of client None = false
-is_of client (Some script) = script.0 == client
+abbrev pub is_script_of : ℕ → Option (ℕ × List ℕ) → Bool
+is_script_of client None = false
+is_script_of client (Some script) = script.0 == client
 
 -- whether a word names the client's script
 abbrev pub names : ℕ → List ℕ → Bool
-names client word = is_of client (script_named word)
+names client word = is_script_of client (script_named word)
 
 -- want of memory, or the words name no scripts: this word names none, or two name this client's
 abbrev pub IsOfWords : List (List ℕ) → ProgramFault → Type 0

@@ -3,7 +3,7 @@
 ghost use Rattle.std.specs.Prelude.{◌≡◌, ◌++◌, ◌⊎◌, true, false, length, IfErr, OnOk, OnErr, IsErrOf};
 ghost use Rattle.std.specs.Option.{option_map};
 ghost use Rattle.byte_io.specs.Moved.{GainsBytes};
-ghost use Rattle.session_tools.specs.Printed.{client_line, log_text, logs_text, printed_text, IsOfPrinting};
+ghost use Rattle.session_tools.specs.Printed.{client_heading, headed_log, logs_text, printed_text, IsOfPrinting};
 
 use crate::words::ScriptWord;
 use byte_io::{MemSink, Sink};
@@ -85,9 +85,9 @@ fn print_log<W: Sink>(
 ) -> Result<(), ToolFault>
     requires { W.failed out.old ≡ false }
     ensures text { W.tells out.old ≡ true
-        → OnOk result (W.taken out.new ≡ W.taken out.old ++ log_text client log.now) }
+        → OnOk result (W.taken out.new ≡ W.taken out.old ++ headed_log client log.now) }
     ensures short { W.tells out.old ≡ true
-        → OnErr result (GainsBytes (W.taken out.old) (W.taken out.new) (log_text client log.now)) }
+        → OnErr result (GainsBytes (W.taken out.old) (W.taken out.new) (headed_log client log.now)) }
     ensures telling { W.tells out.new ≡ W.tells out.old }
     ensures eager { W.takes_some out.new ≡ W.takes_some out.old }
     ensures unmarked { OnOk result (W.failed out.new ≡ false) }
@@ -103,7 +103,7 @@ fn print_log<W: Sink>(
 }
 
 fn push_client(line: &mut Vec<u8>, client: ClientId) -> Result<(), OutOfMemory>
-    ensures { OnOk result (line.new.items ≡ line.old.items ++ client_line client) }
+    ensures { OnOk result (line.new.items ≡ line.old.items ++ client_heading client) }
 {
     line.extend_from_slice(b"client ")?;
     push_decimal(line, u64::from(client.number()))?;

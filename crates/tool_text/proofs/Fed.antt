@@ -26,8 +26,8 @@ use Rattle.seq_state.specs.Copies.{carried, copy, copies}
 use Rattle.seq_state.specs.Step.{port_addr, send_copies, offered, sent, stepped, Stepped, unless, refusal_of, step, state_after}
 use Rattle.seq_state.proofs.Effects.{get-put, step-takes}
 use Rattle.seq_state.proofs.Done.{feeds}
-use Rattle.tool_text.specs.Stream.{lines_of}
-use Rattle.tool_text.specs.Thru.{said, most_piece, passage, delivery_line, thru_line, stream_of, IsJoined}
+use Rattle.tool_text.specs.Stream.{message_lines}
+use Rattle.tool_text.specs.Thru.{input_at_start, most_piece, passage, passage_line, thru_line, fed_stream, IsJoined}
 use Rattle.tool_text.proofs.Few.{piece-few}
 use Rattle.tool_text.proofs.Joined.{says}
 use Rattle.tool_text.proofs.Room.{came, waits, all-delivered, all-wait}
@@ -68,25 +68,25 @@ one_each s (m ∷ messages) e =
     ap (λ ds. ds ++ send_copies s 0 128 (map (from_port 0) messages)) (one_copy s m e)
     ∙ ap (λ ds. came m ∷ ds) (one_each s messages e)
 
-came_line : (m : List ℕ) → delivery_line (came m) ≡ thru_line m
+came_line : (m : List ℕ) → passage_line (came m) ≡ thru_line m
 unfolding digits
 came_line m = refl
 
-pub came_lines : (messages : List (List ℕ)) → flat_map delivery_line (map came messages) ≡ flat_map thru_line messages
+pub came_lines : (messages : List (List ℕ)) → flat_map passage_line (map came messages) ≡ flat_map thru_line messages
 came_lines [] = refl
-came_lines (m ∷ messages) = ap (λ text. text ++ flat_map delivery_line (map came messages)) (came_line m) ∙ ap (λ text. thru_line m ++ text) (came_lines messages)
+came_lines (m ∷ messages) = ap (λ text. text ++ flat_map passage_line (map came messages)) (came_line m) ∙ ap (λ text. thru_line m ++ text) (came_lines messages)
 
 -- ---- a piece
 
 module _ (s : State) (piece : List ℕ) (j : IsJoined s) (short : length piece ≤ most_piece) where
   abbrev messages : List (List ℕ)
-  messages = reading (stream_of s ++ piece)
+  messages = reading (fed_stream s ++ piece)
 
   -- as many as may wait, or fewer
   few : length messages ≤ most_waiting
   few =
       let completed : length messages ≤ 2 * length piece =
-      subst (λ r. length (reading (r ++ piece)) ≤ 2 * length piece) j.stream (piece-few (stream_of s) piece) in
+      subst (λ r. length (reading (r ++ piece)) ≤ 2 * length piece) j.stream (piece-few (fed_stream s) piece) in
       omega arith
 
   fits : 0 + length messages ≤ most_waiting
@@ -109,7 +109,7 @@ module _ (s : State) (piece : List ℕ) (j : IsJoined s) (short : length piece �
       ap (λ b. first_refusal ((refusal.NotOpen, not b) ∷ (refusal.NoNode, not (has_port c 0)) ∷ [])) (open_with_port c j.port)
       ∙ ap (λ b. first_refusal ((refusal.NotOpen, false) ∷ (refusal.NoNode, not b) ∷ [])) j.port
 
-  feeds-piece : step [] s (said 128 (Bytes 0 piece)) ≡ fed (map came messages)
+  feeds-piece : step [] s (input_at_start 128 (Bytes 0 piece)) ≡ fed (map came messages)
   feeds-piece =
       says s 128 (Bytes 0 piece) j.pending
       ∙ feeds [] s 0 128 0 piece
@@ -117,13 +117,13 @@ module _ (s : State) (piece : List ℕ) (j : IsJoined s) (short : length piece �
       ∙ ap fed (one_each s messages j.edges)
 
   -- each message comes to the second client's port
-  pub fed_comes : (step [] s (said 128 (Bytes 0 piece))).delivered ≡ map came messages
+  pub fed_comes : (step [] s (input_at_start 128 (Bytes 0 piece))).delivered ≡ map came messages
   fed_comes =
       ap (λ (a : Stepped). a.delivered) feeds-piece
       ∙ all-delivered messages s.pools (empty_pool most_waiting) j.pool fits
 
-  pub fed_delivers : flat_map delivery_line (step [] s (said 128 (Bytes 0 piece))).delivered ≡ lines_of thru_line (stream_of s ++ piece)
-  fed_delivers = ap (flat_map delivery_line) fed_comes ∙ came_lines messages
+  pub fed_delivers : flat_map passage_line (step [] s (input_at_start 128 (Bytes 0 piece))).delivered ≡ message_lines thru_line (fed_stream s ++ piece)
+  fed_delivers = ap (flat_map passage_line) fed_comes ∙ came_lines messages
 
   -- ---- and the second client takes them
 
@@ -140,16 +140,16 @@ module _ (s : State) (piece : List ℕ) (j : IsJoined s) (short : length piece �
   abbrev received : Stepped
   received = record { state = emptied; delivered = []; reply = Received (oldest most_waiting (FinMap.get waiting.pools 129)) }
 
-  takes-all : step [] waiting (said 129 (Receive most_waiting)) ≡ received
+  takes-all : step [] waiting (input_at_start 129 (Receive most_waiting)) ≡ received
   takes-all =
       says waiting 129 (Receive most_waiting) j.pending
       ∙ step-takes [] waiting 0 129 most_waiting
       ∙ ap (λ o. unless o waiting received) allowed
 
-  after-piece : step [] (step [] s (said 128 (Bytes 0 piece))).state (said 129 (Receive most_waiting)) ≡ received
-  after-piece = ap (λ (a : Stepped). step [] a.state (said 129 (Receive most_waiting))) feeds-piece ∙ takes-all
+  after-piece : step [] (step [] s (input_at_start 128 (Bytes 0 piece))).state (input_at_start 129 (Receive most_waiting)) ≡ received
+  after-piece = ap (λ (a : Stepped). step [] a.state (input_at_start 129 (Receive most_waiting))) feeds-piece ∙ takes-all
 
-  pub none_more : (step [] (step [] s (said 128 (Bytes 0 piece))).state (said 129 (Receive most_waiting))).delivered ≡ []
+  pub none_more : (step [] (step [] s (input_at_start 128 (Bytes 0 piece))).state (input_at_start 129 (Receive most_waiting))).delivered ≡ []
   none_more = ap (λ (a : Stepped). a.delivered) after-piece
 
   passed : state_after [] s (passage piece) ≡ emptied
@@ -166,7 +166,7 @@ module _ (s : State) (piece : List ℕ) (j : IsJoined s) (short : length piece �
       ∙ ap (without_oldest most_waiting) (all-wait messages s.pools (empty_pool most_waiting) j.pool fits)
       ∙ ap left none
 
-  emptied-stream : stream_of emptied ≡ rest (stream_of s ++ piece)
+  emptied-stream : fed_stream emptied ≡ rest (fed_stream s ++ piece)
   emptied-stream = ap (λ c. fed_of (port_of c 0)) first-client ∙ (fed_client (FinMap.get s.clients 128) piece j.port).stream
 
   emptied-joined : IsJoined emptied
@@ -176,7 +176,7 @@ module _ (s : State) (piece : List ℕ) (j : IsJoined s) (short : length piece �
     pool = emptied-pool;
     edges = j.edges;
     pending = j.pending;
-    stream = ap rest emptied-stream ∙ rest-rest (stream_of s ++ piece) ∙ sym emptied-stream;
+    stream = ap rest emptied-stream ∙ rest-rest (fed_stream s ++ piece) ∙ sym emptied-stream;
   }
     where
       rest-rest : (bytes : List ℕ) → rest (rest bytes) ≡ rest bytes
@@ -185,5 +185,5 @@ module _ (s : State) (piece : List ℕ) (j : IsJoined s) (short : length piece �
   pub passed_joined : IsJoined (state_after [] s (passage piece))
   passed_joined = subst IsJoined (sym passed) emptied-joined
 
-  pub passed_stream : stream_of (state_after [] s (passage piece)) ≡ rest (stream_of s ++ piece)
-  passed_stream = ap stream_of passed ∙ emptied-stream
+  pub passed_stream : fed_stream (state_after [] s (passage piece)) ≡ rest (fed_stream s ++ piece)
+  passed_stream = ap fed_stream passed ∙ emptied-stream

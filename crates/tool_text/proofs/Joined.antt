@@ -21,7 +21,7 @@ use Rattle.seq_state.specs.Step.{port_addr, upto, settle, Settled, Stepped, unle
 use Rattle.seq_state.proofs.Effects.{get-put, step-connects}
 use Rattle.seq_state.proofs.Done.{done, opens, creates-port}
 use Rattle.seq_engine.specs.Seen.{Seen}
-use Rattle.tool_text.specs.Thru.{said, stream_of, joining, after_input, IsJoined}
+use Rattle.tool_text.specs.Thru.{input_at_start, fed_stream, joining, after_input, IsJoined}
 
 -- ---- steps where nothing is pending
 
@@ -32,7 +32,7 @@ still s e =
     let stays : List Pending → Settled = λ ps. record { state = with ps; delivered = [] } in
     ap (λ ps. settle (with ps) 0) e ∙ ap stays (sym e)
 
-pub says : (s : State) (actor : ℕ) (command : Command) → s.pending ≡ [] → step [] s (said actor command) ≡ command_step [] s 0 actor command
+pub says : (s : State) (actor : ℕ) (command : Command) → s.pending ≡ [] → step [] s (input_at_start actor command) ≡ command_step [] s 0 actor command
 says s actor command e =
     let then : Settled → Stepped = λ x. let after : Stepped = command_step [] x.state 0 actor command in
     record { state = after.state; delivered = x.delivered ++ after.delivered; reply = after.reply } in
@@ -86,7 +86,7 @@ clients4 = FinMap.insert clients3 129 with_in
 
 -- a command that is not refused
 taken : (s : State) (actor : ℕ) (command : Command) (effect a : Stepped) → s.pending ≡ [] → command_step [] s 0 actor command ≡ unless (refusal_of [] s 0 actor command) s effect →
-    refusal_of [] s 0 actor command ≡ None → effect ≡ a → step [] s (said actor command) ≡ a
+    refusal_of [] s 0 actor command ≡ None → effect ≡ a → step [] s (input_at_start actor command) ≡ a
 taken s actor command effect a calm does allowed is = says s actor command calm ∙ does ∙ ap (λ o. unless o s effect) allowed ∙ is
 
 abbrev open_source : Command
@@ -150,29 +150,29 @@ abbrev made : State → ℕ → List ℕ → ℕ → Option Client → Stepped
 made s actor name caps client =
     done (record s { clients = put s.clients actor (with_change client (put_port 0 (Some (new_port name (record { 0 = caps }))))) }) Done
 
-first : step [] start (said 128 open_source) ≡ done state1 Done
+first : step [] start (input_at_start 128 open_source) ≡ done state1 Done
 first =
     taken start 128 open_source (done state1 Done) (done state1 Done) refl (opens [] start 0 128 (0x73 ∷ 0x6F ∷ 0x75 ∷ 0x72 ∷ 0x63 ∷ 0x65 ∷ []) 1 1)
     first-allowed refl
 
-second : step [] state1 (said 128 create_out) ≡ done state2 Done
+second : step [] state1 (input_at_start 128 create_out) ≡ done state2 Done
 second =
     let makes : Option Client → Stepped = made state1 128 (0x6F ∷ 0x75 ∷ 0x74 ∷ []) 33 in
     taken state1 128 create_out (makes (FinMap.get clients1 128)) (done state2 Done) refl (creates-port [] state1 0 128 0 (0x6F ∷ 0x75 ∷ 0x74 ∷ []) (record { 0 = 33 }))
     second-allowed (ap makes source-there)
 
-third : step [] state2 (said 129 open_sink) ≡ done state3 Done
+third : step [] state2 (input_at_start 129 open_sink) ≡ done state3 Done
 third =
     taken state2 129 open_sink (done state3 Done) (done state3 Done) refl (opens [] state2 0 129 (0x73 ∷ 0x69 ∷ 0x6E ∷ 0x6B ∷ []) most_waiting 1)
     third-allowed refl
 
-fourth : step [] state3 (said 129 create_in) ≡ done state4 Done
+fourth : step [] state3 (input_at_start 129 create_in) ≡ done state4 Done
 fourth =
     let makes : Option Client → Stepped = made state3 129 (0x69 ∷ 0x6E ∷ []) 66 in
     taken state3 129 create_in (makes (FinMap.get clients3 129)) (done state4 Done) refl (creates-port [] state3 0 129 0 (0x69 ∷ 0x6E ∷ []) (record { 0 = 66 }))
     fourth-allowed (ap makes sink-there)
 
-fifth : step [] state4 (said 129 connect) ≡ done whole Done
+fifth : step [] state4 (input_at_start 129 connect) ≡ done whole Done
 fifth =
     taken state4 129 connect (done whole Done) (done whole Done) refl (step-connects [] state4 0 129 (port_addr 128 0) (port_addr 129 0))
     fifth-allowed refl
@@ -203,7 +203,7 @@ whole-sink = simp finds
 whole-pool : FinMap.get both_pools 129 ≡ Some (empty_pool most_waiting)
 whole-pool = simp finds
 
-pub whole-stream : stream_of whole ≡ []
+pub whole-stream : fed_stream whole ≡ []
 whole-stream = simp finds
 
 pub whole-joined : IsJoined whole
@@ -219,18 +219,18 @@ whole-joined = record {
 pub joined-state : IsJoined (state_after [] start joining)
 joined-state = subst IsJoined (sym all_five) whole-joined
 
-pub joined-stream : stream_of (state_after [] start joining) ≡ []
-joined-stream = ap stream_of all_five ∙ whole-stream
+pub joined-stream : fed_stream (state_after [] start joining) ≡ []
+joined-stream = ap fed_stream all_five ∙ whole-stream
 
 -- ---- the session's commands
 
 -- one more command
 pub said_next : (e e' : Seen) (s : State) (k actor n : ℕ) (command command' : Command) → e ≡ record { files = []; state = s; moment = 0; steps = k; failed = false } →
-    e' ≡ after_input e (said actor command) → actor ≡ n → command ≡ command' →
-    e' ≡ record { files = []; state = (step [] s (said n command')).state; moment = 0; steps = k + 1; failed = false }
+    e' ≡ after_input e (input_at_start actor command) → actor ≡ n → command ≡ command' →
+    e' ≡ record { files = []; state = (step [] s (input_at_start n command')).state; moment = 0; steps = k + 1; failed = false }
 said_next e e' s k actor n command command' is next who what =
     let seen : Input → Seen = λ i. record { files = []; state = (step [] s i).state; moment = 0; steps = k + 1; failed = false } in
-    next ∙ ap (λ (x : Seen). after_input x (said actor command)) is ∙ ap (λ x. seen (said x command)) who ∙ ap (λ x. seen (said n x)) what
+    next ∙ ap (λ (x : Seen). after_input x (input_at_start actor command)) is ∙ ap (λ x. seen (input_at_start x command)) who ∙ ap (λ x. seen (input_at_start n x)) what
 
 pub unwrapped : (o : Option ℕ) (x n : ℕ) → o ≡ Some x → IfSome o (λ c. c ≡ n) → x ≡ n
 unwrapped o x n e h = let is : IfSome (Some x) (λ c. c ≡ n) = subst (λ (p : Option ℕ). IfSome p (λ c. c ≡ n)) e h in is

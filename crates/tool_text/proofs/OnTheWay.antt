@@ -13,8 +13,8 @@ use Rattle.seq_state.specs.Files.{File}
 use Rattle.seq_state.specs.State.{State, start}
 use Rattle.seq_state.specs.Step.{step, state_after}
 use Rattle.seq_engine.specs.Seen.{Seen}
-use Rattle.tool_text.specs.Stream.{lines_of}
-use Rattle.tool_text.specs.Thru.{said, most_piece, passage, delivery_line, thru_line, stream_of, joining, after_input, IsJoined, IsPassing, IsFed}
+use Rattle.tool_text.specs.Stream.{message_lines}
+use Rattle.tool_text.specs.Thru.{input_at_start, most_piece, passage, passage_line, thru_line, fed_stream, joining, after_input, IsJoined, IsPassing, IsFed}
 use Rattle.tool_text.proofs.Fed.{fed_delivers, passed_joined, passed_stream}
 use Rattle.tool_text.proofs.Few.{piece-few}
 use Rattle.tool_text.proofs.Joined.{joined-state, joined-stream}
@@ -26,16 +26,16 @@ use Rattle.tool_text.proofs.Joined.{joined-state, joined-stream}
 pub record IsOnTheWay (first now : Seen) (piece left old new : List ℕ) : Type 0 where
   pub passing : IsPassing now
   pub counted : now.steps + 2 * length left ≤ first.steps + 2 * length piece
-  pub written : new ++ lines_of thru_line (stream_of now.state ++ left) ≡ old ++ lines_of thru_line (stream_of first.state ++ piece)
-  pub stream : rest (stream_of now.state ++ left) ≡ rest (stream_of first.state ++ piece)
+  pub written : new ++ message_lines thru_line (fed_stream now.state ++ left) ≡ old ++ message_lines thru_line (fed_stream first.state ++ piece)
+  pub stream : rest (fed_stream now.state ++ left) ≡ rest (fed_stream first.state ++ piece)
 
-lines-in-two : (s t : List ℕ) → lines_of thru_line (s ++ t) ≡ lines_of thru_line s ++ lines_of thru_line (rest s ++ t)
+lines-in-two : (s t : List ℕ) → message_lines thru_line (s ++ t) ≡ message_lines thru_line s ++ message_lines thru_line (rest s ++ t)
 lines-in-two s t = ap (flat_map thru_line) (reads-in-two s t) ∙ flat_map-append thru_line (reading s) (reading (rest s ++ t))
 
 pub goes-on : (first e e' : Seen) (piece left part left' old text text' : List ℕ) → IsOnTheWay first e piece left old text → left ≡ part ++ left' → 0 < length part →
-    IsPassing e' → e'.steps ≡ e.steps + 2 → text' ≡ text ++ lines_of thru_line (stream_of e.state ++ part) → stream_of e'.state ≡ rest (stream_of e.state ++ part) → IsOnTheWay first e' piece left' old text'
+    IsPassing e' → e'.steps ≡ e.steps + 2 → text' ≡ text ++ message_lines thru_line (fed_stream e.state ++ part) → fed_stream e'.state ≡ rest (fed_stream e.state ++ part) → IsOnTheWay first e' piece left' old text'
 goes-on first e e' piece left part left' old text text' w split some p steps added stream =
-    let s : List ℕ = stream_of e.state in
+    let s : List ℕ = fed_stream e.state in
     let whole : (s ++ part) ++ left' ≡ s ++ left = append_assoc s part left' ∙ ap (λ xs. s ++ xs) (sym split) in
     let was : e.steps + 2 * length left ≤ first.steps + 2 * length piece = w.counted in
     let n : length left ≡ length part + length left' = ap length split ∙ length-append part left' in
@@ -43,10 +43,10 @@ goes-on first e e' piece left part left' old text text' w split some p steps add
       passing = p;
       counted = omega arith;
       written =
-          ap (λ xs. xs ++ lines_of thru_line (stream_of e'.state ++ left')) added
-          ∙ ap (λ r. (text ++ lines_of thru_line (s ++ part)) ++ lines_of thru_line (r ++ left')) stream
-          ∙ append_assoc text (lines_of thru_line (s ++ part)) (lines_of thru_line (rest (s ++ part) ++ left'))
-          ∙ ap (λ xs. text ++ xs) (sym (lines-in-two (s ++ part) left') ∙ ap (lines_of thru_line) whole)
+          ap (λ xs. xs ++ message_lines thru_line (fed_stream e'.state ++ left')) added
+          ∙ ap (λ r. (text ++ message_lines thru_line (s ++ part)) ++ message_lines thru_line (r ++ left')) stream
+          ∙ append_assoc text (message_lines thru_line (s ++ part)) (message_lines thru_line (rest (s ++ part) ++ left'))
+          ∙ ap (λ xs. text ++ xs) (sym (lines-in-two (s ++ part) left') ∙ ap (message_lines thru_line) whole)
           ∙ w.written;
       stream = ap (λ r. rest (r ++ left')) stream ∙ sym (rests-in-two (s ++ part) left') ∙ ap rest whole ∙ w.stream;
     }
@@ -58,18 +58,18 @@ silent r same =
     ap (λ q. reading (q ++ [])) (sym same) ∙ nil_from_length (reading (rest r ++ [])) (omega arith)
 
 module _ (first e : Seen) (piece left old new : List ℕ) (w : IsOnTheWay first e piece left old new) (none : left ≡ []) where
-  pub arrives : new ≡ old ++ lines_of thru_line (stream_of first.state ++ piece)
+  pub arrives : new ≡ old ++ message_lines thru_line (fed_stream first.state ++ piece)
   arrives =
       sym (append-nil new)
-      ∙ ap (λ ms. new ++ flat_map thru_line ms) (sym (silent (stream_of e.state) w.passing.joined.stream))
-      ∙ ap (λ xs. new ++ lines_of thru_line (stream_of e.state ++ xs)) (sym none)
+      ∙ ap (λ ms. new ++ flat_map thru_line ms) (sym (silent (fed_stream e.state) w.passing.joined.stream))
+      ∙ ap (λ xs. new ++ message_lines thru_line (fed_stream e.state ++ xs)) (sym none)
       ∙ w.written
 
-  pub stream-arrives : stream_of e.state ≡ rest (stream_of first.state ++ piece)
+  pub stream-arrives : fed_stream e.state ≡ rest (fed_stream first.state ++ piece)
   stream-arrives =
       sym w.passing.joined.stream
-      ∙ ap rest (sym (append-nil (stream_of e.state)))
-      ∙ ap (λ xs. rest (stream_of e.state ++ xs)) (sym none)
+      ∙ ap rest (sym (append-nil (fed_stream e.state)))
+      ∙ ap (λ xs. rest (fed_stream e.state ++ xs)) (sym none)
       ∙ w.stream
 
   pub counted-there : e.steps ≤ first.steps + 2 * length piece
@@ -89,10 +89,10 @@ fed_nothing e is =
         sound = ap (λ (x : Seen). x.failed) is;
       };
       counted = omega arith;
-      stream = ap (λ (x : Seen). stream_of x.state) is ∙ joined-stream;
+      stream = ap (λ (x : Seen). fed_stream x.state) is ∙ joined-stream;
     }
 
-pub fed_more : (e e' : Seen) (read piece : List ℕ) → IsFed e read → IsPassing e' → stream_of e'.state ≡ rest (stream_of e.state ++ piece) → e'.steps ≤ e.steps + 2 * length piece → IsFed e' (read ++ piece)
+pub fed_more : (e e' : Seen) (read piece : List ℕ) → IsFed e read → IsPassing e' → fed_stream e'.state ≡ rest (fed_stream e.state ++ piece) → e'.steps ≤ e.steps + 2 * length piece → IsFed e' (read ++ piece)
 fed_more e e' read piece f passing stream counted =
     let was : e.steps ≤ 5 + 2 * length read = f.counted in
     let longer : length (read ++ piece) ≡ length read + length piece = length-append read piece in
@@ -105,27 +105,27 @@ fed_more e e' read piece f passing stream counted =
 -- ---- the two steps of a part
 
 module _ (e e1 e2 : Seen) (source sink : ℕ) (command : Command) (part : List ℕ) (p : IsPassing e) (short : length part ≤ most_piece) (who : source ≡ 128) (what : command ≡ Bytes 0 part) where
-  abbrev same-input : said source command ≡ said 128 (Bytes 0 part)
-  same-input = ap (λ c. said c command) who ∙ ap (said 128) what
+  abbrev same-input : input_at_start source command ≡ input_at_start 128 (Bytes 0 part)
+  same-input = ap (λ c. input_at_start c command) who ∙ ap (input_at_start 128) what
 
-  pub part-lines : (ds : List Delivery) → ds ≡ (step e.files e.state (said source command)).delivered → flat_map delivery_line ds ≡ lines_of thru_line (stream_of e.state ++ part)
+  pub part-lines : (ds : List Delivery) → ds ≡ (step e.files e.state (input_at_start source command)).delivered → flat_map passage_line ds ≡ message_lines thru_line (fed_stream e.state ++ part)
   part-lines ds given =
-      ap (flat_map delivery_line) given
-      ∙ ap (λ i. flat_map delivery_line (step e.files e.state i).delivered) same-input
-      ∙ ap (λ fs. flat_map delivery_line (step fs e.state (said 128 (Bytes 0 part))).delivered) p.files
+      ap (flat_map passage_line) given
+      ∙ ap (λ i. flat_map passage_line (step e.files e.state i).delivered) same-input
+      ∙ ap (λ fs. flat_map passage_line (step fs e.state (input_at_start 128 (Bytes 0 part))).delivered) p.files
       ∙ fed_delivers e.state part p.joined short
 
-  module _ (fed : e1 ≡ after_input e (said source command)) (taker : sink ≡ 129) (emptied : e2 ≡ after_input e1 (said sink (Receive most_waiting))) where
+  module _ (fed : e1 ≡ after_input e (input_at_start source command)) (taker : sink ≡ 129) (emptied : e2 ≡ after_input e1 (input_at_start sink (Receive most_waiting))) where
     abbrev there : State → Seen
     there s = record { files = []; state = s; moment = 0; steps = e.steps + 2; failed = false }
 
     after-part : e2 ≡ there (state_after [] e.state (passage part))
     after-part =
-        let goes : List File → ℕ → Bool → Seen = λ fs n b. record { files = fs; state = (step fs (step fs e.state (said 128 (Bytes 0 part))).state (said 129 (Receive most_waiting))).state; moment = 0; steps = n; failed = b } in
+        let goes : List File → ℕ → Bool → Seen = λ fs n b. record { files = fs; state = (step fs (step fs e.state (input_at_start 128 (Bytes 0 part))).state (input_at_start 129 (Receive most_waiting))).state; moment = 0; steps = n; failed = b } in
         emptied
-        ∙ ap (λ x. after_input x (said sink (Receive most_waiting))) fed
-        ∙ ap (λ c. after_input (after_input e (said source command)) (said c (Receive most_waiting))) taker
-        ∙ ap (λ i. after_input (after_input e i) (said 129 (Receive most_waiting))) same-input
+        ∙ ap (λ x. after_input x (input_at_start sink (Receive most_waiting))) fed
+        ∙ ap (λ c. after_input (after_input e (input_at_start source command)) (input_at_start c (Receive most_waiting))) taker
+        ∙ ap (λ i. after_input (after_input e i) (input_at_start 129 (Receive most_waiting))) same-input
         ∙ ap (λ fs. goes fs (e.steps + 1 + 1) e.failed) p.files
         ∙ ap (λ n. goes [] n e.failed) (let two : e.steps + 1 + 1 ≡ e.steps + 2 = omega arith in two)
         ∙ ap (goes [] (e.steps + 2)) p.sound
@@ -133,5 +133,5 @@ module _ (e e1 e2 : Seen) (source sink : ℕ) (command : Command) (part : List �
     pub part-passing : IsPassing e2
     part-passing = subst IsPassing (sym after-part) (record { files = refl; joined = passed_joined e.state part p.joined short; early = refl; sound = refl })
 
-    pub part-stream : stream_of e2.state ≡ rest (stream_of e.state ++ part)
-    part-stream = ap (λ (x : Seen). stream_of x.state) after-part ∙ passed_stream e.state part p.joined short
+    pub part-stream : fed_stream e2.state ≡ rest (fed_stream e.state ++ part)
+    part-stream = ap (λ (x : Seen). fed_stream x.state) after-part ∙ passed_stream e.state part p.joined short

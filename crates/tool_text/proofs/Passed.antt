@@ -7,7 +7,7 @@ use Rattle.midi_wire.specs.Readings.{reading, rest}
 use Rattle.midi_wire.proofs.Settled.{reads-in-two}
 use Rattle.tool_text.specs.Limits.{most_bytes}
 use Rattle.tool_text.specs.Gathered.{Stops}
-use Rattle.tool_text.specs.Stream.{lines_of, StopsShort}
+use Rattle.tool_text.specs.Stream.{message_lines, StopsShort}
 use Rattle.tool_text.proofs.Pieces.{stops-split}
 
 -- These bytes were taken, and the lines for them were written: `tells` says whether the source tells its bytes, `told` whether the sink does.
@@ -81,11 +81,11 @@ stops_same text text' bytes old new same s = record { read = s.read; unread = s.
 -- ---- the lines of a piece
 
 -- the lines for a piece go on from what still matters
-pub lines_more : (line : List ℕ → List ℕ) (read piece stream text added : List ℕ) → stream ≡ rest read → text ≡ [] → added ≡ text ++ lines_of line (stream ++ piece) → lines_of line (read ++ piece) ≡ lines_of line read ++ added
+pub lines_more : (line : List ℕ → List ℕ) (read piece stream text added : List ℕ) → stream ≡ rest read → text ≡ [] → added ≡ text ++ message_lines line (stream ++ piece) → message_lines line (read ++ piece) ≡ message_lines line read ++ added
 lines_more line read piece stream text added s e a =
     ap (flat_map line) (reads-in-two read piece)
     ∙ flat_map-append line (reading read) (reading (rest read ++ piece))
-    ∙ ap (λ xs. lines_of line read ++ xs) (sym (a ∙ ap (λ xs. xs ++ lines_of line (stream ++ piece)) e ∙ ap (λ r. lines_of line (r ++ piece)) s))
+    ∙ ap (λ xs. message_lines line read ++ xs) (sym (a ∙ ap (λ xs. xs ++ message_lines line (stream ++ piece)) e ∙ ap (λ r. message_lines line (r ++ piece)) s))
 
 -- ---- what a device answers
 

@@ -14,8 +14,8 @@ use Rattle.seq_state.specs.declared.log.LogEntry.TheVariants.{Delivered, Replied
 use Rattle.seq_state.specs.Laws.{deliveries_of}
 use Rattle.seq_state.specs.State.{State, start}
 use Rattle.seq_state.specs.Step.{settle, step, log_from, plain, state_after}
-use Rattle.tool_text.specs.Stream.{lines_of}
-use Rattle.tool_text.specs.Thru.{said, pieces, passage, passing, delivery_line, thru_line, thru_text, stream_of, IsJoined}
+use Rattle.tool_text.specs.Stream.{message_lines}
+use Rattle.tool_text.specs.Thru.{input_at_start, pieces, passage, passing, passage_line, thru_line, thru_text, fed_stream, IsJoined}
 use Rattle.tool_text.proofs.Cut.{AreShort, pieces-short, pieces-whole}
 use Rattle.tool_text.proofs.Fed.{came_lines, fed_comes, none_more, passed_joined, passed_stream}
 use Rattle.tool_text.proofs.Joined.{come, whole, none-due, joining-comes, whole-joined, whole-stream}
@@ -40,17 +40,17 @@ of_log s place (i ∷ inputs) =
 -- ---- the whole run
 
 -- what comes of pieces is the messages that they complete
-pieces-come : (ps : List (List ℕ)) (s : State) → AreShort ps → IsJoined s → come s (flat_map passage ps) ≡ map came (reading_of_pieces (stream_of s) ps)
+pieces-come : (ps : List (List ℕ)) (s : State) → AreShort ps → IsJoined s → come s (flat_map passage ps) ≡ map came (reading_of_pieces (fed_stream s) ps)
 pieces-come [] s short j = none-due s j.pending
 pieces-come (p ∷ ps) s short j =
-    let ms : List (List ℕ) = reading (stream_of s ++ p) in
+    let ms : List (List ℕ) = reading (fed_stream s ++ p) in
     let after : State = state_after [] s (passage p) in
     let more : List Delivery = come after (flat_map passage ps) in
-    ap (λ ds. ds ++ ((step [] (step [] s (said 128 (Bytes 0 p))).state (said 129 (Receive most_waiting))).delivered ++ more)) (fed_comes s p j short.0)
+    ap (λ ds. ds ++ ((step [] (step [] s (input_at_start 128 (Bytes 0 p))).state (input_at_start 129 (Receive most_waiting))).delivered ++ more)) (fed_comes s p j short.0)
     ∙ ap (λ ds. map came ms ++ (ds ++ more)) (none_more s p j short.0)
     ∙ ap (λ ds. map came ms ++ ds) (pieces-come ps after short.1 (passed_joined s p j short.0))
     ∙ ap (λ r. map came ms ++ map came (reading_of_pieces r ps)) (passed_stream s p j short.0)
-    ∙ sym (map-append came ms (reading_of_pieces (rest (stream_of s ++ p)) ps))
+    ∙ sym (map-append came ms (reading_of_pieces (rest (fed_stream s ++ p)) ps))
 
 -- what comes to ports is the messages of the stream, each once
 run_delivers : (bytes : List ℕ) → deliveries_of (plain [] (passing bytes) 0) ≡ map came (reading bytes)
@@ -62,11 +62,11 @@ run_delivers bytes =
     ∙ ap (map came) (reads-in-pieces (pieces bytes))
     ∙ ap (λ b. map came (reading b)) (pieces-whole bytes)
 
-pub thru_lines : (bytes : List ℕ) → thru_text bytes ≡ lines_of thru_line bytes
+pub thru_lines : (bytes : List ℕ) → thru_text bytes ≡ message_lines thru_line bytes
 unfolding thru_text
-thru_lines bytes = ap (flat_map delivery_line) (run_delivers bytes) ∙ came_lines (reading bytes)
+thru_lines bytes = ap (flat_map passage_line) (run_delivers bytes) ∙ came_lines (reading bytes)
 
 -- a stream of no bytes has no lines
-pub no_lines : (line : List ℕ → List ℕ) → lines_of line [] ≡ []
+pub no_lines : (line : List ℕ → List ℕ) → message_lines line [] ≡ []
 unfolding reading
 no_lines line = refl

@@ -44,21 +44,21 @@ abbrev pub escaped : List ℕ → List ℕ
 escaped text = flat_map shown (chars text)
 
 -- what stands in the line of a fault
-abbrev pub fault_text : ProgramFault → List ℕ
-fault_text NotUtf8 = codes "an argument is not UTF-8"
-fault_text NoSubcommand = codes "name a subcommand; see midiseq --help"
-fault_text (NotAMoment word) = escaped word.now ++ codes " is no moment in nanoseconds; see midiseq --help"
-fault_text (NotAPort word) =
+abbrev pub program_fault_text : ProgramFault → List ℕ
+program_fault_text NotUtf8 = codes "an argument is not UTF-8"
+program_fault_text NoSubcommand = codes "name a subcommand; see midiseq --help"
+program_fault_text (NotAMoment word) = escaped word.now ++ codes " is no moment in nanoseconds; see midiseq --help"
+program_fault_text (NotAPort word) =
     escaped word.now ++ codes " names no port 0 to 15 of a client 128 to 191; see midiseq --help"
-fault_text (NotAScript word) =
+program_fault_text (NotAScript word) =
     escaped word.now ++ codes " names no script of a client 128 to 191; see midiseq --help"
-fault_text (TwoScripts client) =
+program_fault_text (TwoScripts client) =
     codes "client " ++ decimal client ++ codes " has two scripts; see midiseq --help"
-fault_text (CannotRead path) = codes "cannot read " ++ escaped path.now
-fault_text (CannotWrite path) = codes "cannot write " ++ escaped path.now
-fault_text OutOfMemory = codes "out of memory"
-fault_text CannotRecord = codes "cannot record"
-fault_text (Smf fault) = smf.fault_text fault
+program_fault_text (CannotRead path) = codes "cannot read " ++ escaped path.now
+program_fault_text (CannotWrite path) = codes "cannot write " ++ escaped path.now
+program_fault_text OutOfMemory = codes "out of memory"
+program_fault_text CannotRecord = codes "cannot record"
+program_fault_text (Smf fault) = smf.fault_text fault
 
 -- what is printed for the fault of a tool that was given a stream
 abbrev pub told_text : Stream → ToolFault → List ℕ
@@ -72,15 +72,15 @@ abbrev pub left_out_text : List ℕ → List ℕ
 left_out_text name = codes "left out " ++ escaped name
 
 -- 2 for a fault in the words, 1 for any other
-abbrev pub status_of : ProgramFault → ℕ
-status_of NotUtf8 = 2
-status_of NoSubcommand = 2
-status_of (NotAMoment word) = 2
-status_of (NotAPort word) = 2
-status_of (NotAScript word) = 2
-status_of (TwoScripts client) = 2
-status_of (CannotRead path) = 1
-status_of (CannotWrite path) = 1
-status_of OutOfMemory = 1
-status_of CannotRecord = 1
-status_of (Smf fault) = 1
+abbrev pub exit_status : ProgramFault → ℕ
+exit_status NotUtf8 = 2
+exit_status NoSubcommand = 2
+exit_status (NotAMoment word) = 2
+exit_status (NotAPort word) = 2
+exit_status (NotAScript word) = 2
+exit_status (TwoScripts client) = 2
+exit_status (CannotRead path) = 1
+exit_status (CannotWrite path) = 1
+exit_status OutOfMemory = 1
+exit_status CannotRecord = 1
+exit_status (Smf fault) = 1

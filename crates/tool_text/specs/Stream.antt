@@ -5,8 +5,8 @@ use Rattle.midi_wire.specs.Readings.{reading}
 use Rattle.tool_text.specs.Limits.{most_bytes}
 
 -- a line for each message of a stream
-abbrev pub lines_of : (List ℕ → List ℕ) → List ℕ → List ℕ
-lines_of line bytes = flat_map line (reading bytes)
+abbrev pub message_lines : (List ℕ → List ℕ) → List ℕ → List ℕ
+message_lines line bytes = flat_map line (reading bytes)
 
 -- bytes were taken, and with this piece they are not too many
 abbrev pub HasRoom : (List ℕ → Type 0) → List ℕ → Type 0

@@ -20,23 +20,23 @@ use Rattle.seq_state.specs.State.{State}
 use Rattle.seq_state.specs.Step.{port_addr, step, plain}
 use Rattle.seq_engine.specs.Seen.{Seen}
 use Rattle.text_forms.specs.Hex.{spaced}
-use Rattle.tool_text.specs.Stream.{lines_of}
+use Rattle.tool_text.specs.Stream.{message_lines}
 
 -- ---- the run
 
 -- a client says this at moment 0
-abbrev pub said : ℕ → Command → Input
-said client command = record { moment = 0; actor = client; command = command }
+abbrev pub input_at_start : ℕ → Command → Input
+input_at_start client command = record { moment = 0; actor = client; command = command }
 
 -- clients "source" and "sink" with ports "out" and "in"; the second subscribes its port to the
 -- first's, and as many messages may wait for it as may for any client
 abbrev pub joining : List Input
 joining =
-    said 128 (Open (0x73 ∷ 0x6F ∷ 0x75 ∷ 0x72 ∷ 0x63 ∷ 0x65 ∷ []) 1 1)
-    ∷ said 128 (CreatePort 0 (0x6F ∷ 0x75 ∷ 0x74 ∷ []) (record { 0 = 33 }))
-    ∷ said 129 (Open (0x73 ∷ 0x69 ∷ 0x6E ∷ 0x6B ∷ []) most_waiting 1)
-    ∷ said 129 (CreatePort 0 (0x69 ∷ 0x6E ∷ []) (record { 0 = 66 }))
-    ∷ said 129 (Connect (port_addr 128 0) (port_addr 129 0)) ∷ []
+    input_at_start 128 (Open (0x73 ∷ 0x6F ∷ 0x75 ∷ 0x72 ∷ 0x63 ∷ 0x65 ∷ []) 1 1)
+    ∷ input_at_start 128 (CreatePort 0 (0x6F ∷ 0x75 ∷ 0x74 ∷ []) (record { 0 = 33 }))
+    ∷ input_at_start 129 (Open (0x73 ∷ 0x69 ∷ 0x6E ∷ 0x6B ∷ []) most_waiting 1)
+    ∷ input_at_start 129 (CreatePort 0 (0x69 ∷ 0x6E ∷ []) (record { 0 = 66 }))
+    ∷ input_at_start 129 (Connect (port_addr 128 0) (port_addr 129 0)) ∷ []
 
 -- how many bytes are passed on at once: a byte completes at most two messages, so that a piece
 -- completes no more than may wait for the second client
@@ -54,7 +54,7 @@ pieces bytes = first_pieces (div_ceil (length bytes) most_piece) bytes
 
 -- the first client's port is fed a piece, and then the second client takes all that waits for it
 abbrev pub passage : List ℕ → List Input
-passage piece = said 128 (Bytes 0 piece) ∷ said 129 (Receive most_waiting) ∷ []
+passage piece = input_at_start 128 (Bytes 0 piece) ∷ input_at_start 129 (Receive most_waiting) ∷ []
 
 -- they are joined, and then the stream passes, one piece after another
 abbrev pub passing : List ℕ → List Input
@@ -68,12 +68,12 @@ heading moment target =
     decimal moment ++ 32 ∷ [] ++ addr_text target.client (Port target.port)
 
 -- a delivery: its moment, its port and its message
-abbrev pub delivery_line : Delivery → List ℕ
-delivery_line d = heading d.moment d.target ++ spaced d.message ++ 10 ∷ []
+abbrev pub passage_line : Delivery → List ℕ
+passage_line d = heading d.moment d.target ++ spaced d.message ++ 10 ∷ []
 
 -- a line for each delivery of the plain run
 unfoldable pub thru_text : List ℕ → List ℕ
-thru_text bytes = flat_map delivery_line (deliveries_of (plain [] (passing bytes) 0))
+thru_text bytes = flat_map passage_line (deliveries_of (plain [] (passing bytes) 0))
 
 -- a message of the stream as it comes to the port of the second client
 abbrev pub thru_line : List ℕ → List ℕ
@@ -81,13 +81,13 @@ thru_line message = codes "0 129:p0" ++ spaced message ++ 10 ∷ []
 
 -- the text is a line for each message of the stream
 abbrev pub ThruLaw : Type 0
-ThruLaw = (bytes : List ℕ) → thru_text bytes ≡ lines_of thru_line bytes
+ThruLaw = (bytes : List ℕ) → thru_text bytes ≡ message_lines thru_line bytes
 
 -- ---- the sequencer on the way
 
 -- what still matters of the stream that the first client's port was fed
-abbrev pub stream_of : State → List ℕ
-stream_of s = fed_of (port_of (FinMap.get s.clients 128) 0)
+abbrev pub fed_stream : State → List ℕ
+fed_stream s = fed_of (port_of (FinMap.get s.clients 128) 0)
 
 -- the first client has its port, whose stream is kept by what still matters of it; the second's is
 -- the one that is subscribed to it; and nothing waits or is still to be sent
@@ -97,7 +97,7 @@ pub record IsJoined (s : State) : Type 0 where
   pub pool : FinMap.get s.pools 129 ≡ Some (empty_pool most_waiting)
   pub edges : s.edges ≡ edge (port_addr 128 0) (port_addr 129 0) ∷ []
   pub pending : s.pending ≡ []
-  pub stream : rest (stream_of s) ≡ stream_of s
+  pub stream : rest (fed_stream s) ≡ fed_stream s
 
 -- an engine after an input at moment 0
 abbrev pub after_input : Seen → Input → Seen
@@ -114,4 +114,4 @@ pub record IsPassing (e : Seen) : Type 0 where
 pub record IsFed (e : Seen) (read : List ℕ) : Type 0 where
   pub passing : IsPassing e
   pub counted : e.steps ≤ 5 + 2 * length read
-  pub stream : stream_of e.state ≡ rest read
+  pub stream : fed_stream e.state ≡ rest read

@@ -4,7 +4,7 @@ use Rattle.midi_wire.specs.Parsing.{Parsing}
 use Rattle.midi_wire.specs.Readings.{reading, rest}
 use Rattle.midi_wire.specs.Writings.{written, status_in_force}
 use Rattle.text_forms.specs.Hex.{spaced, in_hex}
-use Rattle.tool_text.specs.Stream.{lines_of}
+use Rattle.tool_text.specs.Stream.{message_lines}
 
 -- a message on a line
 abbrev pub wire_line : List ℕ → List ℕ
@@ -20,7 +20,7 @@ wire_ending bytes = written_line (written (reading bytes))
 
 -- a line for each message of the stream, and then the last line
 abbrev pub wire_text : List ℕ → List ℕ
-wire_text bytes = lines_of wire_line bytes ++ wire_ending bytes
+wire_text bytes = message_lines wire_line bytes ++ wire_ending bytes
 
 -- the parser was fed these bytes, and their messages were written back
 pub record IsCopied (parsing : Parsing) (status : Option ℕ) (back read : List ℕ) : Type 0 where

@@ -1,7 +1,7 @@
 //! Why the program stops.
 
 ghost use Rattle.std.specs.Prelude.{◌≡◌, ◌≢◌};
-ghost use Rattle.tool_text.specs.Program.{fault_text, told_text, status_of};
+ghost use Rattle.tool_text.specs.Program.{program_fault_text, told_text, exit_status};
 
 use crate::choice::{STANDARD, Stream};
 use crate::escaped::Escaped;
@@ -48,8 +48,8 @@ impl<'a> ProgramFault<'a> {
 
     /// The fault of a tool that was given a stream. The tools print on standard output.
     pub fn of_tool(stream: Stream<'a>, fault: ToolFault) -> ProgramFault<'a>
-        ensures text { fault_text result ≡ told_text stream.entry fault }
-        ensures status { status_of result ≡ 1 }
+        ensures text { program_fault_text result ≡ told_text stream.entry fault }
+        ensures status { exit_status result ≡ 1 }
     {
         match fault {
             ToolFault::OutOfMemory => ProgramFault::OutOfMemory,
@@ -61,7 +61,7 @@ impl<'a> ProgramFault<'a> {
 
     /// The status that the program ends with: 2 for a fault in the words, 1 for any other.
     pub fn status(&self) -> u8
-        ensures { result ≡ status_of self.now }
+        ensures { result ≡ exit_status self.now }
     {
         match self {
             ProgramFault::NotUtf8
@@ -81,9 +81,9 @@ impl<'a> ProgramFault<'a> {
 
 impl fmt::Display for ProgramFault<'_> {
     ghost use Rattle.std.specs.Prelude.{Some};
-    ghost use Rattle.tool_text.specs.Program.{fault_text};
+    ghost use Rattle.tool_text.specs.Program.{program_fault_text};
 
-    ghost output = { λ e. Some (fault_text e) };
+    ghost output = { λ e. Some (program_fault_text e) };
 
     fn fmt<W: fmt::Write>(&self, f: &mut fmt::Formatter<W>) -> fmt::Result {
         match *self {

@@ -7,8 +7,8 @@ ghost use Rattle.seq_state.specs.State.{start};
 ghost use Rattle.seq_state.specs.Step.{port_addr, step, state_after};
 ghost use Rattle.tool_text.specs.Faults.{IsOfStream};
 ghost use Rattle.tool_text.specs.Limits.{most_bytes};
-ghost use Rattle.tool_text.specs.Stream.{lines_of, HasRoom, StopsShort};
-ghost use Rattle.tool_text.specs.Thru.{delivery_line, thru_line, thru_text, stream_of, said, joining, most_piece, after_input, IsPassing, IsFed};
+ghost use Rattle.tool_text.specs.Stream.{message_lines, HasRoom, StopsShort};
+ghost use Rattle.tool_text.specs.Thru.{passage_line, thru_line, thru_text, fed_stream, input_at_start, joining, most_piece, after_input, IsPassing, IsFed};
 
 use crate::fault::ToolFault;
 use crate::heading::Heading;
@@ -84,12 +84,12 @@ impl<'b> Passage<'b> {
 }
 
 impl<'b> Printer for Passage<'b> {
-    ghost use Rattle.tool_text.specs.Stream.{lines_of};
+    ghost use Rattle.tool_text.specs.Stream.{message_lines};
     ghost use Rattle.tool_text.specs.Thru.{thru_line, IsFed};
 
     ghost HasTaken = { λ p read. IsFed p.engine read };
 
-    ghost lines = { lines_of thru_line };
+    ghost lines = { message_lines thru_line };
 
     fn take(&mut self, piece: &[u8], text: &mut Vec<u8>) -> Result<(), ToolFault> {
         pass_on(self.alloc, &mut self.engine, piece, &mut self.bytes, text)
@@ -129,7 +129,7 @@ fn say<'b>(
 ) -> Result<(), ToolFault>
     requires early { engine.old.moment ≡ 0 }
     requires counted { engine.old.steps < 2 ^ 63 }
-    ensures state { OnOk result (engine.new ≡ after_input engine.old (said actor command)) }
+    ensures state { OnOk result (engine.new ≡ after_input engine.old (input_at_start actor command)) }
     ensures only { IfErr result (λ e. e ≡ ToolFault.OutOfMemory) }
 {
     take(engine, actor, command)?;
@@ -144,9 +144,9 @@ fn take<'b>(
 ) -> Result<Items<Delivery>, ToolFault>
     requires early { engine.old.moment ≡ 0 }
     requires counted { engine.old.steps < 2 ^ 63 }
-    ensures state { OnOk result (engine.new ≡ after_input engine.old (said actor command)) }
+    ensures state { OnOk result (engine.new ≡ after_input engine.old (input_at_start actor command)) }
     ensures delivered { IfOk result (λ ds.
-        ds ≡ (step engine.old.files engine.old.state (said actor command)).delivered) }
+        ds ≡ (step engine.old.files engine.old.state (input_at_start actor command)).delivered) }
     ensures only { IfErr result (λ e. e ≡ ToolFault.OutOfMemory) }
 {
     let input = Input {
@@ -218,9 +218,9 @@ fn pass_on<'b>(
     requires counted { engine.old.steps + 2 * length piece.now < 2 ^ 63 }
 
     ensures text { OnOk result (text.new.items
-        ≡ text.old.items ++ lines_of thru_line (stream_of engine.old.state ++ piece.now)) }
-    ensures stream { OnOk result (stream_of engine.new.state
-        ≡ rest (stream_of engine.old.state ++ piece.now)) }
+        ≡ text.old.items ++ message_lines thru_line (fed_stream engine.old.state ++ piece.now)) }
+    ensures stream { OnOk result (fed_stream engine.new.state
+        ≡ rest (fed_stream engine.old.state ++ piece.now)) }
     ensures passing { OnOk result (IsPassing engine.new) }
     ensures counted { OnOk result (engine.new.steps ≤ engine.old.steps + 2 * length piece.now) }
     ensures only { IfErr result (λ e. e ≡ ToolFault.OutOfMemory) }
@@ -245,9 +245,9 @@ fn pass_part<'b>(
     requires short { length part.now ≤ most_piece }
 
     ensures text { OnOk result (text.new.items
-        ≡ text.old.items ++ lines_of thru_line (stream_of engine.old.state ++ part.now)) }
-    ensures stream { OnOk result (stream_of engine.new.state
-        ≡ rest (stream_of engine.old.state ++ part.now)) }
+        ≡ text.old.items ++ message_lines thru_line (fed_stream engine.old.state ++ part.now)) }
+    ensures stream { OnOk result (fed_stream engine.new.state
+        ≡ rest (fed_stream engine.old.state ++ part.now)) }
     ensures passing { OnOk result (IsPassing engine.new) }
     ensures counted { OnOk result (engine.new.steps ≡ engine.old.steps + 2) }
     ensures only { IfErr result (λ e. e ≡ ToolFault.OutOfMemory) }
@@ -266,7 +266,7 @@ fn add_lines(
     bytes: &mut Vec<u8>,
     text: &mut Vec<u8>,
 ) -> Result<(), OutOfMemory>
-    ensures { OnOk result (text.new.items ≡ text.old.items ++ flat_map delivery_line delivered) }
+    ensures { OnOk result (text.new.items ≡ text.old.items ++ flat_map passage_line delivered) }
 {
     let Some(first) = delivered.as_slice().first() else {
         return Ok(());
@@ -285,7 +285,7 @@ fn push_delivery(
     bytes: &mut Vec<u8>,
     text: &mut Vec<u8>,
 ) -> Result<(), OutOfMemory>
-    ensures { OnOk result (text.new.items ≡ text.old.items ++ delivery_line delivery.now) }
+    ensures { OnOk result (text.new.items ≡ text.old.items ++ passage_line delivery.now) }
 {
     heading.push(text, delivery.moment, delivery.target)?;
     bytes.clear();

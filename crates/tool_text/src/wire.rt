@@ -8,7 +8,7 @@ ghost use Rattle.text_forms.specs.Hex.{spaced};
 ghost use Rattle.tool_text.specs.Faults.{IsOfStream, IsOutput};
 ghost use Rattle.tool_text.specs.Gathered.{Goes, Stops};
 ghost use Rattle.tool_text.specs.Limits.{most_bytes};
-ghost use Rattle.tool_text.specs.Stream.{lines_of, HasRoom, StopsShort};
+ghost use Rattle.tool_text.specs.Stream.{message_lines, HasRoom, StopsShort};
 ghost use Rattle.tool_text.specs.Wire.{wire_line, written_line, wire_text, IsCopied};
 
 use crate::fault::ToolFault;
@@ -87,7 +87,7 @@ impl Copier {
     fn copy(&mut self, piece: &[u8], text: &mut Vec<u8>) -> Result<(), ToolFault>
         requires sound { self.old.parser.failed ≡ false }
 
-        ensures text { OnOk result (text.new.items ≡ text.old.items ++ lines_of wire_line (self.old.parser.rest ++ piece.now)) }
+        ensures text { OnOk result (text.new.items ≡ text.old.items ++ message_lines wire_line (self.old.parser.rest ++ piece.now)) }
         ensures parser { OnOk result (self.new.parser ≡ record { rest = rest (self.old.parser.rest ++ piece.now); failed = false }) }
         ensures written { OnOk result (self.new.written.items ≡ self.old.written.items ++ written_after self.old.writer (reading (self.old.parser.rest ++ piece.now))) }
         ensures writer { OnOk result (self.new.writer ≡ status_after_all self.old.writer (reading (self.old.parser.rest ++ piece.now))) }
@@ -103,12 +103,12 @@ impl Copier {
 }
 
 impl Printer for Copier {
-    ghost use Rattle.tool_text.specs.Stream.{lines_of};
+    ghost use Rattle.tool_text.specs.Stream.{message_lines};
     ghost use Rattle.tool_text.specs.Wire.{wire_line, IsCopied};
 
     ghost HasTaken = { λ c read. IsCopied c.parser c.writer c.written.items read };
 
-    ghost lines = { lines_of wire_line };
+    ghost lines = { message_lines wire_line };
 
     fn take(&mut self, piece: &[u8], text: &mut Vec<u8>) -> Result<(), ToolFault> {
         self.copy(piece, text)

@@ -1,7 +1,7 @@
 //! The calls that a session is made of.
 
 ghost use Rattle.std.specs.Prelude.{◌≡◌, IfOk};
-ghost use Rattle.seq_session.specs.Merging.{sorted};
+ghost use Rattle.seq_session.specs.Merging.{sorted_inputs};
 
 use super::queues::{EARLIER, EQUAL_MOMENTS, LATER, OF_BOTH};
 use super::session::{Part, assert_text};
@@ -21,7 +21,7 @@ fn wants_a_name_for_each_file(rt: HostRuntime) -> Result<(), Fail> {
 
 /// The reading of a script, for a run without files.
 fn read(alloc: Global, part: &Part, until: u64) -> Result<ScriptRead, Fail>
-    ensures { IfOk result (λ r. sorted r.inputs ≡ r.inputs) }
+    ensures { IfOk result (λ r. sorted_inputs r.inputs ≡ r.inputs) }
 {
     let client = ClientId::new(part.client).ok_or("a client number")?;
     let files = NamedFiles::new(&[], &[]).ok_or("no files")?;

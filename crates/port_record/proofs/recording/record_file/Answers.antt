@@ -1,7 +1,7 @@
 use Rattle.std.proofs.Common.{ap, ◌∙◌, ◌++◌}
 use Rattle.std.specs.Prelude.{option_to_list}
 use Rattle.seq_engine.proofs.Heard.{filter_map-more}
-use Rattle.port_record.specs.Recording.{event_at}
+use Rattle.port_record.specs.Recording.{recorded_event}
 use Rattle.port_record.proofs.recording.record_file.Goals as goal
 use Rattle.std.proofs.Common.{sym}
 
@@ -9,6 +9,6 @@ pub loop-entry-preserved : goal.loop-entry-preserved
 loop-entry-preserved c = record {
   events =
       c.in_ok-add_event.ensures
-      ∙ ap (λ es. es ++ option_to_list (event_at c.args.port c.entry-item.result)) c.loop-entry.invariant.events
-      ∙ sym (filter_map-more (event_at c.args.port) c.as_slice-entry-items.result.now c.loop-entry.entry-index c.entry-item.result c.loop-entry-test.true c.entry-item.is);
+      ∙ ap (λ es. es ++ option_to_list (recorded_event c.args.port c.entry-item.result)) c.loop-entry.invariant.events
+      ∙ sym (filter_map-more (recorded_event c.args.port) c.as_slice-entry-items.result.now c.loop-entry.entry-index c.entry-item.result c.loop-entry-test.true c.entry-item.is);
 }

@@ -1,7 +1,7 @@
 use Rattle.std.proofs.Common.{◌≡◌, ◌∙◌, ◌<◌, ◌/◌, IfOk, map, length, ap, sym, subst, arith, ℕ, take, List}
 use Rattle.script_text.specs.declared.reading.ScriptInput.{ScriptInput}
 use Rattle.script_text.specs.declared.reading.ScriptRead.{ScriptRead}
-use Rattle.seq_session.specs.Merging.{in_order, merged_with, AreSorted}
+use Rattle.seq_session.specs.Merging.{inputs_in_order, merged_with, AreSorted}
 use Rattle.seq_session.proofs.Joining.{sorted_front, sorted_back, by_halves}
 use Rattle.seq_session.proofs.merging.+references.Goals as goal
 
@@ -25,7 +25,7 @@ returns-then-reads-gt1 t c =
     subst (λ (xs : List ScriptInput). IfOk c.join.result (λ v. map (λ r. r.now) v.items ≡ xs))
     (ap (λ xs. merged_with (map (λ r. r.now) xs) (map (λ r. r.now) c.as_slice-then-reads-gt1.result.now)) c.as_slice.ensures.value
     ∙ ap (λ xs. merged_with (map (λ r. r.now) c.in_ok-left.left.items) (map (λ r. r.now) xs)) c.as_slice-then-reads-gt1.ensures.value
-    ∙ ap (λ xs. merged_with xs (map (λ r. r.now) c.in_ok-right.right.items)) (c.in_ok-left.ensures ∙ ap in_order s.front)
-    ∙ ap (λ xs. merged_with (in_order (take half reads)) xs) (c.in_ok-right.ensures ∙ ap in_order s.back)
+    ∙ ap (λ xs. merged_with xs (map (λ r. r.now) c.in_ok-right.right.items)) (c.in_ok-left.ensures ∙ ap inputs_in_order s.front)
+    ∙ ap (λ xs. merged_with (inputs_in_order (take half reads)) xs) (c.in_ok-right.ensures ∙ ap inputs_in_order s.back)
     ∙ sym (by_halves half reads))
     c.join.ensures

@@ -4,7 +4,7 @@ use Rattle.midi_wire.specs.Messages.{begins}
 use Rattle.seq_runs.specs.Rows.{input_overflow}
 use Rattle.seq_runs.proofs.InputOverflow as run
 use Rattle.seq_session.specs.Merging.{inputs_of, lines_of}
-use Rattle.seq_session.specs.Rows.{no_files, script}
+use Rattle.seq_session.specs.Rows.{no_files, a_script}
 use Rattle.seq_session.specs.Sessions.{session}
 use Rattle.session_runs.specs.Rows.{overflow, sender_text, taker_text, other_text}
 use Rattle.session_runs.proofs.Worked.{log_by}
@@ -21,7 +21,7 @@ on_lines = refl
 pub returns : goal.returns
 unfolding digits begins
 returns c = record {
-  sender = log_by no_files 10 overflow (script 128 sender_text) input_overflow _ _ _ said on_lines run.run refl;
-  taker = log_by no_files 10 overflow (script 129 taker_text) input_overflow _ _ _ said on_lines run.run refl;
-  other = log_by no_files 10 overflow (script 130 other_text) input_overflow _ _ _ said on_lines run.run refl;
+  sender = log_by no_files 10 overflow (a_script 128 sender_text) input_overflow _ _ _ said on_lines run.run refl;
+  taker = log_by no_files 10 overflow (a_script 129 taker_text) input_overflow _ _ _ said on_lines run.run refl;
+  other = log_by no_files 10 overflow (a_script 130 other_text) input_overflow _ _ _ said on_lines run.run refl;
 }

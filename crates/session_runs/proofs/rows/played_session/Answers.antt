@@ -4,22 +4,22 @@ use Rattle.midi_wire.specs.Messages.{begins}
 use Rattle.seq_runs.specs.Rows.{played_file}
 use Rattle.seq_runs.proofs.PlayedFile as run
 use Rattle.seq_session.specs.Merging.{inputs_of, lines_of}
-use Rattle.seq_session.specs.Rows.{script}
+use Rattle.seq_session.specs.Rows.{a_script}
 use Rattle.seq_session.specs.Sessions.{session}
-use Rattle.session_runs.specs.Rows.{played, hearer_text, one_file}
+use Rattle.session_runs.specs.Rows.{player_scripts, hearer_text, one_file}
 use Rattle.session_runs.proofs.Worked.{log_by}
 use Rattle.session_runs.proofs.rows.played_session.Goals as goal
 
-said : inputs_of (session one_file 600000000 played) ≡ played_file
+said : inputs_of (session one_file 600000000 player_scripts) ≡ played_file
 unfolding begins
 said = refl
 
-on_lines : lines_of (session one_file 600000000 played) ≡ 1 ∷ 2 ∷ 3 ∷ 4 ∷ 1 ∷ 2 ∷ 3 ∷ 5 ∷ 6 ∷ []
+on_lines : lines_of (session one_file 600000000 player_scripts) ≡ 1 ∷ 2 ∷ 3 ∷ 4 ∷ 1 ∷ 2 ∷ 3 ∷ 5 ∷ 6 ∷ []
 unfolding begins
 on_lines = refl
 
 pub returns : goal.returns
 unfolding digits begins
 returns c = record {
-  hearer = log_by one_file 600000000 played (script 129 hearer_text) played_file _ _ _ said on_lines run.run refl;
+  hearer = log_by one_file 600000000 player_scripts (a_script 129 hearer_text) played_file _ _ _ said on_lines run.run refl;
 }

@@ -4,7 +4,7 @@ use Rattle.midi_wire.specs.Messages.{begins}
 use Rattle.seq_runs.specs.Rows.{equal_moments}
 use Rattle.seq_runs.proofs.EqualMoments as run
 use Rattle.seq_session.specs.Merging.{inputs_of, lines_of}
-use Rattle.seq_session.specs.Rows.{no_files, script}
+use Rattle.seq_session.specs.Rows.{no_files, a_script}
 use Rattle.seq_session.specs.Sessions.{session}
 use Rattle.session_runs.specs.Rows.{tied, both_text}
 use Rattle.session_runs.proofs.Worked.{log_by}
@@ -21,5 +21,5 @@ on_lines = refl
 pub returns : goal.returns
 unfolding digits begins
 returns c = record {
-  hearer = log_by no_files 200 tied (script 129 both_text) equal_moments _ _ _ said on_lines run.run refl;
+  hearer = log_by no_files 200 tied (a_script 129 both_text) equal_moments _ _ _ said on_lines run.run refl;
 }

@@ -1,14 +1,14 @@
 use Rattle.std.proofs.Common.{◌∙◌}
 use Rattle.midi_wire.proofs.Outcomes.{on_err, on_err-map}
-use Rattle.session_tools.specs.Printed.{client_line}
+use Rattle.session_tools.specs.Printed.{client_heading}
 use Rattle.session_tools.proofs.Fronts.{gained_before, gained_after}
 use Rattle.session_tools.proofs.logs.print_log.Goals as goal
 
 pub returns-in_err-send-clause-short : goal.returns-in_err-send-clause-short
 returns-in_err-send-clause-short g c = λ t. on_err c.from_residual-in_err-send.result
-    (gained_before _ _ (client_line c.args.client) c.args.log.now (rw (c.as_slice.ensures.value, c.in_ok-push_client.ensures, c.clear.ensures.items) at c.in_err-send.ensures.part t))
+    (gained_before _ _ (client_heading c.args.client) c.args.log.now (rw (c.as_slice.ensures.value, c.in_ok-push_client.ensures, c.clear.ensures.items) at c.in_err-send.ensures.part t))
 
 pub returns-clause-short : goal.returns-clause-short
 returns-clause-short g c = λ t. on_err-map c.send-2.result
-    (λ k. gained_after _ _ _ (client_line c.args.client) c.args.log.now (rw (c.as_slice.ensures.value, c.in_ok-push_client.ensures, c.clear.ensures.items) at c.in_ok-send.ensures.written t) k)
+    (λ k. gained_after _ _ _ (client_heading c.args.client) c.args.log.now (rw (c.as_slice.ensures.value, c.in_ok-push_client.ensures, c.clear.ensures.items) at c.in_ok-send.ensures.written t) k)
     (c.send-2.ensures.part (c.send.ensures.telling ∙ t))

@@ -1,6 +1,6 @@
 use Rattle.std.proofs.Common.{◌∙◌}
 use Rattle.midi_wire.proofs.Outcomes.{on_err}
-use Rattle.tool_text.specs.Stream.{lines_of}
+use Rattle.tool_text.specs.Stream.{message_lines}
 use Rattle.tool_text.specs.Wire.{wire_line, wire_ending}
 use Rattle.tool_text.proofs.Copied.{all_copied, copied_short}
 use Rattle.tool_text.proofs.Dumped.{on-ok, on-err}
@@ -12,7 +12,7 @@ pub print_stream-requires-clause-empty : goal.print_stream-requires-clause-empty
 print_stream-requires-clause-empty g c = no_lines wire_line
 
 pub returns-in_err-print_stream-clause-short : goal.returns-in_err-print_stream-clause-short
-returns-in_err-print_stream-clause-short g c = λ t u. on_err c.from_residual.result (stops_before (lines_of wire_line) wire_ending _ _ _ (c.in_err-print_stream.ensures.short t u))
+returns-in_err-print_stream-clause-short g c = λ t u. on_err c.from_residual.result (stops_before (message_lines wire_line) wire_ending _ _ _ (c.in_err-print_stream.ensures.short t u))
 
 pub returns-clause-text : goal.returns-clause-text
 returns-clause-text g c = λ t u. on-ok c.print_written.result
