@@ -1,6 +1,9 @@
 //! Texts that the program's tools print, and the lines of its faults, through the public calls of `tool_text`. Nothing stands on
-//! this crate, which has tests alone: so they and the tools are proved side by side.
+//! this crate, so that its tests and the tools are proved side by side.
 #![tactic(auto)]
 
 #[cfg(test)]
 mod tests;
+mod texts;
+
+pub use texts::printed;

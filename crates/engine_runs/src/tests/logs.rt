@@ -1,7 +1,7 @@
 //! Runs, and what clients hear of them.
 
 use super::lines::Lines;
-use agenda_heap::{HeapAgenda, SortedAgenda};
+use crate::run_under_both;
 use midi_wire::Message;
 use seq_engine::*;
 use smf_files::SmfFile;
@@ -35,8 +35,7 @@ fn ran_with(
     until: u64,
 ) -> Result<RunLog, Fail> {
     assert!(rt; is_timed(inputs, until));
-    let log = run(alloc, files, HeapAgenda::new(alloc), inputs, until)?;
-    let sorted = run(alloc, files, SortedAgenda::new(alloc), inputs, until)?;
+    let (log, sorted) = run_under_both(alloc, files, inputs, until)?;
     assert_eq!(rt; log.entries.len(), sorted.entries.len());
     for client in 128..132 {
         let heard = heard_by(alloc, &sorted, client)?;

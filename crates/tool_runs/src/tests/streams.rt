@@ -2,10 +2,11 @@
 
 ghost use Rattle.std.specs.Prelude.{◌≡◌, IfOk, false};
 
+use crate::printed;
 use byte_io::{MemSink, MemSource, OutOfMemory};
 use std::alloc::Global;
 use std::test::Fail;
-use tool_text::{ToolFault, thru_text, wire_text};
+use tool_text::{Tool, ToolFault, thru_text, wire_text};
 
 pub(super) fn source(alloc: Global, bytes: &[u8]) -> Result<MemSource, OutOfMemory>
     ensures { IfOk result (λ s. s.broken ≡ false) }
@@ -21,10 +22,8 @@ fn sink(alloc: Global) -> Result<MemSink, OutOfMemory>
 
 #[test]
 fn passes_a_note_on(rt: HostRuntime) -> Result<(), Fail> {
-    let mut input = source(rt.alloc(), &[0x90, 0x3C, 0x40])?;
-    let mut out = sink(rt.alloc())?;
-    assert_eq!(rt; thru_text(rt.alloc(), &mut input, &mut out), Ok(()));
-    assert_eq!(rt; out.bytes(), b"0 129:p0 90 3C 40\n".as_slice());
+    let text = printed(rt.alloc(), Tool::Thru, &[0x90, 0x3C, 0x40])?;
+    assert_eq!(rt; text.as_slice(), b"0 129:p0 90 3C 40\n".as_slice());
     Ok(())
 }
 
@@ -37,10 +36,8 @@ fn passes_more_than_may_wait(rt: HostRuntime) -> Result<(), Fail> {
         stream.push(0xF8)?;
         lines.extend_from_slice(b"0 129:p0 F8\n")?;
     }
-    let mut input = source(alloc, stream.as_slice())?;
-    let mut out = sink(alloc)?;
-    assert_eq!(rt; thru_text(alloc, &mut input, &mut out), Ok(()));
-    assert_eq!(rt; out.bytes(), lines.as_slice());
+    let text = printed(alloc, Tool::Thru, stream.as_slice())?;
+    assert_eq!(rt; text.as_slice(), lines.as_slice());
     Ok(())
 }
 
@@ -53,21 +50,17 @@ fn passes_many_requests_that_end_an_exclusive(rt: HostRuntime) -> Result<(), Fai
         stream.push(0xF6)?;
         lines.extend_from_slice(b"0 129:p0 F6\n")?;
     }
-    let mut input = source(alloc, stream.as_slice())?;
-    let mut out = sink(alloc)?;
-    assert_eq!(rt; thru_text(alloc, &mut input, &mut out), Ok(()));
-    assert_eq!(rt; out.bytes(), lines.as_slice());
+    let text = printed(alloc, Tool::Thru, stream.as_slice())?;
+    assert_eq!(rt; text.as_slice(), lines.as_slice());
     Ok(())
 }
 
 #[test]
 fn writes_back_with_running_status(rt: HostRuntime) -> Result<(), Fail> {
     let stream = [0x90, 0x3C, 0x40, 0xF8, 0x3E, 0xF8, 0x40];
-    let mut input = source(rt.alloc(), &stream)?;
-    let mut out = sink(rt.alloc())?;
-    assert_eq!(rt; wire_text(rt.alloc(), &mut input, &mut out), Ok(()));
+    let text = printed(rt.alloc(), Tool::Wire, &stream)?;
     assert_eq!(rt;
-        out.bytes(),
+        text.as_slice(),
         b"90 3C 40\nF8\nF8\n90 3E 40\nwritten 90 3C 40 F8 F8 3E 40\n".as_slice()
     );
     Ok(())
@@ -75,11 +68,13 @@ fn writes_back_with_running_status(rt: HostRuntime) -> Result<(), Fail> {
 
 #[test]
 fn gives_real_time_before_the_exclusive_around_it(rt: HostRuntime) -> Result<(), Fail> {
-    let mut input = source(rt.alloc(), &[0xF0, 0x7D, 0x01, 0xFE, 0x02, 0xF7])?;
-    let mut out = sink(rt.alloc())?;
-    assert_eq!(rt; wire_text(rt.alloc(), &mut input, &mut out), Ok(()));
+    let text = printed(
+        rt.alloc(),
+        Tool::Wire,
+        &[0xF0, 0x7D, 0x01, 0xFE, 0x02, 0xF7],
+    )?;
     assert_eq!(rt;
-        out.bytes(),
+        text.as_slice(),
         b"FE\nF0 7D 01 02 F7\nwritten FE F0 7D 01 02 F7\n".as_slice()
     );
     Ok(())
@@ -87,11 +82,13 @@ fn gives_real_time_before_the_exclusive_around_it(rt: HostRuntime) -> Result<(),
 
 #[test]
 fn ends_an_exclusive_at_another_status(rt: HostRuntime) -> Result<(), Fail> {
-    let mut input = source(rt.alloc(), &[0xF0, 0x7D, 0x01, 0x90, 0x3C, 0x40])?;
-    let mut out = sink(rt.alloc())?;
-    assert_eq!(rt; wire_text(rt.alloc(), &mut input, &mut out), Ok(()));
+    let text = printed(
+        rt.alloc(),
+        Tool::Wire,
+        &[0xF0, 0x7D, 0x01, 0x90, 0x3C, 0x40],
+    )?;
     assert_eq!(rt;
-        out.bytes(),
+        text.as_slice(),
         b"F0 7D 01 F7\n90 3C 40\nwritten F0 7D 01 F7 90 3C 40\n".as_slice()
     );
     Ok(())
@@ -99,10 +96,8 @@ fn ends_an_exclusive_at_another_status(rt: HostRuntime) -> Result<(), Fail> {
 
 #[test]
 fn prints_the_last_line_of_no_message(rt: HostRuntime) -> Result<(), Fail> {
-    let mut input = source(rt.alloc(), b"")?;
-    let mut out = sink(rt.alloc())?;
-    assert_eq!(rt; wire_text(rt.alloc(), &mut input, &mut out), Ok(()));
-    assert_eq!(rt; out.bytes(), b"written\n".as_slice());
+    let text = printed(rt.alloc(), Tool::Wire, b"")?;
+    assert_eq!(rt; text.as_slice(), b"written\n".as_slice());
     Ok(())
 }
 

@@ -1,0 +1,30 @@
+//! One run under both agendas.
+
+ghost use Rattle.std.specs.Prelude.{◌≡◌, map, IfOk};
+ghost use Rattle.smf_grammar.specs.Played.{played};
+ghost use Rattle.seq_state.specs.Step.{plain, IsTimed};
+
+use agenda_heap::{HeapAgenda, SortedAgenda};
+use seq_engine::{EngineFault, Input, RunLog, run};
+use smf_files::SmfFile;
+use std::alloc::Global;
+
+/// Takes all inputs under the program's agenda, and again under the other. Both give one log and one listing.
+///
+/// The only fault is want of memory.
+pub fn run_under_both(
+    alloc: Global,
+    files: &[SmfFile<'_>],
+    inputs: &[Input],
+    until: u64,
+) -> Result<(RunLog, RunLog), EngineFault>
+    requires timed { IsTimed inputs.now until }
+    ensures plain { IfOk result
+        (λ logs. logs.0.entries ≡ plain (map played files.now) inputs.now until) }
+    ensures entries { IfOk result (λ logs. logs.1.entries ≡ logs.0.entries) }
+    ensures listing { IfOk result (λ logs. logs.1.listing ≡ logs.0.listing) }
+{
+    let log = run(alloc, files, HeapAgenda::new(alloc), inputs, until)?;
+    let sorted = run(alloc, files, SortedAgenda::new(alloc), inputs, until)?;
+    Ok((log, sorted))
+}
