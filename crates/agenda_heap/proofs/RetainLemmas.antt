@@ -10,7 +10,7 @@ use Rattle.agenda_heap.proofs.Told.{Told, Same, AnyOf, one_copy, one_copy-itself
 use Rattle.agenda_heap.specs.declared.due_key.DueKey.{DueKey}
 use Rattle.agenda_heap.specs.declared.entry.Entry.{Entry}
 use Rattle.agenda_heap.specs.Keys.{key_at, key_count}
-use Rattle.agenda_heap.specs.Stored.{entry, copies}
+use Rattle.agenda_heap.specs.Stored.{entry, entry_count}
 
 -- ---- entries put back
 
@@ -35,19 +35,19 @@ with_keys-over (t ∷ rs) slots c x y =
     go (inr n) again = ap (λ (z : Slots). set (with_keys z rs) c y) (set-set_other slots c t.0.cell x (Some t.0.key) n.1) ∙ again
 
 -- a key after all are put back was there, or is put back
-pub with_keys-key : (rs : List (Reverse Entry)) (slots : Slots) (q : ℕ) (k : DueKey) → key_at (with_keys slots rs) q ≡ Some k → (key_at slots q ≡ Some k) ⊎ (1 ≤ copies (entry k q) rs)
+pub with_keys-key : (rs : List (Reverse Entry)) (slots : Slots) (q : ℕ) (k : DueKey) → key_at (with_keys slots rs) q ≡ Some k → (key_at slots q ≡ Some k) ⊎ (1 ≤ entry_count (entry k q) rs)
 with_keys-key [] slots q k h = inl h
 with_keys-key (t ∷ rs) slots q k h =
     go (eqb_tells q t.0.cell) (with_keys-key rs (set slots t.0.cell (Some t.0.key)) q k h) (leb_tells (length slots) q)
   where
-    sum : copies (entry k q) (t ∷ rs) ≡ one_copy (entry k q) t + copies (entry k q) rs
+    sum : entry_count (entry k q) (t ∷ rs) ≡ one_copy (entry k q) t + entry_count (entry k q) rs
     sum = copies-cons (entry k q) t rs
 
     go : Same q t.0.cell
-        → (key_at (set slots t.0.cell (Some t.0.key)) q ≡ Some k) ⊎ (1 ≤ copies (entry k q) rs)
+        → (key_at (set slots t.0.cell (Some t.0.key)) q ≡ Some k) ⊎ (1 ≤ entry_count (entry k q) rs)
         → Told (nat_le (length slots) q) (length slots ≤ q) (q < length slots)
-        → (key_at slots q ≡ Some k) ⊎ (1 ≤ copies (entry k q) (t ∷ rs))
-    go d (inr more) l = let s : copies (entry k q) (t ∷ rs) ≡ one_copy (entry k q) t + copies (entry k q) rs = sum in inr (omega arith)
+        → (key_at slots q ≡ Some k) ⊎ (1 ≤ entry_count (entry k q) (t ∷ rs))
+    go d (inr more) l = let s : entry_count (entry k q) (t ∷ rs) ≡ one_copy (entry k q) t + entry_count (entry k q) rs = sum in inr (omega arith)
     go (inr n) (inl here) l = inl (sym (key-set_other slots t.0.cell q (Some t.0.key) n.1) ∙ here)
     go (inl s) (inl here) (inl past) = inl (sym (ap (λ (z : Slots). key_at z q) (set-past slots t.0.cell (Some t.0.key) (subst (λ i. length slots ≤ i) s.1 past.1))) ∙ here)
     go (inl s) (inl here) (inr within) =
@@ -55,7 +55,7 @@ with_keys-key (t ∷ rs) slots q k h =
         let key : t.0.key ≡ k = cc in
         let alike : t.0 ≡ entry k q = ap (λ (d : DueKey). entry d t.0.cell) key ∙ ap (entry k) (sym s.1) in
         let one : one_copy (entry k q) t ≡ 1 = one_copy-itself (entry k q) t alike in
-        let s : copies (entry k q) (t ∷ rs) ≡ one_copy (entry k q) t + copies (entry k q) rs = sum in inr (omega arith)
+        let s : entry_count (entry k q) (t ∷ rs) ≡ one_copy (entry k q) t + entry_count (entry k q) rs = sum in inr (omega arith)
 
 -- ---- the loop that keeps
 
@@ -64,7 +64,7 @@ pub record Retaining (first now : Slots) (was is : List (Reverse Entry)) (kept p
   pub back : with_keys now (take kept is) ≡ first
   pub fewer : key_count now + kept ≡ key_count first
   pub same : (q : ℕ) (k : DueKey) → key_at now q ≡ Some k → key_at first q ≡ Some k
-  pub left : (q : ℕ) (k : DueKey) → key_at now q ≡ Some k → 1 ≤ copies (entry k q) was → 1 ≤ copies (entry k q) (drop place is)
+  pub left : (q : ℕ) (k : DueKey) → key_at now q ≡ Some k → 1 ≤ entry_count (entry k q) was → 1 ≤ entry_count (entry k q) (drop place is)
   pub within : kept ≤ place
   pub long : length is ≡ length was
 
@@ -82,16 +82,16 @@ retain-stale first now was is kept place r s l e stale = record {
     split : drop place is ≡ r ∷ drop (place + 1) is
     split = drop-cons is place r l ∙ ap (λ (t : Reverse Entry). t ∷ drop (suc place) is) (sym e) ∙ ap (λ n. r ∷ drop n is) (sym (add-one place))
 
-    go : (q : ℕ) (k : DueKey) → key_at now q ≡ Some k → 1 ≤ copies (entry k q) (drop place is)
+    go : (q : ℕ) (k : DueKey) → key_at now q ≡ Some k → 1 ≤ entry_count (entry k q) (drop place is)
         → AnyOf (one_copy (entry k q) r)
-        → 1 ≤ copies (entry k q) (drop (place + 1) is)
+        → 1 ≤ entry_count (entry k q) (drop (place + 1) is)
     go q k g n (inl here) =
         let same : r.0 ≡ entry k q = one_copy-same (entry k q) r here.1 in
         absurd (stale (ap (λ (f : Entry). key_at now f.cell) same ∙ g ∙ ap (λ (f : Entry). Some f.key) (sym same)))
     go q k g n (inr gone) =
         let less : one_copy (entry k q) r < 1 = gone.1 in
-        let sum : copies (entry k q) (drop place is) ≡ one_copy (entry k q) r + copies (entry k q) (drop (place + 1) is) =
-        ap (copies (entry k q)) split ∙ copies-cons (entry k q) r (drop (place + 1) is) in
+        let sum : entry_count (entry k q) (drop place is) ≡ one_copy (entry k q) r + entry_count (entry k q) (drop (place + 1) is) =
+        ap (entry_count (entry k q)) split ∙ copies-cons (entry k q) r (drop (place + 1) is) in
         omega arith
 
 -- an entry is kept
@@ -125,16 +125,16 @@ retain-keep first now was is kept place r s l e live =
     split : drop place is ≡ r ∷ drop (place + 1) is
     split = drop-cons is place r l ∙ ap (λ (t : Reverse Entry). t ∷ drop (suc place) is) (sym e) ∙ ap (λ n. r ∷ drop n is) (sym (add-one place))
 
-    go : (q : ℕ) (k : DueKey) → (q ≢ r.0.cell) × (key_at now q ≡ Some k) → 1 ≤ copies (entry k q) (drop place is)
+    go : (q : ℕ) (k : DueKey) → (q ≢ r.0.cell) × (key_at now q ≡ Some k) → 1 ≤ entry_count (entry k q) (drop place is)
         → AnyOf (one_copy (entry k q) r)
-        → kept ≤ place → 1 ≤ copies (entry k q) (drop (place + 1) (set is kept r))
+        → kept ≤ place → 1 ≤ entry_count (entry k q) (drop (place + 1) (set is kept r))
     go q k o n (inl here) w = absurd (o.0 (sym (ap (λ (f : Entry). f.cell) (one_copy-same (entry k q) r here.1))))
     go q k o n (inr gone) w =
         let less : one_copy (entry k q) r < 1 = gone.1 in
-        let sum : copies (entry k q) (drop place is) ≡ one_copy (entry k q) r + copies (entry k q) (drop (place + 1) is) =
-        ap (copies (entry k q)) split ∙ copies-cons (entry k q) r (drop (place + 1) is) in
-        let rest : copies (entry k q) (drop (place + 1) (set is kept r)) ≡ copies (entry k q) (drop (place + 1) is) =
-        ap (copies (entry k q)) (drop-set-lt (place + 1) is kept r (omega arith)) in
+        let sum : entry_count (entry k q) (drop place is) ≡ one_copy (entry k q) r + entry_count (entry k q) (drop (place + 1) is) =
+        ap (entry_count (entry k q)) split ∙ copies-cons (entry k q) r (drop (place + 1) is) in
+        let rest : entry_count (entry k q) (drop (place + 1) (set is kept r)) ≡ entry_count (entry k q) (drop (place + 1) is) =
+        ap (entry_count (entry k q)) (drop-set-lt (place + 1) is kept r (omega arith)) in
         omega arith
 
 drop_all : (rs : List (Reverse Entry)) (n : ℕ) → length rs ≤ n → drop n rs ≡ []
@@ -149,13 +149,13 @@ length_kept [] (suc n) = omega arith
 length_kept (r ∷ rs) zero = omega arith
 length_kept (r ∷ rs) (suc n) = let l : length (take n rs) ≤ n = length_kept rs n in omega arith
 
-pub retain-held : (first now : Slots) (was is : List (Reverse Entry)) (kept place : ℕ) → Retaining first now was is kept place → length is ≤ place → (q : ℕ) (k : DueKey) → key_at first q ≡ Some k → 1 ≤ copies (entry k q) was → 1 ≤ copies (entry k q) (take kept is)
+pub retain-held : (first now : Slots) (was is : List (Reverse Entry)) (kept place : ℕ) → Retaining first now was is kept place → length is ≤ place → (q : ℕ) (k : DueKey) → key_at first q ≡ Some k → 1 ≤ entry_count (entry k q) was → 1 ≤ entry_count (entry k q) (take kept is)
 retain-held first now was is kept place s l q k g n =
     go (with_keys-key (take kept is) now q k (ap (λ (z : Slots). key_at z q) s.back ∙ g))
   where
-    go : (key_at now q ≡ Some k) ⊎ (1 ≤ copies (entry k q) (take kept is)) → 1 ≤ copies (entry k q) (take kept is)
+    go : (key_at now q ≡ Some k) ⊎ (1 ≤ entry_count (entry k q) (take kept is)) → 1 ≤ entry_count (entry k q) (take kept is)
     go (inr more) = more
     go (inl here) =
-        let one : 1 ≤ copies (entry k q) (drop place is) = s.left q k here n in
-        let none : copies (entry k q) (drop place is) ≡ 0 = ap (copies (entry k q)) (drop_all is place l) in
+        let one : 1 ≤ entry_count (entry k q) (drop place is) = s.left q k here n in
+        let none : entry_count (entry k q) (drop place is) ≡ 0 = ap (entry_count (entry k q)) (drop_all is place l) in
         absurd (omega arith)

@@ -17,7 +17,7 @@ use Rattle.agenda_heap.proofs.OrderLemmas.{not_less_moment}
 use Rattle.agenda_heap.specs.declared.due_key.DueKey.{DueKey}
 use Rattle.agenda_heap.specs.declared.entry.Entry.{Entry}
 use Rattle.agenda_heap.specs.Due.{due_cmp, IsFirstDue, NoneDue}
-use Rattle.agenda_heap.specs.Stored.{entry, reversed, reversed_cmp, copies, slack, GainsEntry, HoldsCells, HoldsOthers, KeepsLive, IsStored}
+use Rattle.agenda_heap.specs.Stored.{entry, reversed, reversed_cmp, entry_count, slack, GainsEntry, HoldsCells, HoldsOthers, KeepsLive, IsStored}
 use Rattle.agenda_heap.proofs.Told.{Same, AnyOf, one_copy, one_copy-itself, one_copy-same}
 
 abbrev Content : Type 0
@@ -25,24 +25,24 @@ Content = FinMap nat_cmp DueKey
 
 -- ---- entries
 
-pub copies-cons : (e : Entry) (r : Reverse Entry) (rs : List (Reverse Entry)) → copies e (r ∷ rs) ≡ one_copy e r + copies e rs
+pub copies-cons : (e : Entry) (r : Reverse Entry) (rs : List (Reverse Entry)) → entry_count e (r ∷ rs) ≡ one_copy e r + entry_count e rs
 copies-cons e r rs = sum_by-cons (one_copy e) r rs
 
-pub popped : (e : Entry) (r : Reverse Entry) (xs ys : List (Reverse Entry)) → IsPermutation xs (r ∷ ys) → copies e ys + one_copy e r ≡ copies e xs
+pub popped : (e : Entry) (r : Reverse Entry) (xs ys : List (Reverse Entry)) → IsPermutation xs (r ∷ ys) → entry_count e ys + one_copy e r ≡ entry_count e xs
 popped e r xs ys p = sum_by_popped (one_copy e) r xs ys p
 
-pub pushed : (e : Entry) (r : Reverse Entry) (xs ys : List (Reverse Entry)) → IsPermutation (r ∷ xs) ys → copies e ys ≡ one_copy e r + copies e xs
+pub pushed : (e : Entry) (r : Reverse Entry) (xs ys : List (Reverse Entry)) → IsPermutation (r ∷ xs) ys → entry_count e ys ≡ one_copy e r + entry_count e xs
 pushed e r xs ys p = sum_by_pushed (one_copy e) r xs ys p
 
 -- what stands in a list has what all in it have
-pub all-counted : (P : Reverse Entry → Type 0) (rs : List (Reverse Entry)) (e : Entry) → AllByRecursion P rs → 1 ≤ copies e rs → P (record { 0 = e })
-all-counted P [] e h n = let z : copies e [] ≡ 0 = refl in absurd (omega arith)
+pub all-counted : (P : Reverse Entry → Type 0) (rs : List (Reverse Entry)) (e : Entry) → AllByRecursion P rs → 1 ≤ entry_count e rs → P (record { 0 = e })
+all-counted P [] e h n = let z : entry_count e [] ≡ 0 = refl in absurd (omega arith)
 all-counted P (r ∷ rs) e h n =
     go (leb_tells 1 (one_copy e r)) (all-counted P rs e h.1)
   where
-    go : AnyOf (one_copy e r) → (1 ≤ copies e rs → P (record { 0 = e })) → P (record { 0 = e })
+    go : AnyOf (one_copy e r) → (1 ≤ entry_count e rs → P (record { 0 = e })) → P (record { 0 = e })
     go (inl here) again = subst (λ (f : Entry). P (record { 0 = f })) (one_copy-same e r here.1) h.0
-    go (inr gone) again = let s : copies e (r ∷ rs) ≡ one_copy e r + copies e rs = copies-cons e r rs in let less : one_copy e r < 1 = gone.1 in again (omega arith)
+    go (inr gone) again = let s : entry_count e (r ∷ rs) ≡ one_copy e r + entry_count e rs = copies-cons e r rs in let less : one_copy e r < 1 = gone.1 in again (omega arith)
 
 -- what is not above the first is not less than it
 pub not-less : (k : DueKey) (q : ℕ) (t : Reverse Entry) → is_lt (reversed_cmp t (record { 0 = entry k q })) ≡ false → due_cmp k t.0.key ≢ Less
@@ -57,7 +57,7 @@ pub none_due_yet : (m : Content) (rs : List (Reverse Entry)) (t : Reverse Entry)
 none_due_yet m rs t moment held top l = λ q k g. let h : t.0.key.moment ≤ k.moment = not_less_moment k t.0.key (least m rs t held top q k g) in omega arith
 
 pub none_in_empty : (m : Content) (rs : List (Reverse Entry)) (moment : ℕ) → HoldsCells m rs → length rs ≡ 0 → NoneDue m moment
-none_in_empty m [] moment held l = λ q k g. let one : 1 ≤ copies (entry k q) [] = held q k g in let z : copies (entry k q) [] ≡ 0 = refl in absurd (omega arith)
+none_in_empty m [] moment held l = λ q k g. let one : 1 ≤ entry_count (entry k q) [] = held q k g in let z : entry_count (entry k q) [] ≡ 0 = refl in absurd (omega arith)
 none_in_empty m (r ∷ rs) moment held l = absurd (omega arith)
 
 pub first_is_due : (m : Content) (rs : List (Reverse Entry)) (t : Reverse Entry) (moment : ℕ) → HoldsCells m rs → IsUpperBound reversed_cmp t rs → get m t.0.cell ≡ Some t.0.key → t.0.key.moment ≤ moment → IsFirstDue m t.0.cell t.0.key moment
@@ -66,21 +66,21 @@ first_is_due m rs t moment held top here due = record { here = here; least = lea
 -- the first goes
 pub others_held : (m : Content) (xs ys : List (Reverse Entry)) (t : Reverse Entry) → HoldsCells m xs → IsPermutation xs (t ∷ ys) → HoldsOthers m t.0.cell ys
 others_held m xs ys t held p q k n g =
-    let one : 1 ≤ copies (entry k q) xs = held q k g in
-    let sum : copies (entry k q) ys + one_copy (entry k q) t ≡ copies (entry k q) xs = popped (entry k q) t xs ys p in
+    let one : 1 ≤ entry_count (entry k q) xs = held q k g in
+    let sum : entry_count (entry k q) ys + one_copy (entry k q) t ≡ entry_count (entry k q) xs = popped (entry k q) t xs ys p in
     go (leb_tells 1 (one_copy (entry k q) t)) one sum
   where
-    go : AnyOf (one_copy (entry k q) t) → 1 ≤ copies (entry k q) xs → copies (entry k q) ys + one_copy (entry k q) t ≡ copies (entry k q) xs → 1 ≤ copies (entry k q) ys
+    go : AnyOf (one_copy (entry k q) t) → 1 ≤ entry_count (entry k q) xs → entry_count (entry k q) ys + one_copy (entry k q) t ≡ entry_count (entry k q) xs → 1 ≤ entry_count (entry k q) ys
     go (inl here) one sum = absurd (n (sym (ap (λ (e : Entry). e.cell) (one_copy-same (entry k q) t here.1))))
     go (inr gone) one sum = let less : one_copy (entry k q) t < 1 = gone.1 in omega arith
 
 pub stale_goes : (m : Content) (xs ys : List (Reverse Entry)) (t : Reverse Entry) → HoldsCells m xs → IsPermutation xs (t ∷ ys) → (get m t.0.cell ≡ Some t.0.key → ⊥) → HoldsCells m ys
 stale_goes m xs ys t held p stale q k g =
-    let one : 1 ≤ copies (entry k q) xs = held q k g in
-    let sum : copies (entry k q) ys + one_copy (entry k q) t ≡ copies (entry k q) xs = popped (entry k q) t xs ys p in
+    let one : 1 ≤ entry_count (entry k q) xs = held q k g in
+    let sum : entry_count (entry k q) ys + one_copy (entry k q) t ≡ entry_count (entry k q) xs = popped (entry k q) t xs ys p in
     go (leb_tells 1 (one_copy (entry k q) t)) one sum
   where
-    go : AnyOf (one_copy (entry k q) t) → 1 ≤ copies (entry k q) xs → copies (entry k q) ys + one_copy (entry k q) t ≡ copies (entry k q) xs → 1 ≤ copies (entry k q) ys
+    go : AnyOf (one_copy (entry k q) t) → 1 ≤ entry_count (entry k q) xs → entry_count (entry k q) ys + one_copy (entry k q) t ≡ entry_count (entry k q) xs → 1 ≤ entry_count (entry k q) ys
     go (inl here) one sum =
         let same : t.0 ≡ entry k q = one_copy-same (entry k q) t here.1 in
         absurd (stale (ap (λ (e : Entry). get m e.cell) same ∙ g ∙ ap (λ (e : Entry). Some e.key) (sym same)))
@@ -91,7 +91,7 @@ stale_goes m xs ys t held p stale q k g =
 pub held_removed : (m : Content) (c : ℕ) (rs : List (Reverse Entry)) → HoldsOthers m c rs → HoldsCells (map.remove m c) rs
 held_removed m c rs h q k g = go (eqb_tells q c)
   where
-    go : Same q c → 1 ≤ copies (entry k q) rs
+    go : Same q c → 1 ≤ entry_count (entry k q) rs
     go (inl s) = let bad : None ≡ Some k = sym (get-remove_same m c) ∙ ap (get (map.remove m c)) (sym s.1) ∙ g in let no : ⊥ = cc in absurd no
     go (inr n) = h q k n.1 (sym (get-remove_other m c q n.1) ∙ g)
 
@@ -101,10 +101,10 @@ held_but m c rs h = λ q k n g. h q k g
 pub held_put : (m : Content) (c : ℕ) (key : DueKey) (xs ys : List (Reverse Entry)) → HoldsCells m xs → IsPermutation (reversed key c ∷ xs) ys → HoldsCells (map.insert m c key) ys
 held_put m c key xs ys h p q k g = go (eqb_tells q c)
   where
-    sum : copies (entry k q) ys ≡ one_copy (entry k q) (reversed key c) + copies (entry k q) xs
+    sum : entry_count (entry k q) ys ≡ one_copy (entry k q) (reversed key c) + entry_count (entry k q) xs
     sum = pushed (entry k q) (reversed key c) xs ys p
 
-    go : Same q c → 1 ≤ copies (entry k q) ys
+    go : Same q c → 1 ≤ entry_count (entry k q) ys
     go (inl s) =
         let some : Some key ≡ Some k = sym (get-insert_same m c key) ∙ ap (get (map.insert m c key)) (sym s.1) ∙ g in
         let keys : key ≡ k = cc in
@@ -112,7 +112,7 @@ held_put m c key xs ys h p q k g = go (eqb_tells q c)
         let one : one_copy (entry k q) (reversed key c) ≡ 1 = one_copy-itself (entry k q) (reversed key c) alike in
         omega (arith, sum)
     go (inr n) =
-        let before : 1 ≤ copies (entry k q) xs = h q k (sym (get-insert_other m c key q n.1) ∙ g) in
+        let before : 1 ≤ entry_count (entry k q) xs = h q k (sym (get-insert_other m c key q n.1) ∙ g) in
         omega (arith, sum)
 
 pub len-absent : (m : Content) (c : ℕ) (key : DueKey) → get m c ≡ None → len (map.insert m c key) ≡ len m + 1
@@ -123,7 +123,7 @@ pub top-any : (rs : List (Reverse Entry)) (x y : Reverse Entry) → 0 < length r
 top-any [] x y l e f = absurd (omega arith)
 top-any (r ∷ rs) x y l e f = e ∙ sym f
 
-pub counted_permutation : (e : Entry) (xs ys : List (Reverse Entry)) → IsPermutation xs ys → copies e ys ≡ copies e xs
+pub counted_permutation : (e : Entry) (xs ys : List (Reverse Entry)) → IsPermutation xs ys → entry_count e ys ≡ entry_count e xs
 counted_permutation e xs ys p = sum_by-IsPermutation (one_copy e) xs ys p
 
 pub kept-empty : (m : Content) (rs : List (Reverse Entry)) → m ≡ map.empty → IsHeap reversed_cmp rs → rs ≡ [] → IsStored m rs

@@ -30,8 +30,8 @@ abbrev pub NoneDue : FinMap nat_cmp DueKey → ℕ → Type 0
 NoneDue m moment = (q : ℕ) (k : DueKey) → get m q ≡ Some k → moment < k.moment
 
 -- as three numbers
-abbrev pub coded_due : Coded DueKey
-coded_due =
+abbrev pub coded_due_key : Coded DueKey
+coded_due_key =
     code_by (ℕ × (ℕ × ℕ)) (coded× coded_ℕ (coded× coded_ℕ coded_ℕ))
     (λ k. (k.moment, (k.rank, k.place)))
     (λ p. record { moment = p.0; rank = p.1.0; place = p.1.1 }) (λ _. refl)
@@ -49,6 +49,6 @@ KeysFall [] = Unit {0}
 KeysFall (e ∷ es) = AllByRecursion (IsAfter e) es × KeysFall es
 
 -- the key at this place, if there is one, is not greater than that one
-abbrev pub StopsAt : DueKey → ℕ → List (ℕ × DueKey) → Type 0
-StopsAt key place es =
+abbrev pub IsNotAfter : DueKey → ℕ → List (ℕ × DueKey) → Type 0
+IsNotAfter key place es =
     (d : ℕ × DueKey) → place < length es → due_cmp key (slice_index_or es place d).1 ≢ Less

@@ -10,7 +10,7 @@ use Rattle.std.specs.declared.cmp.Reverse.{Reverse}
 use Rattle.std.specs.Coded.{Coded, code_by, coded×, coded_ℕ}
 use Rattle.agenda_heap.specs.declared.due_key.DueKey.{DueKey}
 use Rattle.agenda_heap.specs.declared.entry.Entry.{Entry}
-use Rattle.agenda_heap.specs.Due.{due_cmp, coded_due}
+use Rattle.agenda_heap.specs.Due.{due_cmp, coded_due_key}
 
 abbrev pub entry : DueKey → ℕ → Entry
 entry key cell = record { key = key; cell = cell }
@@ -31,17 +31,17 @@ abbrev pub same_entry : Entry → Entry → Bool
 same_entry e f = same_due e.key f.key && (e.cell == f.cell)
 
 -- how often an entry stands in a list
-abbrev pub copies : Entry → List (Reverse Entry) → ℕ
-copies e rs = count_by (λ r. same_entry e r.0) rs
+abbrev pub entry_count : Entry → List (Reverse Entry) → ℕ
+entry_count e rs = count_by (λ r. same_entry e r.0) rs
 
 -- each cell stands in the list with its key
 abbrev pub HoldsCells : FinMap nat_cmp DueKey → List (Reverse Entry) → Type 0
-HoldsCells m rs = (q : ℕ) (k : DueKey) → get m q ≡ Some k → 1 ≤ copies (entry k q) rs
+HoldsCells m rs = (q : ℕ) (k : DueKey) → get m q ≡ Some k → 1 ≤ entry_count (entry k q) rs
 
 -- each cell but one does
 abbrev pub HoldsOthers : FinMap nat_cmp DueKey → ℕ → List (Reverse Entry) → Type 0
 HoldsOthers m cell rs =
-    (q : ℕ) (k : DueKey) → q ≢ cell → get m q ≡ Some k → 1 ≤ copies (entry k q) rs
+    (q : ℕ) (k : DueKey) → q ≢ cell → get m q ≡ Some k → 1 ≤ entry_count (entry k q) rs
 
 -- the first list with one entry more, in any order
 abbrev pub GainsEntry : List (Reverse Entry) → List (Reverse Entry) → DueKey → ℕ → Type 0
@@ -51,7 +51,7 @@ GainsEntry was is key cell = IsPermutation (reversed key cell ∷ was) is
 abbrev pub KeepsLive : (ℕ → Option DueKey) → List (Reverse Entry) → List (Reverse Entry) → Type 0
 KeepsLive key_of was is =
     (q : ℕ) (k : DueKey) → key_of q ≡ Some k →
-    1 ≤ copies (entry k q) was → 1 ≤ copies (entry k q) is
+    1 ≤ entry_count (entry k q) was → 1 ≤ entry_count (entry k q) is
 
 -- how many entries there may be beyond two for each cell
 abbrev pub slack : ℕ
@@ -70,5 +70,5 @@ pub record HeapState : Type 0 where
 
 abbrev pub coded_heap : Coded HeapState
 coded_heap =
-    code_by (FinMap nat_cmp DueKey × ℕ) (coded× (map.code coded_ℕ coded_due) coded_ℕ)
+    code_by (FinMap nat_cmp DueKey × ℕ) (coded× (map.code coded_ℕ coded_due_key) coded_ℕ)
     (λ s. (s.keys, s.stored)) (λ p. record { keys = p.0; stored = p.1 }) (λ _. refl)

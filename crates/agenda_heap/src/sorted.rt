@@ -4,7 +4,7 @@ ghost use Rattle.std.specs.Prelude.{◌≡◌, ◌≤◌, length, take};
 ghost use Rattle.std.specs.List.{AllByRecursion};
 ghost use Rattle.std.specs.declared.cmp.Ordering.TheVariants.{Less};
 ghost use Rattle.std.specs.FinMap as map;
-ghost use Rattle.agenda_heap.specs.Due.{due_cmp, StopsAt};
+ghost use Rattle.agenda_heap.specs.Due.{due_cmp, IsNotAfter};
 
 use crate::agenda::Agenda;
 use crate::due_key::DueKey;
@@ -25,11 +25,11 @@ impl Model for SortedAgenda {
     ghost use Rattle.std.specs.Coded.{coded_ℕ};
     ghost use Rattle.std.specs.FinMap as map;
     ghost use Rattle.agenda_heap.specs.declared.due_key.DueKey.{DueKey};
-    ghost use Rattle.agenda_heap.specs.Due.{coded_due, KeysFall};
+    ghost use Rattle.agenda_heap.specs.Due.{coded_due_key, KeysFall};
 
     ghost Value = { map.FinMap nat_cmp DueKey };
 
-    ghost coded = { map.code coded_ℕ coded_due };
+    ghost coded = { map.code coded_ℕ coded_due_key };
 
     ghost view = { λ a. map.from_entries a.entries.items };
 
@@ -89,7 +89,7 @@ impl Agenda for SortedAgenda {
 fn place_of(entries: &[(CellKey, DueKey)], key: DueKey) -> usize
     ensures within { result ≤ length entries.now }
     ensures greater { AllByRecursion (λ e. due_cmp key e.1 ≡ Less) (take result entries.now) }
-    ensures stops { StopsAt key result entries.now }
+    ensures stops { IsNotAfter key result entries.now }
 {
     let mut place = 0;
     while place < entries.len() && key < entries[place].1 {

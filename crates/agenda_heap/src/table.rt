@@ -29,12 +29,12 @@ impl Model for KeyTable {
     ghost use Rattle.std.specs.Coded.{coded_ℕ};
     ghost use Rattle.std.specs.FinMap as map;
     ghost use Rattle.agenda_heap.specs.declared.due_key.DueKey.{DueKey};
-    ghost use Rattle.agenda_heap.specs.Due.{coded_due};
+    ghost use Rattle.agenda_heap.specs.Due.{coded_due_key};
     ghost use Rattle.agenda_heap.specs.Keys.{keys_from, key_count};
 
     ghost Value = { map.FinMap nat_cmp DueKey };
 
-    ghost coded = { map.code coded_ℕ coded_due };
+    ghost coded = { map.code coded_ℕ coded_due_key };
 
     ghost view = { λ t. keys_from 0 t.slots.items };
 

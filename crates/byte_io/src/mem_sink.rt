@@ -27,7 +27,14 @@ impl Model for MemSink {
 
     ghost Value = { MemOutput };
 
-    ghost view = { λ s. record { taken = s.bytes.items; room = s.room; piece = s.piece; writes = s.writes; fail_at = s.fail_at; broken = s.broken } };
+    ghost view = { λ s. record {
+      taken = s.bytes.items;
+      room = s.room;
+      piece = s.piece;
+      writes = s.writes;
+      fail_at = s.fail_at;
+      broken = s.broken;
+    } };
 
     ghost invariant = { λ s. s.room ≤ vec_capacity s.bytes };
 }
@@ -36,7 +43,15 @@ impl MemSink {
     /// An empty sink, whose first `room` bytes need no growth.
     pub fn new(alloc: Global, room: usize) -> Result<MemSink, OutOfMemory>
         ensures no_room { room ≡ 0 → IsOk result }
-        ensures value { IfOk result (λ s. s ≡ record { taken = []; room = room; piece = None; writes = 0; fail_at = None; broken = false }) }
+        ensures value { IfOk result (λ s. s
+            ≡ record {
+              taken = [];
+              room = room;
+              piece = None;
+              writes = 0;
+              fail_at = None;
+              broken = false;
+            }) }
     {
         Ok(MemSink {
             bytes: Vec::with_capacity(alloc, room)?,
@@ -82,10 +97,17 @@ impl Sink for MemSink {
 
     fn write(&mut self, bytes: &[u8]) -> Result<usize, DeviceFault>
         ensures fails { IsErrOf result DeviceFault.Broken ↔ WriteFails self.old }
-        ensures grows { IsErrOf result DeviceFault.OutOfMemory → self.old.room < length self.old.taken + takes_at_once self.old.piece (length bytes.now) }
+        ensures grows { IsErrOf result DeviceFault.OutOfMemory
+            → self.old.room
+            < length self.old.taken + takes_at_once self.old.piece (length bytes.now) }
         ensures count { IfOk result (λ n. n ≡ takes_at_once self.old.piece (length bytes.now)) }
-        ensures ok { IfOk result (λ n. self.new ≡ record self.old { taken = self.old.taken ++ take n bytes.now; writes = one_more self.old.writes }) }
-        ensures err { OnErr result (self.new ≡ record self.old { writes = one_more self.old.writes; broken = true }) }
+        ensures ok { IfOk result (λ n. self.new
+            ≡ record self.old {
+              taken = self.old.taken ++ take n bytes.now;
+              writes = one_more self.old.writes;
+            }) }
+        ensures err { OnErr result
+            (self.new ≡ record self.old { writes = one_more self.old.writes; broken = true }) }
     {
         let number = self.writes;
         self.writes = number.saturating_add(1);

@@ -24,7 +24,12 @@ impl Model for MemSource {
 
     ghost Value = { MemInput };
 
-    ghost view = { λ s. record { left = drop s.at s.bytes.items; reads = s.reads; fail_at = s.fail_at; broken = s.broken } };
+    ghost view = { λ s. record {
+      left = drop s.at s.bytes.items;
+      reads = s.reads;
+      fail_at = s.fail_at;
+      broken = s.broken;
+    } };
 
     ghost invariant = { λ s. s.at ≤ length s.bytes.items };
 }
@@ -32,7 +37,8 @@ impl Model for MemSource {
 impl MemSource {
     /// A source that gives these bytes.
     pub fn new(bytes: Vec<u8>) -> Self
-        ensures { result ≡ record { left = bytes.items; reads = 0; fail_at = None; broken = false } }
+        ensures { result
+            ≡ record { left = bytes.items; reads = 0; fail_at = None; broken = false } }
     {
         MemSource {
             bytes,
@@ -65,8 +71,10 @@ impl Source for MemSource {
         ensures count { IfOk result (λ n. n ≡ min (length self.old.left) (length buffer.old)) }
         ensures given { IfOk result (λ n. self.old.left ≡ take n buffer.new ++ self.new.left) }
         ensures tail { IfOk result (λ n. drop n buffer.new ≡ drop n buffer.old) }
-        ensures ok { IfOk result (λ n. self.new ≡ record self.old { left = drop n self.old.left; reads = one_more self.old.reads }) }
-        ensures err { OnErr result (self.new ≡ record self.old { reads = one_more self.old.reads; broken = true }) }
+        ensures ok { IfOk result (λ n. self.new
+            ≡ record self.old { left = drop n self.old.left; reads = one_more self.old.reads }) }
+        ensures err { OnErr result
+            (self.new ≡ record self.old { reads = one_more self.old.reads; broken = true }) }
         ensures untouched { OnErr result (buffer.new ≡ buffer.old) }
     {
         let number = self.reads;

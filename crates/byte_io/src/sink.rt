@@ -24,8 +24,10 @@ pub trait Sink {
     /// given, even none.
     fn write(&mut self, bytes: &[u8]) -> Result<usize, DeviceFault>
         ensures within { IfOk result (λ n. n ≤ length bytes.now) }
-        ensures took { tells self.old ≡ true → IfOk result (λ n. taken self.new ≡ taken self.old ++ take n bytes.now) }
-        ensures some { takes_some self.old ≡ true → IfOk result (λ n. 0 < length bytes.now → 0 < n) }
+        ensures took { tells self.old ≡ true
+            → IfOk result (λ n. taken self.new ≡ taken self.old ++ take n bytes.now) }
+        ensures some { takes_some self.old ≡ true
+            → IfOk result (λ n. 0 < length bytes.now → 0 < n) }
         ensures telling { tells self.new ≡ tells self.old }
         ensures eager { takes_some self.new ≡ takes_some self.old }
         ensures unmoved { OnErr result (taken self.new ≡ taken self.old) }

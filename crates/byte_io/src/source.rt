@@ -21,9 +21,12 @@ pub trait Source {
     /// 0 where none is left or `buffer` is empty. A device may give fewer than there is room for.
     fn read(&mut self, buffer: &mut [u8]) -> Result<usize, DeviceFault>
         ensures within { IfOk result (λ n. n ≤ length buffer.old) }
-        ensures given { tells self.old ≡ true → IfOk result (λ n. left self.old ≡ take n buffer.new ++ left self.new) }
-        ensures tail { tells self.old ≡ true → IfOk result (λ n. drop n buffer.new ≡ drop n buffer.old) }
-        ensures some { tells self.old ≡ true → IfOk result (λ n. 0 < length (left self.old) → 0 < length buffer.old → 0 < n) }
+        ensures given { tells self.old ≡ true
+            → IfOk result (λ n. left self.old ≡ take n buffer.new ++ left self.new) }
+        ensures tail { tells self.old ≡ true
+            → IfOk result (λ n. drop n buffer.new ≡ drop n buffer.old) }
+        ensures some { tells self.old ≡ true
+            → IfOk result (λ n. 0 < length (left self.old) → 0 < length buffer.old → 0 < n) }
         ensures telling { tells self.new ≡ tells self.old }
         ensures unmoved { OnErr result (left self.new ≡ left self.old) }
         ensures marked { OnErr result (failed self.new ≡ true) }

@@ -166,7 +166,8 @@ impl Message {
     ///
     /// Memory is taken only for the data of an exclusive message.
     pub fn from_bytes(alloc: Global, bytes: &[u8]) -> Result<Option<Message>, OutOfMemory>
-        ensures ok { IfOk result (λ found. found ≡ (if is_message bytes.now then Some bytes.now else None)) }
+        ensures ok { IfOk result
+            (λ found. found ≡ (if is_message bytes.now then Some bytes.now else None)) }
         ensures err { OnErr result (IsTrue (is_message bytes.now)) }
         ensures exclusive { OnErr result (kind_of bytes.now ≡ Kind.Exclusive) }
     {
@@ -308,7 +309,8 @@ impl Message {
     pub(crate) fn append_tail(&self, out: &mut Vec<u8>) -> Result<(), OutOfMemory>
         ensures ok { OnOk result (out.new.items ≡ out.old.items ++ tail_of self.now) }
         ensures err { OnErr result (out.new.items ≡ out.old.items) }
-        ensures full { OnErr result (vec_capacity out.old < vec_len out.old + length (tail_of self.now)) }
+        ensures full { OnErr result
+            (vec_capacity out.old < vec_len out.old + length (tail_of self.now)) }
     {
         match &self.form {
             Form::Alone(_) => {}

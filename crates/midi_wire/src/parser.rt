@@ -61,7 +61,8 @@ impl Model for Pending {
 
     ghost view = { λ p. pending_bytes p.block p.payload.items };
 
-    ghost invariant = { λ p. IsTrue (is_sound p.block p.payload.items) × (length p.payload.items ≤ most_data) };
+    ghost invariant = { λ p. IsTrue (is_sound p.block p.payload.items)
+        × (length p.payload.items ≤ most_data) };
 }
 
 impl Pending {
@@ -79,7 +80,8 @@ impl Pending {
     #[inline]
     fn end(&mut self, out: &mut Vec<Message>) -> Result<(), OutOfMemory>
         requires { rest self.old ≡ self.old }
-        ensures told { OnOk result (out.new.items ≡ out.old.items ++ reading (self.old ++ END_OF_EXCLUSIVE ∷ [])) }
+        ensures told { OnOk result
+            (out.new.items ≡ out.old.items ++ reading (self.old ++ END_OF_EXCLUSIVE ∷ [])) }
         ensures nothing { OnOk result (self.new ≡ []) }
         ensures err { OnErr result (out.new.items ≡ out.old.items) }
     {
@@ -120,7 +122,8 @@ impl Pending {
     fn data(&mut self, byte: u8, out: &mut Vec<Message>) -> Result<(), OutOfMemory>
         requires settled { rest self.old ≡ self.old }
         requires low { byte < FIRST_STATUS }
-        ensures told { OnOk result (out.new.items ≡ out.old.items ++ reading (self.old ++ byte ∷ [])) }
+        ensures told { OnOk result
+            (out.new.items ≡ out.old.items ++ reading (self.old ++ byte ∷ [])) }
         ensures leaves { OnOk result (self.new ≡ rest (self.old ++ byte ∷ [])) }
         ensures err { OnErr result (out.new.items ≡ out.old.items) }
     {
@@ -158,9 +161,11 @@ impl Pending {
     #[inline]
     fn take(&mut self, byte: u8, out: &mut Vec<Message>) -> Result<(), OutOfMemory>
         requires { rest self.old ≡ self.old }
-        ensures told { OnOk result (out.new.items ≡ out.old.items ++ reading (self.old ++ byte ∷ [])) }
+        ensures told { OnOk result
+            (out.new.items ≡ out.old.items ++ reading (self.old ++ byte ∷ [])) }
         ensures leaves { OnOk result (self.new ≡ rest (self.old ++ byte ∷ [])) }
-        ensures err { OnErr result (GainsPrefix out.old.items out.new.items (reading (self.old ++ byte ∷ []))) }
+        ensures err { OnErr result
+            (GainsPrefix out.old.items out.new.items (reading (self.old ++ byte ∷ []))) }
     {
         if !is_status(byte) {
             return self.data(byte, out);
@@ -216,11 +221,14 @@ impl StreamParser {
     /// maybe none, have been added, and each later call answers `Failed`.
     pub fn feed(&mut self, piece: &[u8], out: &mut Vec<Message>) -> Result<usize, WireFault>
         ensures refused { IsErrOf result WireFault.Failed ↔ IsTrue self.old.failed }
-        ensures told { OnOk result (out.new.items ≡ out.old.items ++ reading (self.old.rest ++ piece.now)) }
+        ensures told { OnOk result
+            (out.new.items ≡ out.old.items ++ reading (self.old.rest ++ piece.now)) }
         ensures number { IfOk result (λ n. n ≡ length (reading (self.old.rest ++ piece.now))) }
-        ensures state { OnOk result (self.new ≡ record { rest = rest (self.old.rest ++ piece.now); failed = false }) }
+        ensures state { OnOk result
+            (self.new ≡ record { rest = rest (self.old.rest ++ piece.now); failed = false }) }
         ensures fails { OnErr result (self.new.failed ≡ true) }
-        ensures prefix { OnErr result (GainsPrefix out.old.items out.new.items (reading (self.old.rest ++ piece.now))) }
+        ensures prefix { OnErr result
+            (GainsPrefix out.old.items out.new.items (reading (self.old.rest ++ piece.now))) }
     {
         if self.failed {
             return Err(WireFault::Failed);

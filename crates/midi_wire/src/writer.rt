@@ -37,11 +37,13 @@ impl StreamWriter {
     /// Appends a message, without its status where that is still in force. Where there is no memory, nothing changes.
     pub fn write(&mut self, message: &Message, out: &mut Vec<u8>) -> Result<(), OutOfMemory>
         ensures message { IsMessage message.now }
-        ensures ok { OnOk result (out.new.items ≡ out.old.items ++ written_after self.old (message.now ∷ [])) }
+        ensures ok { OnOk result
+            (out.new.items ≡ out.old.items ++ written_after self.old (message.now ∷ [])) }
         ensures state { OnOk result (self.new ≡ status_after self.old message.now) }
         ensures err { OnErr result (out.new.items ≡ out.old.items) }
         ensures kept { OnErr result (self.new ≡ self.old) }
-        ensures full { OnErr result (vec_capacity out.old < vec_len out.old + length (written_after self.old (message.now ∷ []))) }
+        ensures full { OnErr result (vec_capacity out.old < vec_len out.old
+            + length (written_after self.old (message.now ∷ []))) }
     {
         let status = message.status();
         let class = StatusClass::of(status);

@@ -29,7 +29,8 @@ impl Flags for Caps {
 
     ghost exact = { ⊤ };
 
-    ghost table = { (codes "READ", 1) ∷ (codes "WRITE", 2) ∷ (codes "DUPLEX", 16) ∷ (codes "SUBS_READ", 32) ∷ (codes "SUBS_WRITE", 64) ∷ (codes "NO_EXPORT", 128) ∷ [] };
+    ghost table = { (codes "READ", 1) ∷ (codes "WRITE", 2) ∷ (codes "DUPLEX", 16)
+        ∷ (codes "SUBS_READ", 32) ∷ (codes "SUBS_WRITE", 64) ∷ (codes "NO_EXPORT", 128) ∷ [] };
 
     ghost set_of = { λ c. c.0 };
 

@@ -49,7 +49,9 @@ impl<P> Model for NodeTable<P> {
 
     ghost coded = { map.code coded_ℕ (coded_client_nodes P.code) };
 
-    ghost view = { λ t. clients_kept (λ row. option_map (λ v. v.items) (slice_index_or t.names row None)) (at_place t.keys.items t.nodes.slots) };
+    ghost view = { λ t. clients_kept
+        (λ row. option_map (λ v. v.items) (slice_index_or t.names row None))
+        (at_place t.keys.items t.nodes.slots) };
 
     ghost invariant = { λ t. IsKept t.names t.keys.items t.nodes.slots };
 }
@@ -96,8 +98,10 @@ impl<P> NodeTable<P> {
     pub fn open_client(&mut self, client: ClientId, name: &[u8]) -> Result<(), OpenFault>
         ensures ok { OnOk result (self.new ≡ map.insert self.old client (new_client name.now)) }
         ensures err { OnErr result (self.new ≡ self.old) }
-        ensures already_open { IsErrOf result OpenFault.AlreadyOpen ↔ (is_open self.old client ≡ true) }
-        ensures bad_name { IsErrOf result OpenFault.BadName ↔ ((is_open self.old client ≡ false) × (is_name name.now ≡ false)) }
+        ensures already_open { IsErrOf result OpenFault.AlreadyOpen
+            ↔ (is_open self.old client ≡ true) }
+        ensures bad_name { IsErrOf result OpenFault.BadName
+            ↔ ((is_open self.old client ≡ false) × (is_name name.now ≡ false)) }
     {
         if self.is_open(client) {
             return Err(OpenFault::AlreadyOpen);
@@ -168,12 +172,17 @@ impl<P> NodeTable<P> {
         caps: Caps,
         body: P,
     ) -> Result<(), CreateFault<P>>
-        ensures ok { OnOk result (self.new ≡ with_node self.old addr (node_seen name.now caps body)) }
+        ensures ok { OnOk result
+            (self.new ≡ with_node self.old addr (node_seen name.now caps body)) }
         ensures err { OnErr result (self.new ≡ self.old) }
         ensures body_back { IfErr result (λ e. body_of e ≡ body) }
-        ensures not_open { IsErrOf result (CreateFault.NotOpen body) ↔ (is_open self.old addr.client ≡ false) }
-        ensures bad_name { IsErrOf result (CreateFault.BadName body) ↔ ((is_open self.old addr.client ≡ true) × (is_name_for addr.node name.now ≡ false)) }
-        ensures exists { IsErrOf result (CreateFault.Exists body) ↔ ((is_open self.old addr.client ≡ true) × (is_name_for addr.node name.now ≡ true) × IsSome (node_at self.old addr)) }
+        ensures not_open { IsErrOf result (CreateFault.NotOpen body)
+            ↔ (is_open self.old addr.client ≡ false) }
+        ensures bad_name { IsErrOf result (CreateFault.BadName body)
+            ↔ ((is_open self.old addr.client ≡ true) × (is_name_for addr.node name.now ≡ false)) }
+        ensures exists { IsErrOf result (CreateFault.Exists body)
+            ↔ ((is_open self.old addr.client ≡ true)
+            × (is_name_for addr.node name.now ≡ true) × IsSome (node_at self.old addr)) }
     {
         if !self.is_open(addr.client) {
             return Err(CreateFault::NotOpen(body));
@@ -202,7 +211,8 @@ impl<P> NodeTable<P> {
         requires open { is_open self.old addr.client ≡ true }
         requires named { is_name_for addr.node name.now ≡ true }
         requires fresh { node_at self.old addr ≡ None }
-        ensures ok { OnOk result (self.new ≡ with_node self.old addr (node_seen name.now caps body)) }
+        ensures ok { OnOk result
+            (self.new ≡ with_node self.old addr (node_seen name.now caps body)) }
         ensures err { OnErr result (self.new ≡ self.old) }
         ensures body_back { IfErr result (λ failed. failed.value ≡ body) }
     {
@@ -247,7 +257,8 @@ impl<P> NodeTable<P> {
     /// The body of a node, to be changed.
     pub fn body_mut(&mut self, addr: &Addr) -> Option<&mut P>
         ensures* writes_back { sem 𝓛 (LendsIfThere P.row self.entry addr.now result) }
-        ensures value { option_copied_mut result ≡ option_map (λ n. n.body) (node_at self.old addr.now) }
+        ensures value { option_copied_mut result
+            ≡ option_map (λ n. n.body) (node_at self.old addr.now) }
     {
         if self.find(addr).is_some() {
             Some(self.body_there(addr))
@@ -269,7 +280,9 @@ impl<P> NodeTable<P> {
     pub fn permitted(&self, actor: ClientId, source: &Addr, target: &Addr) -> bool
         requires source { IsSome (node_at self.now source.now) }
         requires target { IsSome (node_at self.now target.now) }
-        ensures { result ≡ permits actor source.now (bits_of (node_at self.now source.now)) target.now (bits_of (node_at self.now target.now)) }
+        ensures { result ≡ permits actor
+            source.now (bits_of (node_at self.now source.now))
+            target.now (bits_of (node_at self.now target.now)) }
     {
         let read = self.find(source).unwrap().caps();
         let write = self.find(target).unwrap().caps();
@@ -278,7 +291,8 @@ impl<P> NodeTable<P> {
 
     /// The client's port with the least number at or after `from`, to list them in order.
     pub fn next_port(&self, client: ClientId, from: u8) -> Option<(PortNo, &NodeInfo<P>)>
-        ensures next { IfSome result (λ r. IsNext (ports_in (map.get self.now client)) from r.0 r.1.now) }
+        ensures next { IfSome result
+            (λ r. IsNext (ports_in (map.get self.now client)) from r.0 r.1.now) }
         ensures none { IfNone result (NoneFrom (ports_in (map.get self.now client)) from) }
     {
         let first = row_of(client) * 32;
@@ -292,7 +306,8 @@ impl<P> NodeTable<P> {
 
     /// The client's filter with the least number at or after `from`, to list them in order.
     pub fn next_filter(&self, client: ClientId, from: u8) -> Option<(FilterNo, &NodeInfo<P>)>
-        ensures next { IfSome result (λ r. IsNext (filters_in (map.get self.now client)) from r.0 r.1.now) }
+        ensures next { IfSome result
+            (λ r. IsNext (filters_in (map.get self.now client)) from r.0 r.1.now) }
         ensures none { IfNone result (NoneFrom (filters_in (map.get self.now client)) from) }
     {
         let first = row_of(client) * 32 + 16;

@@ -47,7 +47,8 @@ impl Model for PatchGraph {
 
     ghost view = { λ g. g.edges.keys };
 
-    ghost invariant = { λ g. IsGraph g.edges.keys × IsIndexed g.edges.keys (map (λ v. v.items) g.targets.items) g.counts.items };
+    ghost invariant = { λ g. IsGraph g.edges.keys
+        × IsIndexed g.edges.keys (map (λ v. v.items) g.targets.items) g.counts.items };
 }
 
 /// Makes the places of a table that has none yet, each with no targets. One that has them stays as it is.
@@ -221,9 +222,15 @@ impl PatchGraph {
     pub fn connect(&mut self, source: Addr, target: Addr) -> Result<(), EdgeFault>
         ensures ok { OnOk result (self.new ≡ self.old ++ edge source target ∷ []) }
         ensures err { OnErr result (self.new ≡ self.old) }
-        ensures already_connected { IsErrOf result EdgeFault.AlreadyConnected ↔ (has_edge self.old source target ≡ true) }
-        ensures sources_full { IsErrOf result EdgeFault.SourcesFull ↔ ((has_edge self.old source target ≡ false) × (most_sources ≤ sources_of self.old target)) }
-        ensures cycle { IsErrOf result EdgeFault.Cycle ↔ ((has_edge self.old source target ≡ false) × (sources_of self.old target < most_sources) × (makes_cycle self.old source target ≡ true)) }
+        ensures already_connected { IsErrOf result EdgeFault.AlreadyConnected
+            ↔ (has_edge self.old source target ≡ true) }
+        ensures sources_full { IsErrOf result EdgeFault.SourcesFull
+            ↔ ((has_edge self.old source target ≡ false)
+            × (most_sources ≤ sources_of self.old target)) }
+        ensures cycle { IsErrOf result EdgeFault.Cycle
+            ↔ ((has_edge self.old source target ≡ false)
+            × (sources_of self.old target < most_sources)
+            × (makes_cycle self.old source target ≡ true)) }
     {
         if self.has_edge(&source, &target) {
             return Err(EdgeFault::AlreadyConnected);

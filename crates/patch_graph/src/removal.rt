@@ -30,7 +30,10 @@ impl Removal {
     pub fn sweep(&self, targets: &mut [Vec<Addr>])
         requires { IsTable targets.old }
         ensures len { length targets.new ≡ length targets.old }
-        ensures swept { (a : Addr) (row place : ℕ) → IsPlace a row place → slice_index_or (map (λ v. v.items) targets.new) place [] ≡ filter (λ t. not (takes self.now (edge a t))) (slice_index_or (map (λ v. v.items) targets.old) place []) }
+        ensures swept { (a : Addr) (row place : ℕ) → IsPlace a row place
+            → slice_index_or (map (λ v. v.items) targets.new) place []
+            ≡ filter (λ t. not (takes self.now (edge a t)))
+            (slice_index_or (map (λ v. v.items) targets.old) place []) }
     {
         for place in 0..targets.len() {
             if let Some(source) = addr_at(place) {
@@ -40,7 +43,8 @@ impl Removal {
     }
 
     fn sweep_one(&self, source: &Addr, targets: &mut Vec<Addr>)
-        ensures { targets.new.items ≡ filter (λ t. not (takes self.now (edge source.now t))) targets.old.items }
+        ensures { targets.new.items
+            ≡ filter (λ t. not (takes self.now (edge source.now t))) targets.old.items }
     {
         targets.retain(|target| !self.takes(source, target));
     }

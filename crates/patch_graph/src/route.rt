@@ -33,7 +33,8 @@ impl Model for Route {
 
     ghost view = { λ r. take r.count r.nodes };
 
-    ghost invariant = { λ r. (r.count ≤ 8) × (length r.nodes ≡ 8) × (is_route (take r.count r.nodes) ≡ true) };
+    ghost invariant = { λ r. (r.count ≤ 8) × (length r.nodes ≡ 8)
+        × (is_route (take r.count r.nodes) ≡ true) };
 }
 
 impl Route {

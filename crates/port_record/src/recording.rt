@@ -2,7 +2,7 @@
 
 ghost use Rattle.std.specs.Prelude.{◌≡◌, ◌++◌, None, Some, IfOk, IfErr, IfSome, OnOk};
 ghost use Rattle.std.specs.Option.{option_to_list};
-ghost use Rattle.smf_files.specs.Refusals.{refusal_of, refusal_in};
+ghost use Rattle.smf_files.specs.Refusals.{write_refusal, told_refusal};
 ghost use Rattle.smf_grammar.specs.Laws.{ReadsBack};
 ghost use Rattle.smf_grammar.specs.Texts.{file_text};
 ghost use Rattle.port_record.specs.declared.recording.TheConstants.{PPQ, TEMPO};
@@ -28,9 +28,9 @@ const TEMPO: u32 = 500_000;
 pub fn record_file(alloc: Global, log: &RunLog, port: PortAddr) -> Result<Vec<u8>, WriteFault>
     ensures text { IfOk result (λ file. file.items
         ≡ file_text PPQ TEMPO (recorded port log.now.entries)) }
-    ensures taken { OnOk result (refusal_of PPQ TEMPO (recorded port log.now.entries) ≡ None) }
-    ensures refused { IfErr result (λ x. IfSome (refusal_in x) (λ r.
-        refusal_of PPQ TEMPO (recorded port log.now.entries) ≡ Some r)) }
+    ensures taken { OnOk result (write_refusal PPQ TEMPO (recorded port log.now.entries) ≡ None) }
+    ensures refused { IfErr result (λ x. IfSome (told_refusal x) (λ r.
+        write_refusal PPQ TEMPO (recorded port log.now.entries) ≡ Some r)) }
     ensures reads_back { OnOk result (ReadsBack PPQ TEMPO (recorded port log.now.entries)) }
 {
     let clock = clock(alloc)?;

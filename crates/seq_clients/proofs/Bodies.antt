@@ -11,24 +11,24 @@ use Rattle.node_table.specs.declared.number.Node.TheVariants.{Port}
 use Rattle.route_filter.specs.declared.rule_args.RuleArgs.{RuleArgs}
 use Rattle.seq_state.specs.State.{PortInfo, FilterInfo}
 use Rattle.seq_state.specs.Own.{has_port, has_filter, port_of, filter_of, with_change, put_port, put_filter, fed_of, port_fed, filter_ruled}
-use Rattle.seq_state.specs.Step.{port_addr}
+use Rattle.seq_state.specs.Step.{port_addr, filter_addr}
 use Rattle.seq_clients.specs.Bodies.{stream_of, is_body_for, is_stream}
-use Rattle.seq_clients.specs.Kept.{Nodes, Rows, port_seen, filter_seen, roster, IsKept}
-use Rattle.seq_clients.specs.Roster.{Roster, with_client, filter_addr}
+use Rattle.seq_clients.specs.Kept.{Nodes, Rows, port_seen, filter_seen, roster, AreRowsKept}
+use Rattle.seq_clients.specs.Roster.{Roster, with_client}
 use Rattle.seq_clients.specs.declared.body.NodeBody.{NodeBody}
 use Rattle.seq_clients.specs.declared.body.NodeBody.TheVariants as bodies
 use Rattle.seq_clients.proofs.Seeing.{get-port, get-filter, port-there, filter-there}
 use Rattle.seq_clients.proofs.Changing.{port-made, filter-made, made-kept}
 
-module _ (table : Nodes) (rows : Rows) (s : Roster) (kept : IsKept table rows) (view : roster table rows ≡ s) where
+module _ (table : Nodes) (rows : Rows) (s : Roster) (kept : AreRowsKept table rows) (view : roster table rows ≡ s) where
   -- the body of a node that may be there
   abbrev pub body_at : Addr → Option NodeBody
   body_at addr = option_map (λ n. n.body) (node_at table addr)
 
-  pub written-kept : (client : ℕ) (nd : Node) (addr : Addr) (body : NodeBody) → addr ≡ record { client = client; node = nd } → is_body_for nd body ≡ true → IsKept (with_body table addr body) rows
-  written-kept client nd addr body at fit = subst (λ (x : Addr). IsKept (with_body table x body) rows) (sym at) (go (node_at table (record { client = client; node = nd })))
+  pub written-kept : (client : ℕ) (nd : Node) (addr : Addr) (body : NodeBody) → addr ≡ record { client = client; node = nd } → is_body_for nd body ≡ true → AreRowsKept (with_body table addr body) rows
+  written-kept client nd addr body at fit = subst (λ (x : Addr). AreRowsKept (with_body table x body) rows) (sym at) (go (node_at table (record { client = client; node = nd })))
     where
-      go : (o : Option (NodeSeen NodeBody)) → IsKept (put_seen table (record { client = client; node = nd }) (option_map (with_its_body body) o)) rows
+      go : (o : Option (NodeSeen NodeBody)) → AreRowsKept (put_seen table (record { client = client; node = nd }) (option_map (with_its_body body) o)) rows
       go None = kept
       go (Some n) = made-kept table rows s kept view client nd (with_its_body body n) fit
 
@@ -83,7 +83,7 @@ module _ (table : Nodes) (rows : Rows) (s : Roster) (kept : IsKept table rows) (
         go None h = cc
         go (Some n) h = let same : was ≡ n.body = cc in ap stream_of same
 
-    pub fed-kept : (body : NodeBody) → is_stream body ≡ true → IsKept (with_body table addr body) rows
+    pub fed-kept : (body : NodeBody) → is_stream body ≡ true → AreRowsKept (with_body table addr body) rows
     fed-kept body e = written-kept client (Port port) addr body at (is body e)
       where
         is : (b : NodeBody) → is_stream b ≡ true → is_body_for (Port port) b ≡ true

@@ -16,10 +16,10 @@ use Rattle.node_table.proofs.Numbered.{get-insert_same, get-insert_other, get-re
 use Rattle.seq_state.specs.declared.log.Arrival.{Arrival}
 use Rattle.seq_state.specs.State.{Client, Pool, PortInfo, FilterInfo, put}
 use Rattle.seq_state.specs.Own.{has_port, has_filter, queue_of, with_change, put_port, put_filter, new_client, without_oldest}
-use Rattle.seq_state.specs.Step.{port_addr}
+use Rattle.seq_state.specs.Step.{port_addr, filter_addr}
 use Rattle.seq_clients.specs.Bodies.{is_body_for}
-use Rattle.seq_clients.specs.Kept.{Nodes, Rows, port_seen, filter_seen, client_seen, row_at, roster, IsKept}
-use Rattle.seq_clients.specs.Roster.{Roster, with_client, with_pool, filter_addr}
+use Rattle.seq_clients.specs.Kept.{Nodes, Rows, port_seen, filter_seen, client_seen, row_at, roster, AreRowsKept}
+use Rattle.seq_clients.specs.Roster.{Roster, with_client, with_pool}
 use Rattle.seq_clients.specs.Rows.{new_row, row_offered}
 use Rattle.seq_clients.specs.declared.body.NodeBody.{NodeBody}
 use Rattle.seq_clients.specs.declared.body.NodeBody.TheVariants.{Stream, Rule}
@@ -119,7 +119,7 @@ is_some-of : {X Y : Type 0} (f : X → Y) (o : Option X) → is_some (option_map
 is_some-of f None = refl
 is_some-of f (Some x) = refl
 
-module _ (table : Nodes) (rows : Rows) (s : Roster) (kept : IsKept table rows) (view : roster table rows ≡ s) where
+module _ (table : Nodes) (rows : Rows) (s : Roster) (kept : AreRowsKept table rows) (view : roster table rows ≡ s) where
   -- ---- one client changes
 
   abbrev pub seen_in : Nodes → Rows → ℕ → Option Client
@@ -154,7 +154,7 @@ module _ (table : Nodes) (rows : Rows) (s : Roster) (kept : IsKept table rows) (
       ∙ ap (λ (m : FinMap nat_cmp Client). record { clients = m; pools = put s.pools client p }) (sym (put_again s.clients client (get s.clients client) refl))
 
   -- who has nodes has a row still, and each node has what is for it
-  pub kept-both : (ns : Nodes) (rs : Rows) (client : ℕ) → SameApart client table ns → SameApart client rows rs → is_some (get rs client) ≡ is_some (get ns client) → Fits (get ns client) → IsKept ns rs
+  pub kept-both : (ns : Nodes) (rs : Rows) (client : ℕ) → SameApart client table ns → SameApart client rows rs → is_some (get rs client) ≡ is_some (get ns client) → Fits (get ns client) → AreRowsKept ns rs
   kept-both ns rs client others row_others there fit =
       record {
         rowed = at;
@@ -203,7 +203,7 @@ module _ (table : Nodes) (rows : Rows) (s : Roster) (kept : IsKept table rows) (
       go None = refl
       go (Some c) = ap Some (alike (row_at rows client) c)
 
-  nodes-kept : (client : ℕ) (f : ClientNodes NodeBody → ClientNodes NodeBody) → ((c : ClientNodes NodeBody) → Fits (Some c) → Fits (Some (f c))) → IsKept (with_nodes client f) rows
+  nodes-kept : (client : ℕ) (f : ClientNodes NodeBody → ClientNodes NodeBody) → ((c : ClientNodes NodeBody) → Fits (Some c) → Fits (Some (f c))) → AreRowsKept (with_nodes client f) rows
   nodes-kept client f fit =
       kept-both (with_nodes client f) rows client (with-others client f) (λ q ne. refl)
       (kept.rowed client ∙ sym (ap is_some (with-same client f) ∙ is_some-of f (get table client)))
@@ -230,10 +230,10 @@ module _ (table : Nodes) (rows : Rows) (s : Roster) (kept : IsKept table rows) (
       nodes-seen client (drop_node (Filter filter)) (put_filter filter None)
       (λ r c. ap (λ (fs : FinMap nat_cmp FilterInfo). record (client_seen r c) { filters = fs }) (mapped-remove (λ n y. filter_seen y) c.filters filter))
 
-  pub made-kept : (client : ℕ) (nd : Node) (x : NodeSeen NodeBody) → is_body_for nd x.body ≡ true → IsKept (with_node table (record { client = client; node = nd }) x) rows
+  pub made-kept : (client : ℕ) (nd : Node) (x : NodeSeen NodeBody) → is_body_for nd x.body ≡ true → AreRowsKept (with_node table (record { client = client; node = nd }) x) rows
   made-kept client nd x fit = nodes-kept client (put_node nd x) (fits-put nd x fit)
 
-  pub dropped-kept : (client : ℕ) (nd : Node) → IsKept (without_node table (record { client = client; node = nd })) rows
+  pub dropped-kept : (client : ℕ) (nd : Node) → AreRowsKept (without_node table (record { client = client; node = nd })) rows
   dropped-kept client nd = nodes-kept client (drop_node nd) (fits-drop nd)
 
   -- ---- what a call asks for
@@ -277,7 +277,7 @@ module _ (table : Nodes) (rows : Rows) (s : Roster) (kept : IsKept table rows) (
         ∙ ap (option_map (client_seen (new_row in_size out_size))) (get-insert_same table client (nodes.new_client name)) ∙ ap Some opened-seen)
         (ap (option_map (λ r. r.pool)) (get-insert_same rows client (new_row in_size out_size)))
 
-    opened-kept : IsKept opened_nodes opened_rows
+    opened-kept : AreRowsKept opened_nodes opened_rows
     unfolding opened_nodes opened_rows
     opened-kept =
         kept-both opened_nodes opened_rows client (λ q ne. get-insert_other table client (nodes.new_client name) q ne) (λ q ne. get-insert_other rows client (new_row in_size out_size) q ne)
@@ -292,9 +292,9 @@ module _ (table : Nodes) (rows : Rows) (s : Roster) (kept : IsKept table rows) (
       unfolding opened_nodes opened_rows
       client-opened = ap (λ (n : Nodes). roster n rs) e ∙ ap (λ (q : Rows). roster opened_nodes q) with_new ∙ opened-roster
 
-      pub opened-still : IsKept ns rs
+      pub opened-still : AreRowsKept ns rs
       unfolding opened_nodes opened_rows
-      opened-still = subst (λ (n : Nodes). IsKept n rs) (sym e) (subst (λ (q : Rows). IsKept opened_nodes q) (sym with_new) opened-kept)
+      opened-still = subst (λ (n : Nodes). AreRowsKept n rs) (sym e) (subst (λ (q : Rows). AreRowsKept opened_nodes q) (sym with_new) opened-kept)
 
   module _ (client : ℕ) (ns : Nodes) (rs : Rows) (e : ns ≡ FinMap.remove table client) (h : rs ≡ FinMap.remove rows client) where
     nodes_apart : SameApart client table ns
@@ -312,7 +312,7 @@ module _ (table : Nodes) (rows : Rows) (s : Roster) (kept : IsKept table rows) (
     pub client-closed : roster ns rs ≡ with_pool (with_client s client None) client None
     client-closed = both-put ns rs client None None nodes_apart rows_apart (ap (option_map (client_seen (row_at rs client))) nodes_gone) (ap (option_map (λ r. r.pool)) row_gone)
 
-    pub closed-still : IsKept ns rs
+    pub closed-still : AreRowsKept ns rs
     closed-still = kept-both ns rs client nodes_apart rows_apart (ap is_some row_gone ∙ sym (ap is_some nodes_gone)) (subst (λ (o : Option (ClientNodes NodeBody)). Fits o) (sym nodes_gone) fits-none)
 
   -- ---- a row is taken, changed and put back
@@ -324,7 +324,7 @@ module _ (table : Nodes) (rows : Rows) (s : Roster) (kept : IsKept table rows) (
     back_apart : SameApart client rows rs
     back_apart q ne = ap (λ (n : Rows). get n q) back ∙ get-insert_other less client with q ne ∙ ap (λ (n : Rows). get n q) taken ∙ get-remove_other rows client q ne
 
-    pub back-kept : IsKept table rs
+    pub back-kept : AreRowsKept table rs
     back-kept = kept-both table rs client (λ q ne. refl) back_apart (ap is_some (back_here) ∙ ap is_some was ∙ kept.rowed client) (λ nd n e. kept.fitting client nd n e)
 
     seen-with : (g : Client → Client) → ((c : ClientNodes NodeBody) → client_seen with c ≡ g (client_seen r c)) → seen_in table rs client ≡ with_change (get s.clients client) g
@@ -376,8 +376,8 @@ module _ (table : Nodes) (rows : Rows) (s : Roster) (kept : IsKept table rows) (
     as_were : rs ≡ rows
     as_were = less ∙ remove_absent rows client (sym none)
 
-    pub absent-kept : IsKept table rs
-    absent-kept = subst (λ (n : Rows). IsKept table n) (sym as_were) kept
+    pub absent-kept : AreRowsKept table rs
+    absent-kept = subst (λ (n : Rows). AreRowsKept table n) (sym as_were) kept
 
     pub absent-pool : None ≡ get s.pools client
     absent-pool = ap (option_map (λ q. q.pool)) none ∙ sym (get-pool table rows s kept view client)
@@ -405,10 +405,10 @@ module _ (table : Nodes) (rows : Rows) (s : Roster) (kept : IsKept table rows) (
     put-back : (r : ClientRow) → Some r ≡ get rows client → rs ≡ FinMap.insert (FinMap.remove rows client) client (row_offered arrival r)
     put-back r e = with_row (Some r) e ∙ sym (put_later rows client None (Some (row_offered arrival r)))
 
-    pub offered-kept : IsKept table rs
+    pub offered-kept : AreRowsKept table rs
     offered-kept = go (get rows client) refl
       where
-        go : (o : Option ClientRow) → o ≡ get rows client → IsKept table rs
+        go : (o : Option ClientRow) → o ≡ get rows client → AreRowsKept table rs
         go None e = absent-kept client rs e (with_row None e)
         go (Some r) e = back-kept client r (row_offered arrival r) (FinMap.remove rows client) rs e refl (put-back r e)
 

@@ -12,10 +12,10 @@ use Rattle.node_table.specs.declared.number.Node.{Node}
 use Rattle.node_table.specs.declared.number.Node.TheVariants.{Port, Filter}
 use Rattle.seq_state.specs.State.{Client, Pool}
 use Rattle.seq_state.specs.Own.{port_of, filter_of, node_caps, port_caps, filter_caps}
-use Rattle.seq_state.specs.Step.{port_addr}
+use Rattle.seq_state.specs.Step.{port_addr, filter_addr}
 use Rattle.seq_clients.specs.Bodies.{rule_in, rule_of, is_body_for}
-use Rattle.seq_clients.specs.Kept.{Nodes, Rows, port_seen, filter_seen, client_seen, row_at, roster, IsKept}
-use Rattle.seq_clients.specs.Roster.{Roster, nobody, filter_addr}
+use Rattle.seq_clients.specs.Kept.{Nodes, Rows, port_seen, filter_seen, client_seen, row_at, roster, AreRowsKept}
+use Rattle.seq_clients.specs.Roster.{Roster, nobody}
 use Rattle.seq_clients.specs.Rows.{new_row}
 use Rattle.seq_clients.specs.declared.body.NodeBody.{NodeBody}
 use Rattle.seq_clients.specs.declared.body.NodeBody.TheVariants as bodies
@@ -45,7 +45,7 @@ none_in (Filter n) = get-empty nat_cmp n
 no_node : (client : ℕ) (nd : Node) → node_in {P = NodeBody} (get {R = nat_cmp} FinMap.empty client) nd ≡ None
 no_node client nd = ap (λ (o : Option (ClientNodes NodeBody)). node_in o nd) (get-empty nat_cmp client) ∙ none_in nd
 
-pub empty-kept : (nodes : Nodes) (rows : Rows) → nodes ≡ FinMap.empty → rows ≡ FinMap.empty → IsKept nodes rows
+pub empty-kept : (nodes : Nodes) (rows : Rows) → nodes ≡ FinMap.empty → rows ≡ FinMap.empty → AreRowsKept nodes rows
 empty-kept nodes rows e h =
     record {
       rowed = λ client. ap (λ (m : Rows). is_some (get m client)) h ∙ ap is_some (get-empty nat_cmp client) ∙ sym (ap is_some (get-empty nat_cmp client)) ∙ sym (ap (λ (m : Nodes). is_some (get m client)) e);
@@ -53,7 +53,7 @@ empty-kept nodes rows e h =
           let none : None ≡ Some n = sym (no_node client nd) ∙ ap (λ (m : Nodes). node_in (get m client) nd) (sym e) ∙ there in cc;
     }
 
-module _ (table : Nodes) (rows : Rows) (s : Roster) (kept : IsKept table rows) (view : roster table rows ≡ s) where
+module _ (table : Nodes) (rows : Rows) (s : Roster) (kept : AreRowsKept table rows) (view : roster table rows ≡ s) where
   pub get-client : (client : ℕ) → get s.clients client ≡ option_map (client_seen (row_at rows client)) (get table client)
   get-client client = ap (λ (r : Roster). get r.clients client) (sym view) ∙ get-mapped (λ k c. client_seen (row_at rows k) c) table client
 

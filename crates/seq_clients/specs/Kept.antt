@@ -52,7 +52,7 @@ roster nodes rows =
     }
 
 -- Who has nodes has a row, and each node has what is for it.
-pub record IsKept (nodes : Nodes) (rows : Rows) : Type 0 where
+pub record AreRowsKept (nodes : Nodes) (rows : Rows) : Type 0 where
   pub rowed : (client : ℕ) → is_some (FinMap.get rows client) ≡ is_some (FinMap.get nodes client)
   pub fitting : (client : ℕ) (node : Node) (n : NodeSeen NodeBody) →
       node_in (FinMap.get nodes client) node ≡ Some n → is_body_for node n.body ≡ true

@@ -5,8 +5,6 @@ use Rattle.std.specs.Coded.{Coded, code_by, coded×, coded_ℕ}
 use Rattle.std.specs.FinMap
 use Rattle.std.specs.FinMap.{FinMap}
 use Rattle.cell_pools.specs.Pools.{coded_pool}
-use Rattle.node_table.specs.declared.number.Addr.{Addr}
-use Rattle.node_table.specs.declared.number.Node.TheVariants.{Filter}
 use Rattle.seq_state.specs.State.{Client, Pool, Queue, coded_client, coded_arrival, put}
 
 -- the open clients, and their input pools
@@ -34,9 +32,9 @@ coded_roster =
 
 -- ---- what is told of a client that may be open, 0 where it is not
 
-abbrev pub in_size : Option Client → ℕ
-in_size None = 0
-in_size (Some c) = c.in_size
+abbrev pub input_size : Option Client → ℕ
+input_size None = 0
+input_size (Some c) = c.in_size
 
 -- how many messages wait in its input pool
 abbrev pub waiting : Option Pool → ℕ
@@ -57,8 +55,3 @@ NoneShared queues = (n : ℕ) (q : Queue) → FinMap.get queues n ≡ Some q →
 -- one of these is shared
 abbrev pub SomeShared : FinMap nat_cmp Queue → Type 0
 SomeShared queues = (n : ℕ) × (q : Queue) × (FinMap.get queues n ≡ Some q) × (q.shared ≡ true)
-
--- ---- addresses
-
-abbrev pub filter_addr : ℕ → ℕ → Addr
-filter_addr client filter = record { client = client; node = Filter filter }

@@ -5,8 +5,8 @@ ghost use Rattle.std.specs.FinMap.{get};
 ghost use Rattle.std.specs.Option.{option_copied, option_map};
 ghost use Rattle.seq_state.specs.Own.{has_port, has_filter, has_queue, node_caps, port_of, filter_of, queue_of, out_size};
 ghost use Rattle.seq_state.specs.State.{queues_of};
-ghost use Rattle.seq_state.specs.Step.{port_addr};
-ghost use Rattle.seq_clients.specs.Roster.{nobody, filter_addr, in_size, waiting, lost, NoneShared, SomeShared};
+ghost use Rattle.seq_state.specs.Step.{port_addr, filter_addr};
+ghost use Rattle.seq_clients.specs.Roster.{nobody, input_size, waiting, lost, NoneShared, SomeShared};
 
 use crate::body::NodeBody;
 use crate::queue::Queue;
@@ -34,11 +34,11 @@ impl Model for Clients {
 
     ghost coded = { coded_roster };
 
-    ghost use Rattle.seq_clients.specs.Kept.{roster, IsKept};
+    ghost use Rattle.seq_clients.specs.Kept.{roster, AreRowsKept};
 
     ghost view = { λ c. roster c.nodes c.rows };
 
-    ghost invariant = { λ c. IsKept c.nodes c.rows };
+    ghost invariant = { λ c. AreRowsKept c.nodes c.rows };
 }
 
 /// The address of a client's port.
@@ -88,7 +88,7 @@ impl Clients {
 
     /// How many messages the client's input pool holds, 1 to 2,000; 0 where it is not open.
     pub fn in_size(&self, client: ClientId) -> u32
-        ensures { result ≡ in_size (get self.now.clients client) }
+        ensures { result ≡ input_size (get self.now.clients client) }
     {
         match self.rows.get(client) {
             Some(row) => row.in_size,

@@ -17,13 +17,13 @@ use Rattle.seq_state.specs.Own.{with_change, put_port, put_filter, new_client}
 use Rattle.seq_state.specs.Step.{Stepped, loses, unless}
 use Rattle.seq_state.proofs.Done.{done, opens, deletes-filter, lost-with-node}
 use Rattle.seq_settle.specs.Moments.{moment_at, SameMoments}
-use Rattle.seq_settle.specs.Cells.{seen, AreCells, AreKeys}
+use Rattle.seq_settle.specs.Cells.{seen, AreCells, AreFirstKeys}
 use Rattle.seq_settle.proofs.NewKeys.{keys_stay}
 use Rattle.seq_settle.proofs.Elsewhere.{queues_same}
 use Rattle.seq_clients.specs.Roster.{Roster, with_client, with_pool}
 use Rattle.seq_commands.specs.declared.sequencer.Sequencer.{Sequencer}
 use Rattle.seq_commands.specs.declared.sequencer.Turn.{Turn}
-use Rattle.seq_commands.specs.Whole.{Keys, clients_of, state_of, Gives, GivesKept, refusal_in, step_in}
+use Rattle.seq_commands.specs.Whole.{Keys, clients_of, state_of, IsStepTaken, IsStepTakenUnkeyed, refusal_in, step_in}
 use Rattle.seq_commands.proofs.Accepted.{unless-none}
 use Rattle.seq_commands.proofs.ClientsAccepted.{accepted-open}
 
@@ -36,7 +36,7 @@ abbrev pub state_with : Sequencer → Roster → List Edge → State
 state_with s r edges = seen r.clients r.pools edges s.cells.cells s.steps
 
 pub gives : (old : Sequencer) (r : Roster) (edges : List Edge) (agenda : Keys) (step : Stepped) (reply : Reply) → step ≡ done (state_with old r edges) reply →
-    AreCells old.cells.cells old.steps → AreKeys r.clients old.cells.cells agenda → Gives old (with_roster old r edges) agenda step reply []
+    AreCells old.cells.cells old.steps → AreFirstKeys r.clients old.cells.cells agenda → IsStepTaken old (with_roster old r edges) agenda step reply []
 gives old r edges agenda step reply is are keys = record {
   state = ap (λ (x : Stepped). x.state) (sym is);
   reply_is = ap (λ (x : Stepped). x.reply) (sym is);
@@ -49,7 +49,7 @@ gives old r edges agenda step reply is are keys = record {
 
 -- where all queues give the same moments, the agenda stays
 pub gives-kept : (old : Sequencer) (r : Roster) (edges : List Edge) (step : Stepped) (reply : Reply) → step ≡ done (state_with old r edges) reply →
-    ((q : QueueAddr) → SameMoments (clients_of old) r.clients q) → GivesKept old (with_roster old r edges) step reply []
+    ((q : QueueAddr) → SameMoments (clients_of old) r.clients q) → IsStepTakenUnkeyed old (with_roster old r edges) step reply []
 gives-kept old r edges step reply is same agenda now whole =
     gives old r edges agenda step reply is whole.cells (keys_stay (clients_of old) r.clients old.cells.cells agenda (λ q c e. same c.1.queue) whole.keys)
 
@@ -67,11 +67,11 @@ module _ (old : Sequencer) (turn : Turn) (command : Command) (made r : Roster) (
       accepted-step old turn command (done (state_with old made edges) Done) (state_with old r edges) Done accepted is
       (ap (λ x. done (state_with old x edges) Done) (sym e))
 
-  pub roster-given : (agenda : Keys) → AreCells old.cells.cells old.steps → AreKeys r.clients old.cells.cells agenda → Gives old (with_roster old r edges) agenda (step_in old turn command) Done []
+  pub roster-given : (agenda : Keys) → AreCells old.cells.cells old.steps → AreFirstKeys r.clients old.cells.cells agenda → IsStepTaken old (with_roster old r edges) agenda (step_in old turn command) Done []
   roster-given agenda are keys = gives old r edges agenda (step_in old turn command) Done roster-step are keys
 
   -- their queues give the same moments
-  pub roster-kept : ((q : QueueAddr) → SameMoments (clients_of old) made.clients q) → GivesKept old (with_roster old r edges) (step_in old turn command) Done []
+  pub roster-kept : ((q : QueueAddr) → SameMoments (clients_of old) made.clients q) → IsStepTakenUnkeyed old (with_roster old r edges) (step_in old turn command) Done []
   roster-kept same =
       gives-kept old r edges (step_in old turn command) Done roster-step
       (λ q accepted due. same q accepted due ∙ ap (λ (x : Roster). moment_at x.clients q accepted due) (sym e))
@@ -84,16 +84,16 @@ has_client s actor c = done (record (state_of s) { clients = put (clients_of s) 
 
 module _ (old : Sequencer) (turn : Turn) (command : Command) (c : Option Client) (r : Roster) (accepted : refusal_in old turn command ≡ None)
     (is : step_in old turn command ≡ unless (refusal_in old turn command) (state_of old) (has_client old turn.actor c)) (e : r ≡ with_client old.patchbay.clients turn.actor c) where
-  pub client-given : (agenda : Keys) → AreCells old.cells.cells old.steps → AreKeys r.clients old.cells.cells agenda →
-      Gives old (with_roster old r old.patchbay.graph) agenda (step_in old turn command) Done []
+  pub client-given : (agenda : Keys) → AreCells old.cells.cells old.steps → AreFirstKeys r.clients old.cells.cells agenda →
+      IsStepTaken old (with_roster old r old.patchbay.graph) agenda (step_in old turn command) Done []
   client-given agenda are keys = roster-given old turn command (with_client old.patchbay.clients turn.actor c) r old.patchbay.graph accepted is e agenda are keys
 
   -- its queues give the same moments
-  pub client-kept : ((q : QueueAddr) → SameMoments (clients_of old) (put (clients_of old) turn.actor c) q) → GivesKept old (with_roster old r old.patchbay.graph) (step_in old turn command) Done []
+  pub client-kept : ((q : QueueAddr) → SameMoments (clients_of old) (put (clients_of old) turn.actor c) q) → IsStepTakenUnkeyed old (with_roster old r old.patchbay.graph) (step_in old turn command) Done []
   client-kept same = roster-kept old turn command (with_client old.patchbay.clients turn.actor c) r old.patchbay.graph accepted is e same
 
   -- its queues are as they were
-  pub nodes-kept : queues_of c ≡ queues_of (FinMap.get (clients_of old) turn.actor) → GivesKept old (with_roster old r old.patchbay.graph) (step_in old turn command) Done []
+  pub nodes-kept : queues_of c ≡ queues_of (FinMap.get (clients_of old) turn.actor) → IsStepTakenUnkeyed old (with_roster old r old.patchbay.graph) (step_in old turn command) Done []
   nodes-kept queues = client-kept (queues_same (clients_of old) turn.actor c queues)
 
 -- ---- whose queues are as they were
@@ -120,7 +120,7 @@ queues-filter n p o = queues-changed (put_filter n p) (go p) o
 
 pub opened-kept : (old : Sequencer) (turn : Turn) (name : List ℕ) (in_size out_size : ℕ) (r : Roster) → refusal_in old turn (Open name in_size out_size) ≡ None →
     r ≡ with_pool (with_client old.patchbay.clients turn.actor (Some (new_client name in_size out_size))) turn.actor (Some (empty_pool in_size)) →
-    GivesKept old (with_roster old r old.patchbay.graph) (step_in old turn (Open name in_size out_size)) Done []
+    IsStepTakenUnkeyed old (with_roster old r old.patchbay.graph) (step_in old turn (Open name in_size out_size)) Done []
 opened-kept old turn name in_size out_size r accepted e =
     let c : Option Client = Some (new_client name in_size out_size) in
     let made : Roster = with_pool (with_client old.patchbay.clients turn.actor c) turn.actor (Some (empty_pool in_size)) in
@@ -133,7 +133,7 @@ opened-kept old turn name in_size out_size r accepted e =
 pub filter-gone : (old : Sequencer) (turn : Turn) (n : ℕ) (r : Roster) (edges : List Edge) → refusal_in old turn (DeleteFilter n) ≡ None →
     r ≡ with_client old.patchbay.clients turn.actor (with_change (FinMap.get (clients_of old) turn.actor) (put_filter n None)) →
     edges ≡ filter (λ e. not (touches (record { client = turn.actor; node = Filter n }) e)) old.patchbay.graph →
-    GivesKept old (with_roster old r edges) (step_in old turn (DeleteFilter n)) Done []
+    IsStepTakenUnkeyed old (with_roster old r edges) (step_in old turn (DeleteFilter n)) Done []
 filter-gone old turn n r edges accepted e gone =
     let its : Option Client = FinMap.get (clients_of old) turn.actor in
     let made : Roster = with_client old.patchbay.clients turn.actor (with_change its (put_filter n None)) in

@@ -14,12 +14,12 @@ use Rattle.seq_state.specs.Refusals.{number_of}
 use Rattle.seq_state.specs.State.{State, Pending, start}
 use Rattle.seq_state.specs.Step.{IsRefusal, Stepped, unless, asked, refusal_of, effect_of, command_step, settle, step}
 use Rattle.seq_state.proofs.Refused.{row_tells}
-use Rattle.seq_settle.specs.Cells.{Cell, key_of, AreCells, AreKeys}
+use Rattle.seq_settle.specs.Cells.{Cell, key_of, AreCells, AreFirstKeys}
 use Rattle.seq_settle.proofs.Stores.{playbacks-later}
 use Rattle.seq_settle.proofs.Added.{later_cells}
 use Rattle.seq_commands.specs.declared.sequencer.Sequencer.{Sequencer}
 use Rattle.seq_commands.specs.declared.sequencer.Turn.{Turn}
-use Rattle.seq_commands.specs.Whole.{Keys, clients_of, state_of, IsSound, IsWhole, turn_of, refusal_in, step_in, GivesKept, Gives}
+use Rattle.seq_commands.specs.Whole.{Keys, clients_of, state_of, IsSound, IsWhole, turn_of, refusal_in, step_in, IsStepTakenUnkeyed, IsStepTaken}
 use Rattle.seq_commands.proofs.Sound.{sound-start, sound-settled, sound-done}
 
 -- ---- an input is counted
@@ -66,7 +66,7 @@ accepted-tells s t command are e h =
 
 -- what it leaves holds between inputs
 pub given-whole : (old new : Sequencer) (t : Turn) (command : Command) (agenda agenda' : Keys) (reply : Reply) (sent : List Delivery) → IsWhole old agenda t.moment →
-    Gives old new agenda' (step_in old t command) reply sent → IsWhole new agenda' t.moment
+    IsStepTaken old new agenda' (step_in old t command) reply sent → IsWhole new agenda' t.moment
 given-whole old new t command agenda agenda' reply sent w g = record {
   files = ap (λ fs. list_all has_ticks fs) g.files ∙ w.files;
   cells = g.cells;
@@ -77,7 +77,7 @@ given-whole old new t command agenda agenda' reply sent w g = record {
 -- ---- settling
 
 pub settled-whole : (old new : Sequencer) (agenda agenda' : Keys) (now m : ℕ) → now ≤ m → IsWhole old agenda now → state_of new ≡ (settle (state_of old) m).state → new.files ≡ old.files →
-    AreCells new.cells.cells new.steps → AreKeys (clients_of new) new.cells.cells agenda' → IsWhole new agenda' m
+    AreCells new.cells.cells new.steps → AreFirstKeys (clients_of new) new.cells.cells agenda' → IsWhole new agenda' m
 settled-whole old new agenda agenda' now m later w state files cells keys = record {
   files = ap (λ fs. list_all has_ticks fs) files ∙ w.files;
   cells = cells;
@@ -95,20 +95,20 @@ settled-step old mid i state files =
 
 -- with what it adds to what was sent
 abbrev pub GivesAll : Sequencer → Sequencer → Keys → Stepped → Reply → List Delivery → List Delivery → Type 0
-GivesAll old new keys step reply was now = (ds : List Delivery) × (now ≡ was ++ ds) × Gives old new keys step reply ds
+GivesAll old new keys step reply was now = (ds : List Delivery) × (now ≡ was ++ ds) × IsStepTaken old new keys step reply ds
 
 module _ (old : Sequencer) (t : Turn) (keys : Keys) (command : Command) (out : List Delivery) where
   -- a command that sends nothing
-  pub quiet-given : (x : Command) (new : Sequencer) (reply : Reply) → command ≡ x → {keys' : Keys} → Gives old new keys' (step_in old t x) reply [] → GivesAll old new keys' (step_in old t command) reply out out
-  quiet-given x new reply e {keys' = k} g = ([], sym (append-nil out), subst (λ c. Gives old new k (step_in old t c) reply []) (sym e) g)
+  pub quiet-given : (x : Command) (new : Sequencer) (reply : Reply) → command ≡ x → {keys' : Keys} → IsStepTaken old new keys' (step_in old t x) reply [] → GivesAll old new keys' (step_in old t command) reply out out
+  quiet-given x new reply e {keys' = k} g = ([], sym (append-nil out), subst (λ c. IsStepTaken old new k (step_in old t c) reply []) (sym e) g)
 
-  pub quiet-kept : (x : Command) (new : Sequencer) (reply : Reply) → command ≡ x → IsWhole old keys t.moment → GivesKept old new (step_in old t x) reply [] → GivesAll old new keys (step_in old t command) reply out out
+  pub quiet-kept : (x : Command) (new : Sequencer) (reply : Reply) → command ≡ x → IsWhole old keys t.moment → IsStepTakenUnkeyed old new (step_in old t x) reply [] → GivesAll old new keys (step_in old t command) reply out out
   quiet-kept x new reply e w g = quiet-given x new reply e (g keys t.moment w)
 
   -- one that sends
-  pub sent-given : (x : Command) (new : Sequencer) (reply : Reply) (now : List Delivery) → command ≡ x → IsWhole old keys t.moment → GivesKept old new (step_in old t x) reply (step_in old t x).delivered →
+  pub sent-given : (x : Command) (new : Sequencer) (reply : Reply) (now : List Delivery) → command ≡ x → IsWhole old keys t.moment → IsStepTakenUnkeyed old new (step_in old t x) reply (step_in old t x).delivered →
       now ≡ out ++ (step_in old t x).delivered → GivesAll old new keys (step_in old t command) reply out now
-  sent-given x new reply now e w g s = ((step_in old t x).delivered, s, subst (λ c. Gives old new keys (step_in old t c) reply (step_in old t x).delivered) (sym e) (g keys t.moment w))
+  sent-given x new reply now e w g s = ((step_in old t x).delivered, s, subst (λ c. IsStepTaken old new keys (step_in old t c) reply (step_in old t x).delivered) (sym e) (g keys t.moment w))
 
 -- ---- at first
 

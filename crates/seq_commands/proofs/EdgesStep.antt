@@ -16,20 +16,20 @@ use Rattle.seq_state.specs.Table.{Condition, first_refusal, command_row, connect
 use Rattle.seq_state.specs.Step.{Stepped, row_of, refusal_of}
 use Rattle.seq_state.proofs.Done.{done}
 use Rattle.seq_state.proofs.Effects.{patched, step-connects, step-parts}
-use Rattle.seq_settle.specs.Cells.{AreKeys}
+use Rattle.seq_settle.specs.Cells.{AreFirstKeys}
 use Rattle.seq_commands.specs.declared.sequencer.Sequencer.{Sequencer}
 use Rattle.seq_commands.specs.declared.sequencer.Turn.{Turn}
-use Rattle.seq_commands.specs.Whole.{clients_of, state_of, refusal_in, step_in, GivesKept}
+use Rattle.seq_commands.specs.Whole.{clients_of, state_of, refusal_in, step_in, IsStepTakenUnkeyed}
 use Rattle.seq_commands.proofs.Accepted.{none-holds, unless-none}
 
 -- a step that changes the pools and the subscriptions alone
-pub kept-gives : (old : Sequencer) (p : Patchbay) (step : Stepped) (reply : Reply) → p.clients.clients ≡ clients_of old → step ≡ done (state_of (record old { patchbay = p })) reply → GivesKept old (record old { patchbay = p }) step reply []
+pub kept-gives : (old : Sequencer) (p : Patchbay) (step : Stepped) (reply : Reply) → p.clients.clients ≡ clients_of old → step ≡ done (state_of (record old { patchbay = p })) reply → IsStepTakenUnkeyed old (record old { patchbay = p }) step reply []
 kept-gives old p step reply same is agenda now whole = record {
   state = sym (ap (λ (x : Stepped). x.state) is);
   reply_is = sym (ap (λ (x : Stepped). x.reply) is);
   sent_is = sym (ap (λ (x : Stepped). x.delivered) is);
   cells = whole.cells;
-  keys = subst (λ m. AreKeys m old.cells.cells agenda) (sym same) whole.keys;
+  keys = subst (λ m. AreFirstKeys m old.cells.cells agenda) (sym same) whole.keys;
   files = refl;
   steps = refl;
 }
@@ -66,14 +66,14 @@ connects-clear files s moment actor source target e = none-at (row_of files s mo
 -- ---- subscriptions
 
 pub connect-gives : (old : Sequencer) (turn : Turn) (source target : Addr) (graph : List Edge) → refusal_in old turn (Connect source target) ≡ None → graph ≡ old.patchbay.graph ++ edge source target ∷ [] →
-    GivesKept old (record old { patchbay = record old.patchbay { graph = graph } }) (step_in old turn (Connect source target)) Done []
+    IsStepTakenUnkeyed old (record old { patchbay = record old.patchbay { graph = graph } }) (step_in old turn (Connect source target)) Done []
 connect-gives old turn source target graph e is =
     kept-gives old (record old.patchbay { graph = graph }) _ Done refl
     (step-connects old.files (state_of old) turn.moment turn.actor source target ∙ unless-none _ (state_of old) (patched (state_of old) (connected source target)) e
     ∙ ap (λ x. done (record (state_of old) { edges = x }) Done) (sym is))
 
 pub disconnect-gives : (old : Sequencer) (turn : Turn) (source target : Addr) (graph : List Edge) → refusal_in old turn (Disconnect source target) ≡ None → graph ≡ without_edge old.patchbay.graph source target →
-    GivesKept old (record old { patchbay = record old.patchbay { graph = graph } }) (step_in old turn (Disconnect source target)) Done []
+    IsStepTakenUnkeyed old (record old { patchbay = record old.patchbay { graph = graph } }) (step_in old turn (Disconnect source target)) Done []
 disconnect-gives old turn source target graph e is =
     kept-gives old (record old.patchbay { graph = graph }) _ Done refl
     (step-parts old.files (state_of old) turn.moment turn.actor source target ∙ unless-none _ (state_of old) (patched (state_of old) (disconnected source target)) e

@@ -21,15 +21,15 @@ use Rattle.seq_state.specs.Table.{command_row, visible}
 use Rattle.seq_state.specs.Step.{Stepped, is_left, row_of, used}
 use Rattle.seq_state.proofs.Done.{done, plays, schedules}
 use Rattle.tempo_clock.specs.declared.due.Due.{Due}
-use Rattle.seq_settle.specs.Cells.{AreCells, AreKeys, Left, are_in_order, due_le, playbacks}
-use Rattle.seq_settle.specs.Events.{event_of}
+use Rattle.seq_settle.specs.Cells.{AreCells, AreFirstKeys, Left, are_in_order, due_le, playbacks}
+use Rattle.seq_settle.specs.Events.{file_event}
 use Rattle.seq_settle.specs.Moments.{queue_at}
 use Rattle.seq_settle.proofs.Counting.{used_is}
 use Rattle.seq_settle.proofs.Stores.{playbacks-later}
 use Rattle.seq_commands.specs.declared.sequencer.Sequencer.{Sequencer}
 use Rattle.seq_commands.specs.declared.sequencer.Turn.{Turn}
 use Rattle.seq_commands.specs.Added.{added, playing}
-use Rattle.seq_commands.specs.Whole.{Keys, clients_of, state_of, refusal_in, step_in, IsWhole, Gives}
+use Rattle.seq_commands.specs.Whole.{Keys, clients_of, state_of, refusal_in, step_in, IsWhole, IsStepTaken}
 use Rattle.seq_commands.proofs.Accepted.{unless-none}
 use Rattle.seq_commands.proofs.EdgesStep.{none-at}
 use Rattle.seq_commands.proofs.PlaybacksGone.{gone-gives, with_pending}
@@ -49,8 +49,8 @@ room-left old agenda now actor size cells whole apart is set =
 
 -- the step of a new playback, or of none where there is no event
 pub added-gives : (old : Sequencer) (turn : Turn) (rank : ℕ) (queue : QueueAddr) (port : ℕ) (events : List Event) (cells : Store Left) (agenda : Keys) → old.steps ≡ rank + 1 → AreCells old.cells.cells rank →
-    playbacks cells.cells (rank + 1) ≡ playbacks old.cells.cells rank ++ filter is_left (playing turn queue port events ∷ []) → AreCells cells.cells (rank + 1) → AreKeys (clients_of old) cells.cells agenda →
-    Gives old (record old { cells = cells }) agenda (added old turn queue port events) Done []
+    playbacks cells.cells (rank + 1) ≡ playbacks old.cells.cells rank ++ filter is_left (playing turn queue port events ∷ []) → AreCells cells.cells (rank + 1) → AreFirstKeys (clients_of old) cells.cells agenda →
+    IsStepTaken old (record old { cells = cells }) agenda (added old turn queue port events) Done []
 added-gives old turn rank queue port events cells agenda counted fresh more are keys =
     let new : List Pending = filter is_left (playing turn queue port events ∷ []) in
     let listed : playbacks old.cells.cells old.steps ++ new ≡ playbacks cells.cells old.steps =
@@ -112,17 +112,17 @@ module _ (old : Sequencer) (turn : Turn) (queue : QueueAddr) (port : ℕ) where
     unfolding command_row
     play-room = apart-if _ _ (none-at (row_of old.files (state_of old) turn.moment turn.actor (Play queue port file)).conditions e 6)
 
-    pub play-step : (f : File) (events : List Event) → file_at old.files file ≡ Some f → events ≡ map event_of f.events → added old turn queue port events ≡ step_in old turn (Play queue port file)
+    pub play-step : (f : File) (events : List Event) → file_at old.files file ≡ Some f → events ≡ map file_event f.events → added old turn queue port events ≡ step_in old turn (Play queue port file)
     play-step f events at are =
         let s : State = state_of old in
         let to : List Event → Stepped = added old turn queue port in
         sym (plays old.files s turn.moment turn.actor queue port file ∙ unless-none _ s (to (file_events (file_at old.files file))) e ∙ ap (λ o. to (file_events o)) at ∙ ap to (sym are))
 
 -- the events of a file that plays in order are in order
-pub in-order : (es : List files.Event) → are_in_order (map event_of es) ≡ ticks_rise es
+pub in-order : (es : List files.Event) → are_in_order (map file_event es) ≡ ticks_rise es
 in-order [] = refl
 in-order (e ∷ es) =
-    ap (λ b. b && are_in_order (map event_of es)) (list_all-map (λ x. due_le (event_of e).due x.due) event_of es) ∙ ap (λ b. list_all (λ x. nat_le e.tick x.tick) es && b) (in-order es)
+    ap (λ b. b && are_in_order (map file_event es)) (list_all-map (λ x. due_le (file_event e).due x.due) file_event es) ∙ ap (λ b. list_all (λ x. nat_le e.tick x.tick) es && b) (in-order es)
 
 -- three facts of what succeeds
 pub on-ok-three : {T E P Q R S : Type 0} (r : Result T E) → (P → Q → R → S) → OnOk r P → OnOk r Q → OnOk r R → OnOk r S

@@ -21,14 +21,14 @@ use Rattle.seq_state.specs.Table.{command_row}
 use Rattle.seq_state.specs.Step.{Stepped, row_of, loses}
 use Rattle.seq_state.proofs.Done.{done, closes, deletes-port, deletes-queue, drops-output, lost-with-client, lost-with-node}
 use Rattle.seq_settle.specs.declared.which.Which.TheVariants.{OfPort, OnQueue, All, AllAndOnQueues}
-use Rattle.seq_settle.specs.Cells.{Cell, Left, AreCells, AreKeys, pending_in, playbacks}
+use Rattle.seq_settle.specs.Cells.{Cell, Left, AreCells, AreFirstKeys, pending_in, playbacks}
 use Rattle.seq_settle.specs.Drops.{stays}
 use Rattle.seq_settle.specs.Moments.{SameMoments, queue_at}
 use Rattle.seq_settle.proofs.Elsewhere.{but_one, of_others, off_queue, off_queues, queues_same}
 use Rattle.seq_settle.proofs.NewKeys.{keys_stay}
 use Rattle.seq_commands.specs.declared.sequencer.Sequencer.{Sequencer}
 use Rattle.seq_commands.specs.declared.sequencer.Turn.{Turn}
-use Rattle.seq_commands.specs.Whole.{Keys, clients_of, is_usable, state_of, refusal_in, step_in, Gives}
+use Rattle.seq_commands.specs.Whole.{Keys, clients_of, is_usable, state_of, refusal_in, step_in, IsStepTaken}
 use Rattle.seq_commands.proofs.Accepted.{unless-none}
 use Rattle.seq_commands.proofs.Each.{private-alone}
 use Rattle.seq_commands.proofs.EdgesStep.{none-at}
@@ -95,7 +95,7 @@ queue-mine old turn queue e =
 
 -- a step that changes the clients, the subscriptions and what is still to be sent
 pub gone-gives : (old : Sequencer) (p : Patchbay) (cells : Store Left) (agenda : Keys) (step : Stepped) → step ≡ done (state_of (record old { patchbay = p; cells = cells })) Done →
-    AreCells cells.cells old.steps → AreKeys p.clients.clients cells.cells agenda → Gives old (record old { patchbay = p; cells = cells }) agenda step Done []
+    AreCells cells.cells old.steps → AreFirstKeys p.clients.clients cells.cells agenda → IsStepTaken old (record old { patchbay = p; cells = cells }) agenda step Done []
 gone-gives old p cells agenda step is are keys = record {
   state = sym (ap (λ (x : Stepped). x.state) is);
   reply_is = sym (ap (λ (x : Stepped). x.reply) is);
@@ -110,56 +110,56 @@ abbrev pub with_pending : State → List Pending → State
 with_pending s ps = record s { pending = ps }
 
 module _ (old : Sequencer) (turn : Turn) (cells : Store Left) (agenda : Keys) (are : AreCells cells.cells old.steps) where
-  pub drop-gives : refusal_in old turn DropOutput ≡ None → playbacks cells.cells old.steps ≡ filter (stays turn.actor All) (playbacks old.cells.cells old.steps) → AreKeys (clients_of old) cells.cells agenda →
-      Gives old (record old { cells = cells }) agenda (step_in old turn DropOutput) Done []
+  pub drop-gives : refusal_in old turn DropOutput ≡ None → playbacks cells.cells old.steps ≡ filter (stays turn.actor All) (playbacks old.cells.cells old.steps) → AreFirstKeys (clients_of old) cells.cells agenda →
+      IsStepTaken old (record old { cells = cells }) agenda (step_in old turn DropOutput) Done []
   drop-gives e left keys =
       let s : State = state_of old in
       gone-gives old old.patchbay cells agenda _
       (drops-output old.files s turn.moment turn.actor ∙ unless-none _ s (done (with_pending s (filter (stays turn.actor All) s.pending)) Done) e ∙ ap (λ x. done (with_pending s x) Done) (sym left)) are keys
 
   pub port-gives : (port : ℕ) (clients : Roster) (graph : List Edge) → refusal_in old turn (DeletePort port) ≡ None → playbacks cells.cells old.steps ≡ filter (stays turn.actor (OfPort port)) (playbacks old.cells.cells old.steps) →
-      AreKeys (clients_of old) cells.cells agenda → graph ≡ filter (λ e. not (touches (record { client = turn.actor; node = Port port }) e)) old.patchbay.graph →
+      AreFirstKeys (clients_of old) cells.cells agenda → graph ≡ filter (λ e. not (touches (record { client = turn.actor; node = Port port }) e)) old.patchbay.graph →
       clients ≡ with_client old.patchbay.clients turn.actor (with_change (FinMap.get (clients_of old) turn.actor) (put_port port None)) →
-      Gives old (record old { patchbay = record { clients = clients; graph = graph }; cells = cells }) agenda (step_in old turn (DeletePort port)) Done []
+      IsStepTaken old (record old { patchbay = record { clients = clients; graph = graph }; cells = cells }) agenda (step_in old turn (DeletePort port)) Done []
   port-gives port clients graph e left keys edges own =
       let s : State = state_of old in
       let then : FinMap nat_cmp Client = put s.clients turn.actor (with_change (FinMap.get s.clients turn.actor) (put_port port None)) in
       let to : FinMap nat_cmp Client → List Edge → List Pending → Stepped = λ m es ps. done (record s { clients = m; edges = es; pending = ps }) Done in
-      let same : AreKeys then cells.cells agenda = keys_stay s.clients then cells.cells agenda (λ q c at. port-moments s.clients turn.actor port c.1.queue) keys in
+      let same : AreFirstKeys then cells.cells agenda = keys_stay s.clients then cells.cells agenda (λ q c at. port-moments s.clients turn.actor port c.1.queue) keys in
       gone-gives old (record { clients = clients; graph = graph }) cells agenda _
       (deletes-port old.files s turn.moment turn.actor port ∙ unless-none _ s (to then (filter (λ x. not (loses turn.actor (same_node (Port port)) x)) s.edges) (filter (stays turn.actor (OfPort port)) s.pending)) e
       ∙ ap (λ x. to then x (filter (stays turn.actor (OfPort port)) s.pending)) (lost-with-node turn.actor (Port port) s.edges ∙ sym edges)
       ∙ ap (to then graph) (sym left)
       ∙ ap (λ (r : Roster). done (record s { clients = r.clients; pools = r.pools; edges = graph; pending = playbacks cells.cells old.steps }) Done) (sym own))
-      are (subst (λ (r : Roster). AreKeys r.clients cells.cells agenda) (sym own) same)
+      are (subst (λ (r : Roster). AreFirstKeys r.clients cells.cells agenda) (sym own) same)
 
   pub queue-gives : (queue : QueueAddr) (clients : Roster) → refusal_in old turn (DeleteQueue queue) ≡ None → playbacks cells.cells old.steps ≡ filter (stays turn.actor (OnQueue queue.queue)) (playbacks old.cells.cells old.steps) →
-      AreKeys (clients_of old) cells.cells agenda → ((q : ℕ) (c : Cell) → FinMap.get cells.cells q ≡ Some c → stays turn.actor (OnQueue queue.queue) (pending_in c) ≡ true) →
+      AreFirstKeys (clients_of old) cells.cells agenda → ((q : ℕ) (c : Cell) → FinMap.get cells.cells q ≡ Some c → stays turn.actor (OnQueue queue.queue) (pending_in c) ≡ true) →
       clients ≡ with_client old.patchbay.clients turn.actor (with_change (FinMap.get (clients_of old) turn.actor) (put_queue queue.queue None)) →
-      Gives old (record old { patchbay = record old.patchbay { clients = clients }; cells = cells }) agenda (step_in old turn (DeleteQueue queue)) Done []
+      IsStepTaken old (record old { patchbay = record old.patchbay { clients = clients }; cells = cells }) agenda (step_in old turn (DeleteQueue queue)) Done []
   queue-gives queue clients e left keys on own =
       let s : State = state_of old in
       let then : FinMap nat_cmp Client = put s.clients turn.actor (with_change (FinMap.get s.clients turn.actor) (put_queue queue.queue None)) in
       let to : FinMap nat_cmp Client → List Pending → Stepped = λ m ps. done (record s { clients = m; pending = ps }) Done in
-      let same : AreKeys then cells.cells agenda = keys_stay s.clients then cells.cells agenda (λ q c at. queue-moments s.clients turn.actor queue.queue c.1.queue (off_queue turn.actor queue.queue (pending_in c) (on q c at))) keys in
+      let same : AreFirstKeys then cells.cells agenda = keys_stay s.clients then cells.cells agenda (λ q c at. queue-moments s.clients turn.actor queue.queue c.1.queue (off_queue turn.actor queue.queue (pending_in c) (on q c at))) keys in
       gone-gives old (record old.patchbay { clients = clients }) cells agenda _
       (deletes-queue old.files s turn.moment turn.actor queue ∙ unless-none _ s (to then (filter (stays turn.actor (OnQueue queue.queue)) s.pending)) e
       ∙ ap (to then) (sym left)
       ∙ ap (λ (r : Roster). done (record s { clients = r.clients; pools = r.pools; pending = playbacks cells.cells old.steps }) Done) (sym own))
-      are (subst (λ (r : Roster). AreKeys r.clients cells.cells agenda) (sym own) same)
+      are (subst (λ (r : Roster). AreFirstKeys r.clients cells.cells agenda) (sym own) same)
 
   pub close-gives : (clients : Roster) (graph : List Edge) → refusal_in old turn Close ≡ None → playbacks cells.cells old.steps ≡ filter (stays turn.actor AllAndOnQueues) (playbacks old.cells.cells old.steps) →
-      AreKeys (clients_of old) cells.cells agenda → ((q : ℕ) (c : Cell) → FinMap.get cells.cells q ≡ Some c → stays turn.actor AllAndOnQueues (pending_in c) ≡ true) →
+      AreFirstKeys (clients_of old) cells.cells agenda → ((q : ℕ) (c : Cell) → FinMap.get cells.cells q ≡ Some c → stays turn.actor AllAndOnQueues (pending_in c) ≡ true) →
       graph ≡ filter (λ e. not (touches_client turn.actor e)) old.patchbay.graph → clients ≡ with_pool (with_client old.patchbay.clients turn.actor None) turn.actor None →
-      Gives old (record old { patchbay = record { clients = clients; graph = graph }; cells = cells }) agenda (step_in old turn Close) Done []
+      IsStepTaken old (record old { patchbay = record { clients = clients; graph = graph }; cells = cells }) agenda (step_in old turn Close) Done []
   close-gives clients graph e left keys on edges own =
       let s : State = state_of old in
       let then : FinMap nat_cmp Client = put s.clients turn.actor None in
       let to : List Edge → List Pending → Stepped = λ es ps. done (record { clients = then; pools = put s.pools turn.actor None; edges = es; pending = ps }) Done in
-      let same : AreKeys then cells.cells agenda = keys_stay s.clients then cells.cells agenda (λ q c at. of_others s.clients turn.actor None c.1.queue (off_queues turn.actor (pending_in c) (on q c at))) keys in
+      let same : AreFirstKeys then cells.cells agenda = keys_stay s.clients then cells.cells agenda (λ q c at. of_others s.clients turn.actor None c.1.queue (off_queues turn.actor (pending_in c) (on q c at))) keys in
       gone-gives old (record { clients = clients; graph = graph }) cells agenda _
       (closes old.files s turn.moment turn.actor ∙ unless-none _ s (to (filter (λ x. not (loses turn.actor (λ n. true) x)) s.edges) (filter (stays turn.actor AllAndOnQueues) s.pending)) e
       ∙ ap (λ x. to x (filter (stays turn.actor AllAndOnQueues) s.pending)) (lost-with-client turn.actor s.edges ∙ sym edges)
       ∙ ap (to graph) (sym left)
       ∙ ap (λ (r : Roster). done (record { clients = r.clients; pools = r.pools; edges = graph; pending = playbacks cells.cells old.steps }) Done) (sym own))
-      are (subst (λ (r : Roster). AreKeys r.clients cells.cells agenda) (sym own) same)
+      are (subst (λ (r : Roster). AreFirstKeys r.clients cells.cells agenda) (sym own) same)

@@ -15,13 +15,13 @@ use Rattle.seq_settle.specs.Cells.{AreCells}
 use Rattle.seq_settle.proofs.Counting.{used_is}
 use Rattle.seq_commands.specs.declared.sequencer.Sequencer.{Sequencer}
 use Rattle.seq_commands.specs.declared.sequencer.Turn.{Turn}
-use Rattle.seq_commands.specs.Whole.{state_of, refusal_in, step_in, GivesKept}
+use Rattle.seq_commands.specs.Whole.{state_of, refusal_in, step_in, IsStepTakenUnkeyed}
 use Rattle.seq_commands.proofs.Accepted.{unless-none}
 use Rattle.seq_commands.proofs.EdgesStep.{kept-gives}
 
 pub receive-gives : (old : Sequencer) (turn : Turn) (max : ℕ) (items : List Arrival) (clients : Roster) → refusal_in old turn (Receive max) ≡ None →
     items ≡ oldest max (FinMap.get old.patchbay.clients.pools turn.actor) → clients ≡ with_pool old.patchbay.clients turn.actor (without_oldest max (FinMap.get old.patchbay.clients.pools turn.actor)) →
-    GivesKept old (record old { patchbay = record old.patchbay { clients = clients } }) (step_in old turn (Receive max)) (Received items) []
+    IsStepTakenUnkeyed old (record old { patchbay = record old.patchbay { clients = clients } }) (step_in old turn (Receive max)) (Received items) []
 receive-gives old turn max items clients e told left =
     let s : State = state_of old in
     let o : Option Pool = FinMap.get s.pools turn.actor in
@@ -37,7 +37,7 @@ told (Some p) n = refl
 
 pub status-gives : (old : Sequencer) (turn : Turn) (w l n : ℕ) → refusal_in old turn PoolStatus ≡ None → AreCells old.cells.cells old.steps →
     w ≡ waiting (FinMap.get old.patchbay.clients.pools turn.actor) → l ≡ lost (FinMap.get old.patchbay.clients.pools turn.actor) → n ≡ used_by old.cells.cells turn.actor →
-    GivesKept old old (step_in old turn PoolStatus) (Pools w l n) []
+    IsStepTakenUnkeyed old old (step_in old turn PoolStatus) (Pools w l n) []
 status-gives old turn w l n e are is_waiting is_lost is_used =
     let s : State = state_of old in
     let o : Option Pool = FinMap.get s.pools turn.actor in

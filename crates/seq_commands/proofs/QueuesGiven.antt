@@ -23,14 +23,14 @@ use Rattle.seq_state.specs.Own.{with_change, put_queue, queue_of, queue_is, queu
 use Rattle.seq_state.specs.Step.{moment_in, named_queue}
 use Rattle.seq_state.proofs.Done.{done, tells-queue}
 use Rattle.seq_settle.specs.Moments.{queue_at, moment_at, SameMoments}
-use Rattle.seq_settle.specs.Cells.{Cell, AreKeys}
+use Rattle.seq_settle.specs.Cells.{Cell, AreFirstKeys}
 use Rattle.seq_settle.specs.Rekeyed.{OthersSame}
 use Rattle.seq_settle.proofs.Elsewhere.{queues_same, but_one, of_others}
 use Rattle.seq_settle.proofs.Stores.{get-put_here}
 use Rattle.seq_clients.specs.Roster.{Roster, with_client}
 use Rattle.seq_commands.specs.declared.sequencer.Sequencer.{Sequencer}
 use Rattle.seq_commands.specs.declared.sequencer.Turn.{Turn}
-use Rattle.seq_commands.specs.Whole.{Keys, clients_of, state_of, GivesKept, IsWhole, refusal_in, step_in}
+use Rattle.seq_commands.specs.Whole.{Keys, clients_of, state_of, IsStepTakenUnkeyed, IsWhole, refusal_in, step_in}
 use Rattle.seq_commands.proofs.ClientsGiven.{accepted-step, gives-kept}
 use Rattle.seq_commands.proofs.Each.{private-alone}
 use Rattle.seq_commands.proofs.QueuesAccepted.{accepted-status}
@@ -50,8 +50,8 @@ others-same clients actor queue f own other apart = go (FinMap.get clients actor
 
 -- the keys are those by the clients as they were
 pub keys-before : (old : Sequencer) (actor : ℕ) (queue : QueueAddr) (f : Queue → Queue) (r : Roster) (agenda : Keys) → queue.client ≡ actor →
-    r ≡ with_client old.patchbay.clients actor (queue_changed (FinMap.get (clients_of old) actor) queue.queue f) → AreKeys (clients_of old) old.cells.cells agenda →
-    (was : FinMap nat_cmp Client) × OthersSame was r.clients queue × AreKeys was old.cells.cells agenda
+    r ≡ with_client old.patchbay.clients actor (queue_changed (FinMap.get (clients_of old) actor) queue.queue f) → AreFirstKeys (clients_of old) old.cells.cells agenda →
+    (was : FinMap nat_cmp Client) × OthersSame was r.clients queue × AreFirstKeys was old.cells.cells agenda
 keys-before old actor queue f r agenda own e keys =
     (clients_of old, λ other apart accepted due. others-same (clients_of old) actor queue f own other apart accepted due ∙ ap (λ (x : Roster). moment_at x.clients other accepted due) (sym e), keys)
 
@@ -114,7 +114,7 @@ status-told moment x k running tick nanos is a b d =
     ∙ ap (λ y. replies.Queue running y (elapsed k moment)) (sym b) ∙ ap (replies.Queue running tick) (sym d)
 
 pub status-given : (old : Sequencer) (turn : Turn) (q : QueueAddr) (x : Queue) (reply : Reply) → refusal_in old turn (QueueStatus q) ≡ None → queue_at (clients_of old) q ≡ Some x →
-    queue_status turn.moment (Some x) ≡ reply → GivesKept old old (step_in old turn (QueueStatus q)) reply []
+    queue_status turn.moment (Some x) ≡ reply → IsStepTakenUnkeyed old old (step_in old turn (QueueStatus q)) reply []
 status-given old turn q x reply accepted here told =
     let named : named_queue (clients_of old) turn.actor (Some q) ≡ Some x = (accepted-status old.files (state_of old) turn.moment turn.actor q accepted).1 ∙ here in
     gives-kept old old.patchbay.clients old.patchbay.graph (step_in old turn (QueueStatus q)) reply

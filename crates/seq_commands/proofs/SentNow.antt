@@ -33,7 +33,7 @@ use Rattle.seq_settle.proofs.Elsewhere.{queues_same}
 use Rattle.seq_patchbay.specs.Carrying.{copies_of_all}
 use Rattle.seq_commands.specs.declared.sequencer.Sequencer.{Sequencer}
 use Rattle.seq_commands.specs.declared.sequencer.Turn.{Turn}
-use Rattle.seq_commands.specs.Whole.{clients_of, state_of, refusal_in, step_in, GivesKept}
+use Rattle.seq_commands.specs.Whole.{clients_of, state_of, refusal_in, step_in, IsStepTakenUnkeyed}
 use Rattle.seq_commands.proofs.Accepted.{unless-none}
 use Rattle.seq_commands.proofs.ClientsGiven.{queues-port}
 
@@ -140,7 +140,7 @@ sent_from s cs ds reply = stepped (sent (record (state_of s) { clients = cs }) d
 
 pub sent-kept : (old : Sequencer) (r : Roster) (edges : List Edge) (step : Stepped) (cs : FinMap nat_cmp Client) (ds : List Delivery) (reply : Reply) → step ≡ sent_from old cs ds reply →
     r.clients ≡ cs → r.pools ≡ offered old.patchbay.clients.pools ds → edges ≡ old.patchbay.graph → ((q : QueueAddr) → SameMoments (clients_of old) cs q) →
-    GivesKept old (record old { patchbay = record { clients = r; graph = edges } }) step reply step.delivered
+    IsStepTakenUnkeyed old (record old { patchbay = record { clients = r; graph = edges } }) step reply step.delivered
 sent-kept old r edges step cs ds reply is clients pools graph same agenda now whole = record {
   state = ap (λ x. seen x r.pools edges old.cells.cells old.steps) clients ∙ ap (λ x. seen cs x edges old.cells.cells old.steps) pools
       ∙ ap (λ x. seen cs (offered old.patchbay.clients.pools ds) x old.cells.cells old.steps) graph ∙ ap (λ (x : Stepped). x.state) (sym is);
@@ -156,7 +156,7 @@ pub bytes-kept : (old : Sequencer) (turn : Turn) (port : ℕ) (bytes : List ℕ)
     fed ≡ with_client old.patchbay.clients turn.actor (with_change (FinMap.get (clients_of old) turn.actor) (put_port port (port_fed bytes (port_of (FinMap.get (clients_of old) turn.actor) port)))) →
     messages ≡ fed_messages old turn port bytes → count ≡ length (fed_messages old turn port bytes) →
     r.clients ≡ fed.clients → edges ≡ old.patchbay.graph → r.pools ≡ offered fed.pools (copies_of_all fed.clients old.patchbay.graph turn.moment turn.actor port messages) →
-    GivesKept old (record old { patchbay = record { clients = r; graph = edges } }) (step_in old turn (Bytes port bytes)) (Messages count) (step_in old turn (Bytes port bytes)).delivered
+    IsStepTakenUnkeyed old (record old { patchbay = record { clients = r; graph = edges } }) (step_in old turn (Bytes port bytes)) (Messages count) (step_in old turn (Bytes port bytes)).delivered
 bytes-kept old turn port bytes fed r edges messages count accepted is told number clients graph pools =
     let its : Option Client = FinMap.get (clients_of old) turn.actor in
     let after : Option Client = with_change its (put_port port (port_fed bytes (port_of its port))) in
@@ -180,7 +180,7 @@ bytes-sent old turn port bytes fed messages accepted is told =
 
 pub send-kept : (old : Sequencer) (turn : Turn) (port : ℕ) (message : List ℕ) (r : Roster) (edges : List Edge) → refusal_in old turn (Send port message) ≡ None →
     r.clients ≡ clients_of old → edges ≡ old.patchbay.graph → r.pools ≡ offered old.patchbay.clients.pools (sent_copies old turn port message) →
-    GivesKept old (record old { patchbay = record { clients = r; graph = edges } }) (step_in old turn (Send port message)) Done (step_in old turn (Send port message)).delivered
+    IsStepTakenUnkeyed old (record old { patchbay = record { clients = r; graph = edges } }) (step_in old turn (Send port message)) Done (step_in old turn (Send port message)).delivered
 send-kept old turn port message r edges accepted clients graph pools =
     sent-kept old r edges (step_in old turn (Send port message)) (clients_of old) (sent_copies old turn port message) Done
     (send-step old turn port message accepted) clients pools graph (λ q accepted due. refl)

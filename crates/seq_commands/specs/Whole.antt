@@ -15,7 +15,7 @@ use Rattle.seq_state.specs.Step as steps
 use Rattle.seq_state.specs.Step.{Stepped, refusal_of, step}
 use Rattle.seq_state.specs.Laws.{has_ticks, Ready, Bounded}
 use Rattle.seq_settle.specs.Moments.{queue_at}
-use Rattle.seq_settle.specs.Cells.{seen, AreCells, AreKeys}
+use Rattle.seq_settle.specs.Cells.{seen, AreCells, AreFirstKeys}
 use Rattle.seq_commands.specs.declared.sequencer.Sequencer.{Sequencer}
 use Rattle.seq_commands.specs.declared.sequencer.Turn.{Turn}
 
@@ -49,7 +49,7 @@ pub record IsSound (s : State) (now : ℕ) : Type 0 where
 pub record IsWhole (s : Sequencer) (agenda : Keys) (now : ℕ) : Type 0 where
   pub files : list_all has_ticks s.files ≡ true
   pub cells : AreCells s.cells.cells s.steps
-  pub keys : AreKeys (clients_of s) s.cells.cells agenda
+  pub keys : AreFirstKeys (clients_of s) s.cells.cells agenda
   pub sound : IsSound (state_of s) now
 
 -- ---- what a command does
@@ -67,25 +67,25 @@ abbrev pub turn_of : Input → Turn
 turn_of i = record { moment = i.moment; actor = i.actor }
 
 -- the plain step of an input's command, where what was due by then is sent
-abbrev pub command_step : Sequencer → Input → Stepped
-command_step s i = step_in s (turn_of i) i.command
+abbrev pub settled_step : Sequencer → Input → Stepped
+settled_step s i = step_in s (turn_of i) i.command
 
 -- the plain step of an input
 abbrev pub input_step : Sequencer → Input → Stepped
 input_step s i = step s.files (state_of s) i
 
 -- A sequencer with its agenda, a reply and what was sent are those of a step.
-pub record Gives (old new : Sequencer) (agenda : Keys) (step : Stepped) (reply : Reply)
+pub record IsStepTaken (old new : Sequencer) (agenda : Keys) (step : Stepped) (reply : Reply)
     (sent : List Delivery) : Type 0 where
   pub state : state_of new ≡ step.state
   pub reply_is : reply ≡ step.reply
   pub sent_is : sent ≡ step.delivered
   pub cells : AreCells new.cells.cells new.steps
-  pub keys : AreKeys (clients_of new) new.cells.cells agenda
+  pub keys : AreFirstKeys (clients_of new) new.cells.cells agenda
   pub files : new.files ≡ old.files
   pub steps : new.steps ≡ old.steps
 
 -- The same with the agenda that went with it before.
-abbrev pub GivesKept : Sequencer → Sequencer → Stepped → Reply → List Delivery → Type 0
-GivesKept old new step reply sent =
-    (agenda : Keys) (now : ℕ) → IsWhole old agenda now → Gives old new agenda step reply sent
+abbrev pub IsStepTakenUnkeyed : Sequencer → Sequencer → Stepped → Reply → List Delivery → Type 0
+IsStepTakenUnkeyed old new step reply sent =
+    (agenda : Keys) (now : ℕ) → IsWhole old agenda now → IsStepTaken old new agenda step reply sent

@@ -4,7 +4,7 @@ ghost use Rattle.std.specs.Prelude.{◌≡◌, ◌+◌, ◌++◌, List, true, No
 ghost use Rattle.seq_state.specs.declared.log.Delivery.{Delivery};
 ghost use Rattle.seq_settle.specs.Cells.{AreCells};
 ghost use Rattle.seq_commands.specs.Turns.{takes_none};
-ghost use Rattle.seq_commands.specs.Whole.{step_in, refusal_in, IsWhole, Gives};
+ghost use Rattle.seq_commands.specs.Whole.{step_in, refusal_in, IsWhole, IsStepTaken};
 
 use crate::sequencer::{Sequencer, Turn};
 use agenda_heap::Agenda;
@@ -27,7 +27,7 @@ impl Sequencer<'_, '_> {
         requires counted { self.old.steps ≡ rank + 1 }
         ensures gives { let step = step_in self.old turn command.now in
             IfOk result (λ r. (ds : List Delivery) × (out.new.items ≡ out.old.items ++ ds)
-            × Gives self.old self.new (A.content agenda.new) step r ds) }
+            × IsStepTaken self.old self.new (A.content agenda.new) step r ds) }
         ensures freely { takes_none command.now ≡ true → IsOk result }
     {
         match command {

@@ -5,7 +5,7 @@ ghost use Rattle.agenda_heap.specs.Due.{NoneDue};
 ghost use Rattle.seq_state.specs.Step.{IsRefusal};
 ghost use Rattle.seq_settle.specs.Cells.{AreCells};
 ghost use Rattle.seq_commands.specs.Turns.{takes_none};
-ghost use Rattle.seq_commands.specs.Whole.{state_of, turn_of, command_step, input_step, refusal_in, IsWhole};
+ghost use Rattle.seq_commands.specs.Whole.{state_of, turn_of, settled_step, input_step, refusal_in, IsWhole};
 
 use crate::sequencer::{Sequencer, Turn};
 use agenda_heap::Agenda;
@@ -56,17 +56,17 @@ impl Sequencer<'_, '_> {
     ) -> Result<Reply, OutOfMemory>
         requires whole { IsWhole self.old (A.content agenda.old) input.now.moment }
         requires counted { self.old.steps < 2 ^ 64 - 1 }
-        ensures state { OnOk result (state_of self.new ≡ (command_step self.old input.now).state) }
-        ensures reply { IfOk result (λ r. r ≡ (command_step self.old input.now).reply) }
+        ensures state { OnOk result (state_of self.new ≡ (settled_step self.old input.now).state) }
+        ensures reply { IfOk result (λ r. r ≡ (settled_step self.old input.now).reply) }
         ensures sent { OnOk result (out.new.items
-            ≡ out.old.items ++ (command_step self.old input.now).delivered) }
+            ≡ out.old.items ++ (settled_step self.old input.now).delivered) }
         ensures whole { OnOk result (IsWhole self.new (A.content agenda.new) input.now.moment) }
         ensures files { OnOk result (self.new.files ≡ self.old.files) }
         ensures steps { OnOk result (self.new.steps ≡ self.old.steps + 1) }
         ensures same_steps { OnErr result (self.new.steps ≡ self.old.steps) }
 
         // A refused command asks for no memory, nor do these.
-        ensures quiet { IsRefusal (command_step self.old input.now).reply → IsOk result }
+        ensures quiet { IsRefusal (settled_step self.old input.now).reply → IsOk result }
         ensures freely { takes_none input.now.command ≡ true → IsOk result }
     {
         let rank = self.steps;

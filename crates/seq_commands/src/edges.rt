@@ -3,7 +3,7 @@
 ghost use Rattle.std.specs.Prelude.{◌≡◌, [], None, OnOk};
 ghost use Rattle.seq_state.specs.declared.input.Command.{Command};
 ghost use Rattle.seq_state.specs.declared.log.Reply.{Reply};
-ghost use Rattle.seq_commands.specs.Whole.{refusal_in, step_in, GivesKept};
+ghost use Rattle.seq_commands.specs.Whole.{refusal_in, step_in, IsStepTakenUnkeyed};
 
 use crate::sequencer::{Sequencer, Turn};
 use memory::OutOfMemory;
@@ -19,7 +19,7 @@ impl Sequencer<'_, '_> {
     ) -> Result<(), OutOfMemory>
         requires accepted { refusal_in self.old turn (Command.Connect source target) ≡ None }
         ensures { let step = step_in self.old turn (Command.Connect source target) in
-            OnOk result (GivesKept self.old self.new step Reply.Done []) }
+            OnOk result (IsStepTakenUnkeyed self.old self.new step Reply.Done []) }
     {
         self.patchbay.graph.add(source, target)
     }
@@ -29,7 +29,7 @@ impl Sequencer<'_, '_> {
         requires accepted { let command = Command.Disconnect source.now target.now in
             refusal_in self.old turn command ≡ None }
         ensures { let step = step_in self.old turn (Command.Disconnect source.now target.now) in
-            GivesKept self.old self.new step Reply.Done [] }
+            IsStepTakenUnkeyed self.old self.new step Reply.Done [] }
     {
         self.patchbay.graph.disconnect(source, target);
     }

@@ -4,7 +4,7 @@
 ghost use Rattle.std.specs.Prelude.{◌≡◌, [], None, OnOk};
 ghost use Rattle.seq_state.specs.declared.input.Command.TheVariants as Command;
 ghost use Rattle.seq_state.specs.declared.log.Reply.TheVariants as Reply;
-ghost use Rattle.seq_commands.specs.Whole.{GivesKept, refusal_in, step_in};
+ghost use Rattle.seq_commands.specs.Whole.{IsStepTakenUnkeyed, refusal_in, step_in};
 
 use crate::sequencer::{Sequencer, Turn};
 use memory::OutOfMemory;
@@ -22,7 +22,7 @@ impl Sequencer<'_, '_> {
     ) -> Result<(), OutOfMemory>
         requires accepted { refusal_in self.old turn (Command.Open name.now in_size out_size)
             ≡ None }
-        ensures { OnOk result (GivesKept self.old self.new
+        ensures { OnOk result (IsStepTakenUnkeyed self.old self.new
             (step_in self.old turn (Command.Open name.now in_size out_size)) Reply.Done []) }
     {
         let clients = &mut self.patchbay.clients;
@@ -39,7 +39,7 @@ impl Sequencer<'_, '_> {
     ) -> Result<(), OutOfMemory>
         requires accepted { refusal_in self.old turn (Command.CreatePort port name.now caps)
             ≡ None }
-        ensures { OnOk result (GivesKept self.old self.new
+        ensures { OnOk result (IsStepTakenUnkeyed self.old self.new
             (step_in self.old turn (Command.CreatePort port name.now caps)) Reply.Done []) }
     {
         let clients = &mut self.patchbay.clients;
@@ -56,7 +56,7 @@ impl Sequencer<'_, '_> {
     ) -> Result<(), OutOfMemory>
         requires accepted { refusal_in self.old turn (Command.CreateFilter filter caps rule.now)
             ≡ None }
-        ensures { OnOk result (GivesKept self.old self.new
+        ensures { OnOk result (IsStepTakenUnkeyed self.old self.new
             (step_in self.old turn (Command.CreateFilter filter caps rule.now)) Reply.Done []) }
     {
         let Some(rule) = Rule::new(*rule) else {
@@ -69,7 +69,7 @@ impl Sequencer<'_, '_> {
     /// Gives a filter another rule.
     pub(crate) fn set_filter(&mut self, turn: Turn, filter: FilterNo, rule: &RuleArgs)
         requires accepted { refusal_in self.old turn (Command.SetFilter filter rule.now) ≡ None }
-        ensures { GivesKept self.old self.new
+        ensures { IsStepTakenUnkeyed self.old self.new
             (step_in self.old turn (Command.SetFilter filter rule.now)) Reply.Done [] }
     {
         let Some(rule) = Rule::new(*rule) else {
@@ -81,7 +81,7 @@ impl Sequencer<'_, '_> {
     /// Drops a filter with its subscriptions.
     pub(crate) fn delete_filter(&mut self, turn: Turn, filter: FilterNo)
         requires accepted { refusal_in self.old turn (Command.DeleteFilter filter) ≡ None }
-        ensures { GivesKept self.old self.new
+        ensures { IsStepTakenUnkeyed self.old self.new
             (step_in self.old turn (Command.DeleteFilter filter)) Reply.Done [] }
     {
         self.patchbay.clients.delete_filter(turn.actor, filter);

@@ -10,7 +10,7 @@ ghost use Rattle.seq_state.specs.declared.log.Reply.{Reply};
 ghost use Rattle.seq_settle.specs.Cells.{AreCells, are_in_order};
 ghost use Rattle.seq_settle.specs.Moments.{queue_at};
 ghost use Rattle.seq_commands.specs.Added.{added};
-ghost use Rattle.seq_commands.specs.Whole.{clients_of, state_of, refusal_in, step_in, IsWhole, Gives};
+ghost use Rattle.seq_commands.specs.Whole.{clients_of, state_of, refusal_in, step_in, IsWhole, IsStepTaken};
 
 use crate::sequencer::{Sequencer, Turn};
 use agenda_heap::Agenda;
@@ -28,7 +28,7 @@ impl<'f, 'b> Sequencer<'f, 'b> {
         requires whole { IsWhole self.old (A.content agenda.old) turn.moment }
         requires accepted { refusal_in self.old turn Command.DropOutput ≡ None }
         ensures { let step = step_in self.old turn Command.DropOutput in
-            Gives self.old self.new (A.content agenda.new) step Reply.Done [] }
+            IsStepTaken self.old self.new (A.content agenda.new) step Reply.Done [] }
     {
         let all = Which::All;
         let cells = &mut self.cells;
@@ -40,7 +40,7 @@ impl<'f, 'b> Sequencer<'f, 'b> {
         requires whole { IsWhole self.old (A.content agenda.old) turn.moment }
         requires accepted { refusal_in self.old turn (Command.DeletePort port) ≡ None }
         ensures { let step = step_in self.old turn (Command.DeletePort port) in
-            Gives self.old self.new (A.content agenda.new) step Reply.Done [] }
+            IsStepTaken self.old self.new (A.content agenda.new) step Reply.Done [] }
     {
         let of_port = Which::OfPort(port);
         let cells = &mut self.cells;
@@ -58,7 +58,7 @@ impl<'f, 'b> Sequencer<'f, 'b> {
         requires whole { IsWhole self.old (A.content agenda.old) turn.moment }
         requires accepted { refusal_in self.old turn (Command.DeleteQueue queue.now) ≡ None }
         ensures { let step = step_in self.old turn (Command.DeleteQueue queue.now) in
-            Gives self.old self.new (A.content agenda.new) step Reply.Done [] }
+            IsStepTaken self.old self.new (A.content agenda.new) step Reply.Done [] }
     {
         let shared = self.is_shared(queue);
         let on_queue = Which::OnQueue(queue.queue);
@@ -72,7 +72,7 @@ impl<'f, 'b> Sequencer<'f, 'b> {
         requires whole { IsWhole self.old (A.content agenda.old) turn.moment }
         requires accepted { refusal_in self.old turn Command.Close ≡ None }
         ensures { let step = step_in self.old turn Command.Close in
-            Gives self.old self.new (A.content agenda.new) step Reply.Done [] }
+            IsStepTaken self.old self.new (A.content agenda.new) step Reply.Done [] }
     {
         let shares = self.patchbay.clients.shares_queue(turn.actor);
         let its_own = Which::AllAndOnQueues;
@@ -100,7 +100,7 @@ impl<'f, 'b> Sequencer<'f, 'b> {
         requires counted { self.old.steps ≡ rank + 1 }
         ensures { let command = Command.Schedule queue.now port due_at message.now in
             let step = step_in self.old turn command in
-            OnOk result (Gives self.old self.new (A.content agenda.new) step Reply.Done []) }
+            OnOk result (IsStepTaken self.old self.new (A.content agenda.new) step Reply.Done []) }
     {
         let due = self.due_of(turn.moment, queue, due_at);
         let event = Events::scheduled(due, message.duplicate()?);
@@ -123,7 +123,7 @@ impl<'f, 'b> Sequencer<'f, 'b> {
         requires fresh { AreCells self.old.cells.cells rank }
         requires counted { self.old.steps ≡ rank + 1 }
         ensures { let step = step_in self.old turn (Command.Play queue.now port file) in
-            OnOk result (Gives self.old self.new (A.content agenda.new) step Reply.Done []) }
+            OnOk result (IsStepTaken self.old self.new (A.content agenda.new) step Reply.Done []) }
     {
         let Some(file) = self.files.get(file) else {
             unreachable!()
@@ -150,7 +150,7 @@ impl<'f, 'b> Sequencer<'f, 'b> {
         requires room { let size = out_size (get (clients_of self.old) turn.actor) in
             used (state_of self.old) turn.actor ≢ size }
         ensures { let step = added self.old turn queue.now port events.entry in
-            OnOk result (Gives self.old self.new (A.content agenda.new) step Reply.Done []) }
+            OnOk result (IsStepTaken self.old self.new (A.content agenda.new) step Reply.Done []) }
     {
         // Set here, the sizes of the store need not be kept in step with those of the clients.
         let size = self.patchbay.clients.out_size(turn.actor);

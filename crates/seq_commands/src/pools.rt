@@ -4,7 +4,7 @@ ghost use Rattle.std.specs.Prelude.{◌≡◌, [], None, IfOk};
 ghost use Rattle.seq_state.specs.declared.input.Command.{Command};
 ghost use Rattle.seq_state.specs.declared.log.Reply.{Reply};
 ghost use Rattle.seq_settle.specs.Cells.{AreCells};
-ghost use Rattle.seq_commands.specs.Whole.{refusal_in, step_in, GivesKept};
+ghost use Rattle.seq_commands.specs.Whole.{refusal_in, step_in, IsStepTakenUnkeyed};
 
 use crate::sequencer::{Sequencer, Turn};
 use memory::{Items, OutOfMemory};
@@ -15,7 +15,8 @@ impl Sequencer<'_, '_> {
     pub(crate) fn receive(&mut self, turn: Turn, max: u32) -> Result<Items<Arrival>, OutOfMemory>
         requires accepted { refusal_in self.old turn (Command.Receive max) ≡ None }
         ensures { let step = step_in self.old turn (Command.Receive max) in
-            IfOk result (λ items. GivesKept self.old self.new step (Reply.Received items) []) }
+            IfOk result (λ items.
+            IsStepTakenUnkeyed self.old self.new step (Reply.Received items) []) }
     {
         let items = self.patchbay.clients.receive(turn.actor, max)?;
         Ok(Items::new(items))
@@ -26,7 +27,7 @@ impl Sequencer<'_, '_> {
         requires cells { AreCells self.now.cells.cells self.now.steps }
         requires accepted { refusal_in self.now turn Command.PoolStatus ≡ None }
         ensures { let step = step_in self.now turn Command.PoolStatus in
-            GivesKept self.now self.now step result [] }
+            IsStepTakenUnkeyed self.now self.now step result [] }
     {
         Reply::Pools {
             waiting: self.patchbay.clients.waiting(turn.actor),

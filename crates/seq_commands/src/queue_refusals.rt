@@ -239,7 +239,8 @@ impl Sequencer<'_, '_> {
 
     /// Whether a queue of the client counts frames.
     fn counts_frames(&self, client: ClientId, queue: QueueNo) -> bool
-        ensures { result ≡ queue_is counts_frames (queue_of (get (clients_of self.now) client) queue) }
+        ensures { result
+            ≡ queue_is counts_frames (queue_of (get (clients_of self.now) client) queue) }
     {
         match self.patchbay.clients.queue(&QueueAddr { client, queue }) {
             Some(found) => found.clock().counts_frames(),

@@ -6,7 +6,7 @@ ghost use Rattle.seq_state.specs.declared.input.Command.TheVariants as Command;
 ghost use Rattle.seq_state.specs.declared.log.Reply.TheVariants as Reply;
 ghost use Rattle.seq_state.specs.Own.{queue_is, one_tempo};
 ghost use Rattle.seq_settle.specs.Moments.{queue_at};
-ghost use Rattle.seq_commands.specs.Whole.{clients_of, state_of, IsSound, IsWhole, Gives, GivesKept, refusal_in, step_in};
+ghost use Rattle.seq_commands.specs.Whole.{clients_of, state_of, IsSound, IsWhole, IsStepTaken, IsStepTakenUnkeyed, refusal_in, step_in};
 
 use crate::sequencer::{Sequencer, Turn};
 use agenda_heap::Agenda;
@@ -41,7 +41,7 @@ impl Sequencer<'_, '_> {
     ) -> Result<(), OutOfMemory>
         requires accepted { refusal_in self.old turn (Command.CreateQueue queue ppq tempo)
             ≡ None }
-        ensures { OnOk result (GivesKept self.old self.new
+        ensures { OnOk result (IsStepTakenUnkeyed self.old self.new
             (step_in self.old turn (Command.CreateQueue queue ppq tempo)) Reply.Done []) }
     {
         let map = one_tempo(self.alloc, ppq, tempo)?;
@@ -57,7 +57,7 @@ impl Sequencer<'_, '_> {
         file: u32,
     ) -> Result<(), OutOfMemory>
         requires accepted { refusal_in self.old turn (Command.CreateQueueFrom queue file) ≡ None }
-        ensures { OnOk result (GivesKept self.old self.new
+        ensures { OnOk result (IsStepTakenUnkeyed self.old self.new
             (step_in self.old turn (Command.CreateQueueFrom queue file)) Reply.Done []) }
     {
         let Some(file) = self.files.get(file) else {
@@ -77,7 +77,7 @@ impl Sequencer<'_, '_> {
     ) -> Result<(), OutOfMemory>
         requires whole { IsWhole self.old (A.content agenda.old) turn.moment }
         requires accepted { refusal_in self.old turn (Command.Start queue.now) ≡ None }
-        ensures { OnOk result (Gives self.old self.new (A.content agenda.new)
+        ensures { OnOk result (IsStepTaken self.old self.new (A.content agenda.new)
             (step_in self.old turn (Command.Start queue.now)) Reply.Done []) }
     {
         let foreign = self.is_shared(queue);
@@ -102,7 +102,7 @@ impl Sequencer<'_, '_> {
     ) -> Result<(), OutOfMemory>
         requires whole { IsWhole self.old (A.content agenda.old) turn.moment }
         requires accepted { refusal_in self.old turn (Command.Stop queue.now) ≡ None }
-        ensures { OnOk result (Gives self.old self.new (A.content agenda.new)
+        ensures { OnOk result (IsStepTaken self.old self.new (A.content agenda.new)
             (step_in self.old turn (Command.Stop queue.now)) Reply.Done []) }
     {
         let foreign = self.is_shared(queue);
@@ -127,7 +127,7 @@ impl Sequencer<'_, '_> {
     ) -> Result<(), OutOfMemory>
         requires whole { IsWhole self.old (A.content agenda.old) turn.moment }
         requires accepted { refusal_in self.old turn (Command.Continue queue.now) ≡ None }
-        ensures { OnOk result (Gives self.old self.new (A.content agenda.new)
+        ensures { OnOk result (IsStepTaken self.old self.new (A.content agenda.new)
             (step_in self.old turn (Command.Continue queue.now)) Reply.Done []) }
     {
         let foreign = self.is_shared(queue);
@@ -153,7 +153,7 @@ impl Sequencer<'_, '_> {
     ) -> Result<(), OutOfMemory>
         requires whole { IsWhole self.old (A.content agenda.old) turn.moment }
         requires accepted { refusal_in self.old turn (Command.Tempo queue.now tempo) ≡ None }
-        ensures { OnOk result (Gives self.old self.new (A.content agenda.new)
+        ensures { OnOk result (IsStepTaken self.old self.new (A.content agenda.new)
             (step_in self.old turn (Command.Tempo queue.now tempo)) Reply.Done []) }
     {
         let foreign = self.is_shared(queue);
@@ -172,7 +172,7 @@ impl Sequencer<'_, '_> {
     /// Lets other clients use a queue.
     pub(crate) fn share(&mut self, turn: Turn, queue: &QueueAddr)
         requires accepted { refusal_in self.old turn (Command.Share queue.now) ≡ None }
-        ensures { GivesKept self.old self.new
+        ensures { IsStepTakenUnkeyed self.old self.new
             (step_in self.old turn (Command.Share queue.now)) Reply.Done [] }
     {
         self.patchbay.clients.share(turn.actor, queue.queue);
@@ -182,7 +182,7 @@ impl Sequencer<'_, '_> {
     pub(crate) fn queue_status(&self, turn: Turn, queue: &QueueAddr) -> Reply
         requires sound { IsSound (state_of self.now) turn.moment }
         requires accepted { refusal_in self.now turn (Command.QueueStatus queue.now) ≡ None }
-        ensures { GivesKept self.now self.now
+        ensures { IsStepTakenUnkeyed self.now self.now
             (step_in self.now turn (Command.QueueStatus queue.now)) result [] }
     {
         let Some(queue) = self.patchbay.clients.queue(queue) else {

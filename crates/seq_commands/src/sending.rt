@@ -3,7 +3,7 @@
 ghost use Rattle.std.specs.Prelude.{◌≡◌, None, ◌++◌, IfOk, OnOk};
 ghost use Rattle.seq_state.specs.declared.input.Command.TheVariants as Command;
 ghost use Rattle.seq_state.specs.declared.log.Reply.TheVariants as Reply;
-ghost use Rattle.seq_commands.specs.Whole.{refusal_in, step_in, GivesKept};
+ghost use Rattle.seq_commands.specs.Whole.{refusal_in, step_in, IsStepTakenUnkeyed};
 
 use crate::sequencer::{Sequencer, Turn};
 use memory::OutOfMemory;
@@ -23,7 +23,7 @@ impl Sequencer<'_, '_> {
     ) -> Result<Reply, OutOfMemory>
         requires accepted { refusal_in self.old turn (Command.Bytes port bytes.now) ≡ None }
         ensures gives { let step = step_in self.old turn (Command.Bytes port bytes.now) in
-            IfOk result (λ r. GivesKept self.old self.new step r step.delivered) }
+            IfOk result (λ r. IsStepTakenUnkeyed self.old self.new step r step.delivered) }
         ensures sent { let step = step_in self.old turn (Command.Bytes port bytes.now) in
             OnOk result (out.new.items ≡ out.old.items ++ step.delivered) }
     {
@@ -47,7 +47,7 @@ impl Sequencer<'_, '_> {
     ) -> Result<(), OutOfMemory>
         requires accepted { refusal_in self.old turn (Command.Send port message.now) ≡ None }
         ensures gives { let step = step_in self.old turn (Command.Send port message.now) in
-            OnOk result (GivesKept self.old self.new step Reply.Done step.delivered) }
+            OnOk result (IsStepTakenUnkeyed self.old self.new step Reply.Done step.delivered) }
         ensures sent { let step = step_in self.old turn (Command.Send port message.now) in
             OnOk result (out.new.items ≡ out.old.items ++ step.delivered) }
     {

@@ -4,7 +4,7 @@ ghost use Rattle.std.specs.Prelude.{◌≡◌, ◌++◌, IsOk, IfOk, OnOk};
 ghost use Rattle.agenda_heap.specs.Due.{NoneDue};
 ghost use Rattle.seq_state.specs.State.{start};
 ghost use Rattle.seq_state.specs.Step.{settle};
-ghost use Rattle.seq_settle.specs.Cells.{AreCells, AreKeys};
+ghost use Rattle.seq_settle.specs.Cells.{AreCells, AreFirstKeys};
 ghost use Rattle.seq_patchbay.specs.Listing.{listing};
 ghost use Rattle.seq_commands.specs.Whole.{state_of, clients_of};
 
@@ -72,13 +72,15 @@ impl<'f, 'b> Sequencer<'f, 'b> {
         out: &mut Vec<Delivery>,
     ) -> Result<(), OutOfMemory>
         requires cells { AreCells self.old.cells.cells self.old.steps }
-        requires keys { AreKeys (clients_of self.old) self.old.cells.cells (A.content agenda.old) }
-        ensures state { OnOk result (state_of self.new ≡ (settle (state_of self.old) moment).state) }
+        requires keys { AreFirstKeys (clients_of self.old) self.old.cells.cells
+            (A.content agenda.old) }
+        ensures state { OnOk result
+            (state_of self.new ≡ (settle (state_of self.old) moment).state) }
         ensures sent { OnOk result (out.new.items
             ≡ out.old.items ++ (settle (state_of self.old) moment).delivered) }
         ensures cells { OnOk result (AreCells self.new.cells.cells self.new.steps) }
         ensures keys { OnOk result
-            (AreKeys (clients_of self.new) self.new.cells.cells (A.content agenda.new)) }
+            (AreFirstKeys (clients_of self.new) self.new.cells.cells (A.content agenda.new)) }
         ensures files { self.new.files ≡ self.old.files }
         ensures steps { self.new.steps ≡ self.old.steps }
 

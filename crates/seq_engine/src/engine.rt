@@ -47,7 +47,13 @@ impl<'f, 'b, A: Agenda> Model for Engine<'f, 'b, A> {
     ghost coded = { coded_seen };
 
     ghost view = { λ e.
-        record { files = e.sequencer.files; state = state_of e.sequencer; moment = e.moment; steps = e.sequencer.steps; failed = e.failed } };
+        record {
+          files = e.sequencer.files;
+          state = state_of e.sequencer;
+          moment = e.moment;
+          steps = e.sequencer.steps;
+          failed = e.failed;
+        } };
 
     ghost invariant = { λ e. e.failed ≡ false → IsWhole e.sequencer (A.content e.agenda) e.moment };
 }
@@ -57,7 +63,13 @@ impl<'f, 'b, A: Agenda> Engine<'f, 'b, A> {
     pub fn new(alloc: Global, files: &'f [SmfFile<'b>], agenda: A) -> Engine<'f, 'b, A>
         requires empty { A.content agenda ≡ finmap.empty }
         ensures first { result
-            ≡ record { files = map played files.now; state = start; moment = 0; steps = 0; failed = false } }
+            ≡ record {
+              files = map played files.now;
+              state = start;
+              moment = 0;
+              steps = 0;
+              failed = false;
+            } }
         ensures ticks { list_all has_ticks result.files ≡ true }
     {
         Engine {
@@ -96,7 +108,8 @@ impl<'f, 'b, A: Agenda> Engine<'f, 'b, A> {
           moment = input.now.moment;
           steps = self.old.steps + 1;
         }) }
-        ensures reply { IfOk result (λ out. out.reply ≡ (step self.old.files self.old.state input.now).reply) }
+        ensures reply { IfOk result
+            (λ out. out.reply ≡ (step self.old.files self.old.state input.now).reply) }
         ensures delivered { IfOk result (λ out.
             out.delivered ≡ (step self.old.files self.old.state input.now).delivered) }
 
@@ -136,7 +149,8 @@ impl<'f, 'b, A: Agenda> Engine<'f, 'b, A> {
           state = (settle self.old.state moment).state;
           moment = moment;
         }) }
-        ensures delivered { IfOk result (λ ds. ds.items ≡ (settle self.old.state moment).delivered) }
+        ensures delivered { IfOk result
+            (λ ds. ds.items ≡ (settle self.old.state moment).delivered) }
         ensures idle { self.old.failed ≡ false → due self.old.state moment ≡ [] → IsOk result }
         ensures failed { IsErrOf result EngineFault.Failed ↔ IsTrue self.old.failed }
         ensures fails { OnErr result (self.new.failed ≡ true) }

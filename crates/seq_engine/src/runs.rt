@@ -52,8 +52,10 @@ fn write_at(
     writer: &mut StreamWriter,
     bytes: &mut Vec<u8>,
 ) -> Result<(), OutOfMemory>
-    ensures bytes { OnOk result (bytes.new.items ≡ bytes.old.items ++ written_after writer.old (option_to_list (message_at port.now entry.now))) }
-    ensures status { OnOk result (writer.new ≡ status_after_all writer.old (option_to_list (message_at port.now entry.now))) }
+    ensures bytes { OnOk result (bytes.new.items ≡ bytes.old.items
+        ++ written_after writer.old (option_to_list (message_at port.now entry.now))) }
+    ensures status { OnOk result (writer.new
+        ≡ status_after_all writer.old (option_to_list (message_at port.now entry.now))) }
 {
     if let LogEntry::Delivered(delivery) = entry {
         if comes_to(port, delivery) {
@@ -108,11 +110,13 @@ pub fn run<'f, 'b, A: Agenda + Drop>(
     ensures isolated { IfOk result (λ log. (owner : ℕ) (member : ℕ → Bool) →
         IsClosed (map played files.now) owner member inputs.now →
         view owner member inputs.now log.entries
-        ≡ view owner member (only member inputs.now) (plain (map played files.now) (only member inputs.now) until)) }
+        ≡ view owner member (only member inputs.now)
+        (plain (map played files.now) (only member inputs.now) until)) }
     ensures heard_alone { IfOk result (λ log. (owner : ℕ) (member : ℕ → Bool) (port : ℕ) →
         IsClosed (map played files.now) owner member inputs.now →
         port_bytes (port_at owner port) log.entries
-        ≡ port_bytes (port_at owner port) (plain (map played files.now) (only member inputs.now) until)) }
+        ≡ port_bytes (port_at owner port)
+        (plain (map played files.now) (only member inputs.now) until)) }
 
     // The moments of what is delivered never fall, each pool keeps to its size, and no chain of filters comes back.
     ensures rising { IfOk result (λ log. NeverFall (deliveries_of log.entries)) }
@@ -143,7 +147,9 @@ fn add_step(
     input: &Input,
     out: StepOut,
 ) -> Result<(), OutOfMemory>
-    ensures { OnOk result (entries.new.items ≡ entries.old.items ++ map (λ d. LogEntry.Delivered d) out.delivered ++ LogEntry.Replied index input.now.moment input.now.actor out.reply ∷ []) }
+    ensures { OnOk result
+        (entries.new.items ≡ entries.old.items ++ map (λ d. LogEntry.Delivered d) out.delivered
+        ++ LogEntry.Replied index input.now.moment input.now.actor out.reply ∷ []) }
 {
     let StepOut { reply, delivered } = out;
     add_deliveries(entries, delivered.into_vec())?;
@@ -157,7 +163,8 @@ fn add_step(
 }
 
 fn add_deliveries(entries: &mut Vec<LogEntry>, delivered: Vec<Delivery>) -> Result<(), OutOfMemory>
-    ensures { OnOk result (entries.new.items ≡ entries.old.items ++ map (λ d. LogEntry.Delivered d) delivered.items) }
+    ensures { OnOk result
+        (entries.new.items ≡ entries.old.items ++ map (λ d. LogEntry.Delivered d) delivered.items) }
 {
     for delivery in delivered {
         entries.push(LogEntry::Delivered(delivery))?;

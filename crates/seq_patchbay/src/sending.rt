@@ -104,7 +104,8 @@ fn deliver<M: Carried + Drop>(
     ensures pools { let c = copy moment (at_port target) (Some (M.bytes message)) in
         OnOk result (clients.new.pools ≡ offered clients.old.pools (option_to_list c)) }
     ensures sent { let c = copy moment (at_port target) (Some (M.bytes message)) in
-        OnOk result (out.new.items ≡ out.old.items ++ delivered clients.old.pools (option_to_list c)) }
+        OnOk result (out.new.items
+        ≡ out.old.items ++ delivered clients.old.pools (option_to_list c)) }
 {
     let PortAddr { client, port } = target;
     let arrival = Arrival {

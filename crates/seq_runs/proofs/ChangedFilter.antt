@@ -13,8 +13,8 @@ use Rattle.seq_state.specs.declared.log.Reply.TheVariants.{Messages}
 use Rattle.seq_state.specs.State.{Client, State, start}
 use Rattle.seq_state.specs.Own.{new_filter, put_filter}
 use Rattle.seq_state.specs.Table.{command_row}
-use Rattle.seq_state.specs.Step.{Stepped, port_addr}
-use Rattle.seq_runs.specs.Rows.{caps_by_bits, filter_addr, a_note, a_delivery, an_arrival, changed_filter, ChangedFilter}
+use Rattle.seq_state.specs.Step.{Stepped, port_addr, filter_addr}
+use Rattle.seq_runs.specs.Rows.{caps_by_bits, a_note, a_delivery, an_arrival, changed_filter, ChangedFilter}
 use Rattle.seq_runs.proofs.Traces.{Trace, ends, thus, quiet, trace-log}
 use Rattle.seq_runs.proofs.CommandSteps.{without, holding, pooled, filled, joined, still, opens, changes, gives-up, connects, feeds}
 use Rattle.seq_runs.proofs.Beginnings.{nothing-pending, sender, ready, sender_steps, becomes-sender, with_fed, listener, arrived, settled_in}

@@ -8,8 +8,8 @@ use Rattle.seq_state.specs.declared.input.Command.TheVariants.{Open, Close, Crea
 use Rattle.seq_state.specs.declared.input.DueAt.TheVariants as due_at
 use Rattle.seq_state.specs.declared.refusal.Refusal.TheVariants as refusal
 use Rattle.seq_state.specs.Table.{command_row}
-use Rattle.seq_state.specs.Step.{port_addr}
-use Rattle.seq_runs.specs.Rows.{an_input, caps_by_bits, filter_addr, a_queue, a_note}
+use Rattle.seq_state.specs.Step.{port_addr, filter_addr}
+use Rattle.seq_runs.specs.Rows.{an_input, caps_by_bits, a_queue, a_note}
 use Rattle.seq_runs.specs.Conditions.{EachCondition}
 use Rattle.seq_runs.specs.Examples.{crowd, waiting_player}
 use Rattle.seq_runs.proofs.Examples.{held, refuses, in_studio, tick-at_present}

@@ -17,8 +17,8 @@ use Rattle.seq_state.specs.Refusals.{number_of}
 use Rattle.seq_state.specs.State.{State, start}
 use Rattle.seq_state.specs.declared.refusal.Refusal.TheVariants as refusal
 use Rattle.seq_state.specs.Table.{command_row}
-use Rattle.seq_state.specs.Step.{settle, step, refusal_of, port_addr}
-use Rattle.seq_runs.specs.Rows.{an_input, caps_by_bits, filter_addr, a_queue, a_note}
+use Rattle.seq_state.specs.Step.{settle, step, refusal_of, port_addr, filter_addr}
+use Rattle.seq_runs.specs.Rows.{an_input, caps_by_bits, a_queue, a_note}
 use Rattle.seq_runs.specs.Examples.{running, studio, crowd, waiting_player, files, EachRefusal}
 use Rattle.seq_runs.proofs.Worked.{settled_to, refused-step, settle-sorted, settle-still, finds}
 

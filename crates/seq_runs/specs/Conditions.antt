@@ -4,8 +4,8 @@ use Rattle.route_filter.specs.Laws.{open_rule}
 use Rattle.seq_state.specs.declared.input.Command.TheVariants.{Open, Close, CreatePort, DeletePort, CreateFilter, SetFilter, DeleteFilter, Connect, Disconnect, Bytes, Send, CreateQueue, CreateQueueFrom, DeleteQueue, Start, Stop, Continue, Tempo, QueueStatus, Share, Schedule, Play, DropOutput, Receive, PoolStatus}
 use Rattle.seq_state.specs.declared.input.DueAt.TheVariants as due_at
 use Rattle.seq_state.specs.declared.refusal.Refusal.TheVariants as refusal
-use Rattle.seq_state.specs.Step.{port_addr}
-use Rattle.seq_runs.specs.Rows.{an_input, caps_by_bits, filter_addr, a_queue, a_note}
+use Rattle.seq_state.specs.Step.{port_addr, filter_addr}
+use Rattle.seq_runs.specs.Rows.{an_input, caps_by_bits, a_queue, a_note}
 use Rattle.seq_runs.specs.Examples.{studio, crowd, waiting_player, IsRefused}
 
 -- The names are those of the command and of the refusal. 130 is not open; in the crowd it is, but is not the actor.

@@ -17,8 +17,8 @@ use Rattle.seq_state.specs.Files.{File}
 use Rattle.seq_state.specs.Refusals.{number_of}
 use Rattle.seq_state.specs.State.{PortInfo, FilterInfo, Queue, Client, Pool, State, start}
 use Rattle.seq_state.specs.Own.{held_queue, one_tempo}
-use Rattle.seq_state.specs.Step.{offer, step, port_addr}
-use Rattle.seq_runs.specs.Rows.{an_input, caps_by_bits, filter_addr, a_queue, a_note, a_delivery, an_arrival}
+use Rattle.seq_state.specs.Step.{offer, step, port_addr, filter_addr}
+use Rattle.seq_runs.specs.Rows.{an_input, caps_by_bits, a_queue, a_note, a_delivery, an_arrival}
 
 -- ---- the states
 

@@ -4,8 +4,6 @@ use Rattle.tempo_clock.specs.Entries.{smpte_word}
 use Rattle.tempo_clock.specs.Ticks.{Tempos}
 use Rattle.route_filter.specs.Worked.{moved_by}
 use Rattle.node_table.specs.declared.caps.Caps.{Caps}
-use Rattle.node_table.specs.declared.number.Addr.{Addr}
-use Rattle.node_table.specs.declared.number.Node.TheVariants.{Filter}
 use Rattle.seq_state.specs.declared.input.Command.{Command}
 use Rattle.seq_state.specs.declared.input.Command.TheVariants.{Open, Close, CreatePort, DeletePort, CreateFilter, SetFilter, DeleteFilter, Connect, Disconnect, Bytes, Send, CreateQueue, CreateQueueFrom, DeleteQueue, Start, Stop, Continue, Tempo, QueueStatus, Share, Schedule, Play, DropOutput, Receive, PoolStatus}
 use Rattle.seq_state.specs.declared.input.DueAt.TheVariants as due_at
@@ -16,7 +14,7 @@ use Rattle.seq_state.specs.declared.log.Delivery.{Delivery}
 use Rattle.seq_state.specs.declared.log.LogEntry.TheVariants.{Delivered, Replied}
 use Rattle.seq_state.specs.declared.log.Reply.TheVariants.{Done, Messages, Queue, Received, Pools, Refused}
 use Rattle.seq_state.specs.Files.{File}
-use Rattle.seq_state.specs.Step.{plain, port_addr}
+use Rattle.seq_state.specs.Step.{plain, port_addr, filter_addr}
 use Rattle.seq_state.specs.Heard.{port_at, port_bytes}
 use Rattle.seq_state.specs.Circle.{IsClosed, view, Came, Told, Outside}
 
@@ -27,9 +25,6 @@ an_input moment actor command = record { moment = moment; actor = actor; command
 
 abbrev pub caps_by_bits : ℕ → Caps
 caps_by_bits bits = record { 0 = bits }
-
-abbrev pub filter_addr : ℕ → ℕ → Addr
-filter_addr client n = record { client = client; node = Filter n }
 
 abbrev pub a_queue : ℕ → ℕ → QueueAddr
 a_queue client queue = record { client = client; queue = queue }

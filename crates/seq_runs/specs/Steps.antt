@@ -13,8 +13,8 @@ use Rattle.seq_state.specs.declared.log.Reply.TheVariants.{Done, Queue, Received
 use Rattle.seq_state.specs.Files.{File}
 use Rattle.seq_state.specs.State.{FilterInfo, Client, Pool, Pending, State}
 use Rattle.seq_state.specs.Own.{held_queue, one_tempo, public}
-use Rattle.seq_state.specs.Step.{step, port_addr}
-use Rattle.seq_runs.specs.Rows.{an_input, caps_by_bits, filter_addr, a_queue, a_note, a_delivery, an_arrival, song}
+use Rattle.seq_state.specs.Step.{step, port_addr, filter_addr}
+use Rattle.seq_runs.specs.Rows.{an_input, caps_by_bits, a_queue, a_note, a_delivery, an_arrival, song}
 use Rattle.seq_runs.specs.Examples.{out_port, in_port}
 
 -- ---- the state

@@ -50,7 +50,8 @@ pub(crate) fn read_all<R: Source>(
     ensures told { AllTell R.tells sources.old
         → OnOk result (scripts.new.items ≡ scripts.old.items ++ told R.left sources.old) }
     ensures of_clients { OnOk result
-        (script_clients scripts.new.items ≡ script_clients scripts.old.items ++ clients sources.old) }
+        (script_clients scripts.new.items
+        ≡ script_clients scripts.old.items ++ clients sources.old) }
     ensures clients { clients sources.new ≡ clients sources.old }
     ensures marks { ReadersTell R.failed (reader_blamed result) sources.new }
     ensures blamed { IfSome (reader_blamed result) (λ k. IsAmong k (clients sources.old)) }

@@ -13,7 +13,7 @@ use Rattle.seq_state.proofs.Effects.{get-put}
 use Rattle.node_table.specs.declared.number.QueueAddr.{QueueAddr}
 use Rattle.seq_state.specs.Step.{is_left}
 use Rattle.agenda_heap.specs.declared.due_key.DueKey.{DueKey}
-use Rattle.seq_settle.specs.Cells.{Left, Cell, pending_in, playbacks, are_in_order, AreCells, key_of, AreKeys}
+use Rattle.seq_settle.specs.Cells.{Left, Cell, pending_in, playbacks, are_in_order, AreCells, key_of, AreFirstKeys}
 use Rattle.seq_settle.specs.Sends.{next_due, new_left}
 use Rattle.seq_settle.proofs.Stores.{Fits, put_cells, playbacks-new, playbacks-later}
 use Rattle.seq_settle.proofs.Turn.{key_of-some}
@@ -38,7 +38,7 @@ pub none_added : (cells : FinMap nat_cmp Cell) (n : ℕ) (client port : ℕ) (qu
 none_added cells n client port queue accepted [] are e = playbacks-later cells n are ∙ sym (append-nil (playbacks cells n))
 none_added cells n client port queue accepted (x ∷ xs) are e = absurd (none_some x.due (sym e))
 
-module _ (clients : FinMap nat_cmp Client) (cells cells' : FinMap nat_cmp Cell) (agenda : FinMap nat_cmp DueKey) (n k : ℕ) (client port : ℕ) (queue : QueueAddr) (accepted : ℕ) (es : List Event) (due : Due) (are : AreCells cells n) (keys : AreKeys clients cells agenda) (ordered : are_in_order es ≡ true) (some : next_due es ≡ Some due)
+module _ (clients : FinMap nat_cmp Client) (cells cells' : FinMap nat_cmp Cell) (agenda : FinMap nat_cmp DueKey) (n k : ℕ) (client port : ℕ) (queue : QueueAddr) (accepted : ℕ) (es : List Event) (due : Due) (are : AreCells cells n) (keys : AreFirstKeys clients cells agenda) (ordered : are_in_order es ≡ true) (some : next_due es ≡ Some due)
     (free : FinMap.get cells k ≡ None) (added : cells' ≡ put cells k (Some ((client, new_left n port queue accepted es)))) where
   abbrev new : Cell
   new = (client, new_left n port queue accepted es)
@@ -64,8 +64,8 @@ module _ (clients : FinMap nat_cmp Client) (cells cells' : FinMap nat_cmp Cell) 
   pub added_tasks : playbacks cells' (n + 1) ≡ playbacks cells n ++ filter is_left (pending_in (client, new_left n port queue accepted es) ∷ [])
   added_tasks = ap (λ x. playbacks x (n + 1)) added ∙ playbacks-new cells n k new are there free refl ∙ ap (λ b. playbacks cells n ++ cond b (pending_in (client, new_left n port queue accepted es) ∷ []) []) (sym (filled es some))
 
-  pub added_keys : (agenda' : FinMap nat_cmp DueKey) → agenda' ≡ put agenda k (key_of clients (Some new)) → AreKeys clients cells' agenda'
-  added_keys agenda' a = subst (λ x. AreKeys clients x agenda') (sym added) (subst (AreKeys clients (put cells k (Some new))) (sym a) (keys_put clients cells agenda k (Some new) keys))
+  pub added_keys : (agenda' : FinMap nat_cmp DueKey) → agenda' ≡ put agenda k (key_of clients (Some new)) → AreFirstKeys clients cells' agenda'
+  added_keys agenda' a = subst (λ x. AreFirstKeys clients x agenda') (sym added) (subst (AreFirstKeys clients (put cells k (Some new))) (sym a) (keys_put clients cells agenda k (Some new) keys))
 
   pub added_fresh : (x : DueKey) (q : ℕ) → key_of clients (Some new) ≡ Some x → FinMap.get agenda q ≡ Some x → q ≡ k
   added_fresh x q e f =

@@ -11,8 +11,8 @@ use Rattle.cell_pools.specs.Cells.{Store, IsTaken}
 use Rattle.seq_state.specs.State.{Event, put}
 use Rattle.seq_settle.specs.declared.head.Head.{Head}
 use Rattle.seq_settle.specs.declared.head.Popped.{Popped}
-use Rattle.seq_settle.specs.Cells.{Left, Cell, with_rest, rest_of}
-use Rattle.seq_settle.specs.Events.{event_of}
+use Rattle.seq_settle.specs.Cells.{Left, Cell, with_rest, cell_rest}
+use Rattle.seq_settle.specs.Events.{file_event}
 use Rattle.seq_settle.specs.Sends.{head_of, next_due, popped}
 use Rattle.seq_settle.proofs.Stores.{get-put_here, put-put}
 
@@ -24,11 +24,11 @@ some_of x y e = cc
 
 -- ---- the first event of a file
 
-pub first-some : (events : List files.Event) (tick : ℕ) → Some tick ≡ option_map (λ e. e.tick) (slice_get events 0) → Some (Tick tick) ≡ next_due (map event_of events)
+pub first-some : (events : List files.Event) (tick : ℕ) → Some tick ≡ option_map (λ e. e.tick) (slice_get events 0) → Some (Tick tick) ≡ next_due (map file_event events)
 first-some [] tick e = absurd (none_some tick (sym e))
 first-some (x ∷ xs) tick e = ap (λ t. Some (Tick t)) (some_of tick x.tick e)
 
-pub first-none : (events : List files.Event) → None ≡ option_map (λ e. e.tick) (slice_get events 0) → None ≡ next_due (map event_of events)
+pub first-none : (events : List files.Event) → None ≡ option_map (λ e. e.tick) (slice_get events 0) → None ≡ next_due (map file_event events)
 first-none [] e = refl
 first-none (x ∷ xs) e = absurd (none_some x.tick e)
 
@@ -54,7 +54,7 @@ module _ (cells after : FinMap nat_cmp Cell) (k : ℕ) (c : Cell) (e : Event) (e
 
 -- the cell goes with its last event
 pub rest-is : (cells : FinMap nat_cmp Cell) (after last : Store Left) (k : ℕ) (c : Cell) (e : Event) (es : List Event) (h : Head) → after.cells ≡ FinMap.insert cells k (c.0, with_rest c.1 es) →
-    Some h ≡ option_map head_of (FinMap.get after.cells k) → (h.due ≡ None → IsTaken after last k) → (IsSome h.due → last ≡ after) → last.cells ≡ put cells k (rest_of c es)
+    Some h ≡ option_map head_of (FinMap.get after.cells k) → (h.due ≡ None → IsTaken after last k) → (IsSome h.due → last ≡ after) → last.cells ≡ put cells k (cell_rest c es)
 rest-is cells after last k c e [] h went is spent left =
     let taken : IsTaken after last k = spent (due-is cells after.cells k c e [] went h is) in
     taken.cells ∙ ap (λ m. put m k None) went ∙ put-put cells k (Some (c.0, with_rest c.1 [])) None

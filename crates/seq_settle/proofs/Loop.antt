@@ -12,7 +12,7 @@ use Rattle.seq_state.proofs.Effects.{get-put}
 use Rattle.agenda_heap.specs.declared.due_key.DueKey.{DueKey}
 use Rattle.seq_settle.specs.declared.head.Popped.{Popped}
 use Rattle.agenda_heap.specs.Due.{IsFirstDue, NoneDue}
-use Rattle.seq_settle.specs.Cells.{Cell, pending_in, playbacks, seen, AreCells, key_of, AreKeys, rest_of, events_in}
+use Rattle.seq_settle.specs.Cells.{Cell, pending_in, playbacks, seen, AreCells, key_of, AreFirstKeys, cell_rest, events_in}
 use Rattle.seq_settle.specs.Sends.{copies_of, popped, key_of_head}
 use Rattle.seq_settle.proofs.Stores.{put-put}
 use Rattle.seq_settle.proofs.Turn.{key_of-some, settle_turn, settle_end, after_cells, fewer}
@@ -24,12 +24,12 @@ some_of : {X : Type 0} (x y : X) → Some x ≡ Some y → x ≡ y
 some_of x y e = cc
 
 -- the key of the next event is that of what is left of the cell
-pub next_is : (clients : FinMap nat_cmp Client) (c : Cell) (e : Event) (es : List Event) → key_of_head clients (popped c e es).head ≡ key_of clients (rest_of c es)
+pub next_is : (clients : FinMap nat_cmp Client) (c : Cell) (e : Event) (es : List Event) → key_of_head clients (popped c e es).head ≡ key_of clients (cell_rest c es)
 next_is clients c e [] = refl
 next_is clients c e (x ∷ xs) = refl
 
 -- a cell and its key change together
-pub keys_put : (clients : FinMap nat_cmp Client) (cells : FinMap nat_cmp Cell) (agenda : FinMap nat_cmp DueKey) (k : ℕ) (o : Option Cell) → AreKeys clients cells agenda → AreKeys clients (put cells k o) (put agenda k (key_of clients o))
+pub keys_put : (clients : FinMap nat_cmp Client) (cells : FinMap nat_cmp Cell) (agenda : FinMap nat_cmp DueKey) (k : ℕ) (o : Option Cell) → AreFirstKeys clients cells agenda → AreFirstKeys clients (put cells k o) (put agenda k (key_of clients o))
 keys_put clients cells agenda k o keys = record {
   keyed = λ q. get-put agenda k (key_of clients o) q ∙ ap (cond (eqb q k) (key_of clients o)) (keys.keyed q) ∙ go q (eqb q k) ∙ sym (ap (key_of clients) (get-put cells k o q));
 }
@@ -43,7 +43,7 @@ keys_put clients cells agenda k o keys = record {
 -- What the loop keeps: from what it began with, the state and the deliveries of settling are those that it comes to.
 pub record Keeps (clients : FinMap nat_cmp Client) (edges : List Edge) (n m : ℕ) (goal : State) (told : List Delivery) (pools : FinMap nat_cmp Pool) (log : List Delivery) (cells : FinMap nat_cmp Cell) (agenda : FinMap nat_cmp DueKey) : Type 0 where
   pub are : AreCells cells n
-  pub keys : AreKeys clients cells agenda
+  pub keys : AreFirstKeys clients cells agenda
   pub state : (settle (seen clients pools edges cells n) m).state ≡ goal
   pub told_is : log ++ (settle (seen clients pools edges cells n) m).delivered ≡ told
 
@@ -63,7 +63,7 @@ first_of p [] f h = let bad : false ≡ true = ap (λ xs. has xs) (sym f) ∙ h 
     has (e ∷ es) = true
 first_of p (e ∷ es) f h = (e, es, refl)
 
-pub given : (clients : FinMap nat_cmp Client) (cells : FinMap nat_cmp Cell) (agenda : FinMap nat_cmp DueKey) (n m k : ℕ) (key : DueKey) → AreCells cells n → AreKeys clients cells agenda → IsFirstDue agenda k key m → Given cells k
+pub given : (clients : FinMap nat_cmp Client) (cells : FinMap nat_cmp Cell) (agenda : FinMap nat_cmp DueKey) (n m k : ℕ) (key : DueKey) → AreCells cells n → AreFirstKeys clients cells agenda → IsFirstDue agenda k key m → Given cells k
 given clients cells agenda n m k key are keys first =
     let h = key_of-some clients (FinMap.get cells k) key (sym (keys.keyed k) ∙ first.here) in
     let f = first_of (pending_in h.0) h.0.1.events refl (are.filled k h.0 h.1) in
@@ -73,7 +73,7 @@ given clients cells agenda n m k key are keys first =
 pub turn : (clients : FinMap nat_cmp Client) (edges : List Edge) (n m : ℕ) (goal : State) (told : List Delivery) (pools pools' : FinMap nat_cmp Pool) (log log' : List Delivery) (cells cells' : FinMap nat_cmp Cell) (agenda agenda' : FinMap nat_cmp DueKey)
     (k : ℕ) (key : DueKey) (r : Popped) (next : Option DueKey) → Keeps clients edges n m goal told pools log cells agenda → IsFirstDue agenda k key m →
     ((c : Cell) (e : Event) (es : List Event) → FinMap.get cells k ≡ Some c → c.1.events ≡ e ∷ es → Some r ≡ Some (popped c e es)) →
-    ((c : Cell) (e : Event) (es : List Event) → FinMap.get cells k ≡ Some c → c.1.events ≡ e ∷ es → cells' ≡ put cells k (rest_of c es)) →
+    ((c : Cell) (e : Event) (es : List Event) → FinMap.get cells k ≡ Some c → c.1.events ≡ e ∷ es → cells' ≡ put cells k (cell_rest c es)) →
     pools' ≡ offered pools (copies_of clients edges key.moment r.head.client r.head.port r.message) → log' ≡ log ++ delivered pools (copies_of clients edges key.moment r.head.client r.head.port r.message) →
     next ≡ key_of_head clients r.head → agenda' ≡ put (FinMap.remove agenda k) k next → Keeps clients edges n m goal told pools' log' cells' agenda'
 turn clients edges n m goal told pools pools' log log' cells cells' agenda agenda' k key r next kept first event rest p l nk a =
@@ -81,42 +81,42 @@ turn clients edges n m goal told pools pools' log log' cells cells' agenda agend
     let c : Cell = g.cell in
     let r_is : r ≡ popped c g.event g.rest = some_of _ _ (event c g.event g.rest g.here g.events) in
     let ds : List Delivery = copies_of clients edges key.moment c.0 c.1.port g.event.message in
-    let cs : FinMap nat_cmp Cell = put cells k (rest_of c g.rest) in
+    let cs : FinMap nat_cmp Cell = put cells k (cell_rest c g.rest) in
     let cells_is : cells' ≡ cs = rest c g.event g.rest g.here g.events in
     let pools_is : pools' ≡ offered pools ds = p ∙ ap (λ (x : Popped). offered pools (copies_of clients edges key.moment x.head.client x.head.port x.message)) r_is in
     let log_is : log' ≡ log ++ delivered pools ds = l ∙ ap (λ (x : Popped). log ++ delivered pools (copies_of clients edges key.moment x.head.client x.head.port x.message)) r_is in
-    let next_is_key : next ≡ key_of clients (rest_of c g.rest) = nk ∙ ap (λ (x : Popped). key_of_head clients x.head) r_is ∙ next_is clients c g.event g.rest in
-    let agenda_is : agenda' ≡ put agenda k (key_of clients (rest_of c g.rest)) = a ∙ put-put agenda k None next ∙ ap (put agenda k) next_is_key in
+    let next_is_key : next ≡ key_of clients (cell_rest c g.rest) = nk ∙ ap (λ (x : Popped). key_of_head clients x.head) r_is ∙ next_is clients c g.event g.rest in
+    let agenda_is : agenda' ≡ put agenda k (key_of clients (cell_rest c g.rest)) = a ∙ put-put agenda k None next ∙ ap (put agenda k) next_is_key in
     let h = settle_turn clients cells agenda n kept.are kept.keys pools edges k m key first c g.here g.event g.rest g.events in
     let moved : State = seen clients (offered pools ds) edges cs n in
     record {
       are = subst (λ x. AreCells x n) (sym cells_is) (after_cells clients cells agenda n kept.are kept.keys pools edges k m key first c g.here g.event g.rest g.events);
-      keys = subst (λ x. AreKeys clients x agenda') (sym cells_is) (subst (AreKeys clients cs) (sym agenda_is) (keys_put clients cells agenda k (rest_of c g.rest) kept.keys));
+      keys = subst (λ x. AreFirstKeys clients x agenda') (sym cells_is) (subst (AreFirstKeys clients cs) (sym agenda_is) (keys_put clients cells agenda k (cell_rest c g.rest) kept.keys));
       state = ap (λ x. (settle (seen clients pools' edges x n) m).state) cells_is ∙ ap (λ x. (settle (seen clients x edges cs n) m).state) pools_is ∙ sym h.0 ∙ kept.state;
       told_is = ap (λ x. log' ++ (settle (seen clients pools' edges x n) m).delivered) cells_is ∙ ap (λ x. log' ++ (settle (seen clients x edges cs n) m).delivered) pools_is
           ∙ ap (λ xs. xs ++ (settle moved m).delivered) log_is ∙ append_assoc log (delivered pools ds) (settle moved m).delivered ∙ ap (λ xs. log ++ xs) (sym h.1) ∙ kept.told_is;
     }
 
 -- and the cells have an event less
-pub turn_fewer : (clients : FinMap nat_cmp Client) (edges : List Edge) (n m : ℕ) (pools : FinMap nat_cmp Pool) (cells cells' : FinMap nat_cmp Cell) (agenda : FinMap nat_cmp DueKey) (k : ℕ) (key : DueKey) → AreCells cells n → AreKeys clients cells agenda → IsFirstDue agenda k key m →
-    ((c : Cell) (e : Event) (es : List Event) → FinMap.get cells k ≡ Some c → c.1.events ≡ e ∷ es → cells' ≡ put cells k (rest_of c es)) → events_in (playbacks cells' n) < events_in (playbacks cells n)
+pub turn_fewer : (clients : FinMap nat_cmp Client) (edges : List Edge) (n m : ℕ) (pools : FinMap nat_cmp Pool) (cells cells' : FinMap nat_cmp Cell) (agenda : FinMap nat_cmp DueKey) (k : ℕ) (key : DueKey) → AreCells cells n → AreFirstKeys clients cells agenda → IsFirstDue agenda k key m →
+    ((c : Cell) (e : Event) (es : List Event) → FinMap.get cells k ≡ Some c → c.1.events ≡ e ∷ es → cells' ≡ put cells k (cell_rest c es)) → events_in (playbacks cells' n) < events_in (playbacks cells n)
 turn_fewer clients edges n m pools cells cells' agenda k key are keys first rest =
     let g : Given cells k = given clients cells agenda n m k key are keys first in
-    let cells_is : cells' ≡ put cells k (rest_of g.cell g.rest) = rest g.cell g.event g.rest g.here g.events in
+    let cells_is : cells' ≡ put cells k (cell_rest g.cell g.rest) = rest g.cell g.event g.rest g.here g.events in
     subst (λ x. events_in (playbacks x n) < events_in (playbacks cells n)) (sym cells_is) (fewer clients cells agenda n are keys pools edges k m key first g.cell g.here g.event g.rest g.events)
 
 -- a key that no other cell has
-pub fresh_next : (clients : FinMap nat_cmp Client) (n m : ℕ) (cells : FinMap nat_cmp Cell) (agenda agenda1 : FinMap nat_cmp DueKey) (k : ℕ) (key : DueKey) (r : Popped) (next : Option DueKey) → AreCells cells n → AreKeys clients cells agenda → IsFirstDue agenda k key m →
+pub fresh_next : (clients : FinMap nat_cmp Client) (n m : ℕ) (cells : FinMap nat_cmp Cell) (agenda agenda1 : FinMap nat_cmp DueKey) (k : ℕ) (key : DueKey) (r : Popped) (next : Option DueKey) → AreCells cells n → AreFirstKeys clients cells agenda → IsFirstDue agenda k key m →
     ((c : Cell) (e : Event) (es : List Event) → FinMap.get cells k ≡ Some c → c.1.events ≡ e ∷ es → Some r ≡ Some (popped c e es)) → agenda1 ≡ FinMap.remove agenda k → next ≡ key_of_head clients r.head →
     (x : DueKey) (q : ℕ) → next ≡ Some x → FinMap.get agenda1 q ≡ Some x → q ≡ k
 fresh_next clients n m cells agenda agenda1 k key r next are keys first event gone nk x q e f =
     let g : Given cells k = given clients cells agenda n m k key are keys first in
     let r_is : r ≡ popped g.cell g.event g.rest = some_of _ _ (event g.cell g.event g.rest g.here g.events) in
-    let h = key_of-some clients (rest_of g.cell g.rest) x (sym (nk ∙ ap (λ (x : Popped). key_of_head clients x.head) r_is ∙ next_is clients g.cell g.event g.rest) ∙ e) in
+    let h = key_of-some clients (cell_rest g.cell g.rest) x (sym (nk ∙ ap (λ (x : Popped). key_of_head clients x.head) r_is ∙ next_is clients g.cell g.event g.rest) ∙ e) in
     let rank : h.0.1.rank ≡ g.cell.1.rank = rest_rank g.cell g.rest h.0 h.1 in
     go (eqb q k) refl (sym (get-put agenda k None q) ∙ ap (λ a. FinMap.get a q) (sym gone) ∙ f) (sym h.3 ∙ rank) g
   where
-    rest_rank : (c : Cell) (es : List Event) (d : Cell) → rest_of c es ≡ Some d → d.1.rank ≡ c.1.rank
+    rest_rank : (c : Cell) (es : List Event) (d : Cell) → cell_rest c es ≡ Some d → d.1.rank ≡ c.1.rank
     rest_rank c [] d e = absurd (none_some d e)
     rest_rank c (y ∷ ys) d e = ap (λ (z : Cell). z.1.rank) (sym (some_of _ d e))
 
@@ -137,7 +137,7 @@ loop_end clients edges n m goal told pools log cells agenda kept none =
 pub turn_from : (clients : FinMap nat_cmp Client) (edges : List Edge) (n m : ℕ) (goal : State) (told : List Delivery) (pools pools' : FinMap nat_cmp Pool) (log log' : List Delivery) (cells cells' : FinMap nat_cmp Cell) (agenda agenda1 agenda' : FinMap nat_cmp DueKey)
     (k : ℕ) (key : DueKey) (r : Popped) (next : Option DueKey) → Keeps clients edges n m goal told pools log cells agenda → IsFirstDue agenda k key m →
     ((c : Cell) (e : Event) (es : List Event) → FinMap.get cells k ≡ Some c → c.1.events ≡ e ∷ es → Some r ≡ Some (popped c e es)) →
-    ((c : Cell) (e : Event) (es : List Event) → FinMap.get cells k ≡ Some c → c.1.events ≡ e ∷ es → cells' ≡ put cells k (rest_of c es)) →
+    ((c : Cell) (e : Event) (es : List Event) → FinMap.get cells k ≡ Some c → c.1.events ≡ e ∷ es → cells' ≡ put cells k (cell_rest c es)) →
     (clients0 clients1 : FinMap nat_cmp Client) (edges0 : List Edge) → clients0 ≡ clients → edges0 ≡ edges → clients1 ≡ clients0 →
     pools' ≡ offered pools (copies_of clients0 edges0 key.moment r.head.client r.head.port r.message) → log' ≡ log ++ delivered pools (copies_of clients0 edges0 key.moment r.head.client r.head.port r.message) →
     next ≡ key_of_head clients1 r.head → agenda1 ≡ FinMap.remove agenda k → agenda' ≡ put agenda1 k next → Keeps clients edges n m goal told pools' log' cells' agenda'
@@ -148,7 +148,7 @@ turn_from clients edges n m goal told pools pools' log log' cells cells' agenda 
     (p ∙ ap (offered pools) ds) (l ∙ ap (λ x. log ++ delivered pools x) ds) (nk ∙ ap (λ x. key_of_head x r.head) (same1 ∙ same)) (a ∙ ap (λ x. put x k next) gone)
 
 -- a cell that an agenda gives has an event
-pub has_event : (clients : FinMap nat_cmp Client) (cells : FinMap nat_cmp Cell) (agenda : FinMap nat_cmp DueKey) (n m k : ℕ) (key : DueKey) (o : Option Popped) → AreCells cells n → AreKeys clients cells agenda → IsFirstDue agenda k key m →
+pub has_event : (clients : FinMap nat_cmp Client) (cells : FinMap nat_cmp Cell) (agenda : FinMap nat_cmp DueKey) (n m k : ℕ) (key : DueKey) (o : Option Popped) → AreCells cells n → AreFirstKeys clients cells agenda → IsFirstDue agenda k key m →
     ((c : Cell) (e : Event) (es : List Event) → FinMap.get cells k ≡ Some c → c.1.events ≡ e ∷ es → o ≡ Some (popped c e es)) → o ≡ None → ⊥
 has_event clients cells agenda n m k key o are keys first event none =
     let g : Given cells k = given clients cells agenda n m k key are keys first in

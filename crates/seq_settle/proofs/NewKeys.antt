@@ -8,13 +8,13 @@ use Rattle.std.specs.FinMap.{FinMap}
 use Rattle.std.proofs.lemmas.Bool.{false≢true, eqb-true}
 use Rattle.std.proofs.lemmas.List.{take_all}
 use Rattle.agenda_heap.specs.declared.due_key.DueKey.{DueKey}
-use Rattle.cell_pools.specs.Cells.{AreKeys as AreListed, cells_of, is_of}
+use Rattle.cell_pools.specs.Cells.{AreKeys, cells_of, is_of}
 use Rattle.node_table.specs.declared.number.QueueAddr.{QueueAddr}
 use Rattle.seq_state.specs.State.{Client, Event, put}
 use Rattle.seq_state.proofs.Effects.{get-put}
 use Rattle.seq_settle.specs.declared.head.Head.{Head}
 use Rattle.seq_settle.specs.Moments.{SameMoments}
-use Rattle.seq_settle.specs.Cells.{Cell, pending_in, AreCells, key_of, key_at, first_moment, AreKeys}
+use Rattle.seq_settle.specs.Cells.{Cell, pending_in, AreCells, key_of, cell_key, first_moment, AreFirstKeys}
 use Rattle.seq_settle.specs.Sends.{head_of, key_of_head, key_of_first, next_due}
 use Rattle.seq_settle.specs.Rekeyed.{OthersSame, AreKeysSo}
 use Rattle.seq_settle.proofs.Marks.{has, has-here, has-take, has-is, mark-one}
@@ -32,12 +32,12 @@ some_of x y e = cc
 pub key_same : (was clients : FinMap nat_cmp Client) (c : Cell) → SameMoments was clients c.1.queue → key_of was (Some c) ≡ key_of clients (Some c)
 key_same was clients c same = go c.1.events
   where
-    go : (es : List Event) → key_at c (first_moment was (pending_in c) es) ≡ key_at c (first_moment clients (pending_in c) es)
+    go : (es : List Event) → cell_key c (first_moment was (pending_in c) es) ≡ cell_key c (first_moment clients (pending_in c) es)
     go [] = refl
-    go (x ∷ xs) = ap (key_at c) (same c.1.accepted x.due)
+    go (x ∷ xs) = ap (cell_key c) (same c.1.accepted x.due)
 
 -- where each cell's queue gives the same moments, the keys stay
-pub keys_stay : (was clients : FinMap nat_cmp Client) (cells : FinMap nat_cmp Cell) (agenda : FinMap nat_cmp DueKey) → ((q : ℕ) (c : Cell) → FinMap.get cells q ≡ Some c → SameMoments was clients c.1.queue) → AreKeys was cells agenda → AreKeys clients cells agenda
+pub keys_stay : (was clients : FinMap nat_cmp Client) (cells : FinMap nat_cmp Cell) (agenda : FinMap nat_cmp DueKey) → ((q : ℕ) (c : Cell) → FinMap.get cells q ≡ Some c → SameMoments was clients c.1.queue) → AreFirstKeys was cells agenda → AreFirstKeys clients cells agenda
 keys_stay was clients cells agenda same keys = record { keyed = λ q. keys.keyed q ∙ go q (FinMap.get cells q) refl }
   where
     go : (q : ℕ) (o : Option Cell) → FinMap.get cells q ≡ o → key_of was o ≡ key_of clients o
@@ -48,7 +48,7 @@ keys_stay was clients cells agenda same keys = record { keyed = λ q. keys.keyed
 pub key_of_head-is : (clients : FinMap nat_cmp Client) (c : Cell) → key_of_head clients (head_of c) ≡ key_of clients (Some c)
 key_of_head-is clients c = go c.1.events
   where
-    go : (es : List Event) → key_of_first clients (head_of c) (next_due es) ≡ key_at c (first_moment clients (pending_in c) es)
+    go : (es : List Event) → key_of_first clients (head_of c) (next_due es) ≡ cell_key c (first_moment clients (pending_in c) es)
     go [] = refl
     go (x ∷ xs) = refl
 
@@ -87,7 +87,7 @@ module _ (was clients : FinMap nat_cmp Client) (cells : FinMap nat_cmp Cell) (ag
       go false t b = refl
 
   -- all that is not done has the same key
-  pub so-end : ((q : ℕ) (c : Cell) → FinMap.get cells q ≡ Some c → done q ≡ false → SameMoments was clients c.1.queue) → AreKeys clients cells agenda
+  pub so-end : ((q : ℕ) (c : Cell) → FinMap.get cells q ≡ Some c → done q ≡ false → SameMoments was clients c.1.queue) → AreFirstKeys clients cells agenda
   so-end same = record { keyed = λ q. so q ∙ go q (done q) refl (FinMap.get cells q) refl }
     where
       go : (q : ℕ) (b : Bool) → done q ≡ b → (o : Option Cell) → FinMap.get cells q ≡ o → cond b (key_of clients o) (key_of was o) ≡ key_of clients o
@@ -111,7 +111,7 @@ queue-apart a b h e =
     false≢true (sym h ∙ ap (λ x. x && eqb a.queue b.queue) (eq-eqb a.client b.client (ap (λ (q : QueueAddr). q.client) e)) ∙ eq-eqb a.queue b.queue (ap (λ (q : QueueAddr). q.queue) e))
 
 -- where a key is listed, a cell is there
-pub listed-there : (cells : FinMap nat_cmp Cell) (owner : ℕ) (ks : List ℕ) (i k : ℕ) → AreListed (cells_of cells owner) ks → slice_get ks i ≡ Some k → None ≡ option_map head_of (FinMap.get cells k) → ⊥
+pub listed-there : (cells : FinMap nat_cmp Cell) (owner : ℕ) (ks : List ℕ) (i k : ℕ) → AreKeys (cells_of cells owner) ks → slice_get ks i ≡ Some k → None ≡ option_map head_of (FinMap.get cells k) → ⊥
 listed-there cells owner ks i k keys at e = go (FinMap.get cells k) (sym (has-is cells owner ks keys k) ∙ has-here k ks i at) e
   where
     go : (o : Option Cell) → is_of owner o ≡ true → None ≡ option_map head_of o → ⊥
@@ -144,7 +144,7 @@ module _ (was clients : FinMap nat_cmp Client) (queue : QueueAddr) (same : Other
       (ap (key_of was) c.1 ∙ key_same was clients c.0 (same c.0.1.queue (λ e. other (c.2 ∙ e))) ∙ sym (ap (key_of clients) c.1)))
 
 -- all of the owner's are done
-pub rekeyed-all : (was clients : FinMap nat_cmp Client) (cells : FinMap nat_cmp Cell) (agenda : FinMap nat_cmp DueKey) (owner : ℕ) (ks : List ℕ) (i : ℕ) (done : ℕ → Bool) → AreListed (cells_of cells owner) ks → length ks ≤ i →
+pub rekeyed-all : (was clients : FinMap nat_cmp Client) (cells : FinMap nat_cmp Cell) (agenda : FinMap nat_cmp DueKey) (owner : ℕ) (ks : List ℕ) (i : ℕ) (done : ℕ → Bool) → AreKeys (cells_of cells owner) ks → length ks ≤ i →
     AreKeysSo was clients cells agenda (λ q. has q (take i ks) || done q) → AreKeysSo was clients cells agenda (λ q. done q || is_of owner (FinMap.get cells q))
 rekeyed-all was clients cells agenda owner ks i done keys past so =
     so-same was clients cells agenda (λ q. has q (take i ks) || done q) (λ q. done q || is_of owner (FinMap.get cells q)) (λ q.
@@ -159,7 +159,7 @@ rekeyed-all was clients cells agenda owner ks i done keys past so =
 -- ---- the cells of all owners
 
 -- none is done
-pub so-start : (was clients : FinMap nat_cmp Client) (cells : FinMap nat_cmp Cell) (agenda : FinMap nat_cmp DueKey) (done : ℕ → Bool) → ((q : ℕ) → done q ≡ false) → AreKeys was cells agenda → AreKeysSo was clients cells agenda done
+pub so-start : (was clients : FinMap nat_cmp Client) (cells : FinMap nat_cmp Cell) (agenda : FinMap nat_cmp DueKey) (done : ℕ → Bool) → ((q : ℕ) → done q ≡ false) → AreFirstKeys was cells agenda → AreKeysSo was clients cells agenda done
 so-start was clients cells agenda done none keys q = keys.keyed q ∙ sym (ap (λ b. cond b (key_of clients (FinMap.get cells q)) (key_of was (FinMap.get cells q))) (none q))
 
 -- what is not the owner's is not on the owner's queue, where others have nothing there

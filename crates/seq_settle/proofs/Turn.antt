@@ -16,7 +16,7 @@ use Rattle.seq_state.proofs.Settling.{upto-none}
 use Rattle.seq_state.proofs.Pop.{with_pending, is_late, not_before, is_rising, is_rising_from, all_late, late_first, settle-least, all, others}
 use Rattle.agenda_heap.specs.declared.due_key.DueKey.{DueKey}
 use Rattle.agenda_heap.specs.Due.{due_cmp, IsFirstDue, NoneDue}
-use Rattle.seq_settle.specs.Cells.{Cell, at_rank, ranked, playbacks, seen, are_in_order, pending_in, AreCells, first_moment, key_at, key_of, AreKeys, with_events, rest_of, due_le, events_in}
+use Rattle.seq_settle.specs.Cells.{Cell, at_rank, ranked, playbacks, seen, are_in_order, pending_in, AreCells, first_moment, cell_key, key_of, AreFirstKeys, with_events, cell_rest, due_le, events_in}
 use Rattle.seq_settle.proofs.Clocks.{event_moment-is, event_moment-rises}
 use Rattle.seq_settle.specs.Moments.{moment_at}
 use Rattle.seq_settle.proofs.Ranks.{at_rank-some, ranked_from, ranked-all, all_of}
@@ -30,7 +30,7 @@ none_some x e = cc
 
 -- ---- keys
 
-pub key_at-some : (c : Cell) (o : Option ℕ) (key : DueKey) → key_at c o ≡ Some key → (o ≡ Some key.moment) × (c.1.rank ≡ key.rank)
+pub key_at-some : (c : Cell) (o : Option ℕ) (key : DueKey) → cell_key c o ≡ Some key → (o ≡ Some key.moment) × (c.1.rank ≡ key.rank)
 key_at-some c None key e = absurd (none_some key e)
 key_at-some c (Some m) key e = let same : record { moment = m; rank = c.1.rank; place = 0 } ≡ key = some_of _ key e in
     (ap (λ (k : DueKey). Some k.moment) same, ap (λ (k : DueKey). k.rank) same)
@@ -68,15 +68,15 @@ events_in-append (p ∷ ps) qs = let more : events_in (ps ++ qs) ≡ events_in p
 
 -- ---- late playbacks
 
-module _ (clients : FinMap nat_cmp Client) (cells : FinMap nat_cmp Cell) (agenda : FinMap nat_cmp DueKey) (n : ℕ) (are : AreCells cells n) (keys : AreKeys clients cells agenda) where
+module _ (clients : FinMap nat_cmp Client) (cells : FinMap nat_cmp Cell) (agenda : FinMap nat_cmp DueKey) (n : ℕ) (are : AreCells cells n) (keys : AreFirstKeys clients cells agenda) where
   -- a cell whose key, if it has one, comes after j has nothing to send up to j
   pub late_cell : (j q : ℕ) (c : Cell) → FinMap.get cells q ≡ Some c → ((key : DueKey) → FinMap.get agenda q ≡ Some key → j < key.moment) → is_late clients j (pending_in c) ≡ true
   late_cell j q c here after = go c.1.events refl
     where
-      keyed : FinMap.get agenda q ≡ key_at c (first_moment clients (pending_in c) c.1.events)
+      keyed : FinMap.get agenda q ≡ cell_key c (first_moment clients (pending_in c) c.1.events)
       keyed = keys.keyed q ∙ ap (key_of clients) here
 
-      not_by : (o : Option ℕ) → FinMap.get agenda q ≡ key_at c o → not (is_by j o) ≡ true
+      not_by : (o : Option ℕ) → FinMap.get agenda q ≡ cell_key c o → not (is_by j o) ≡ true
       not_by None e = refl
       not_by (Some m) e = let l : j < m = after (record { moment = m; rank = c.1.rank; place = 0 }) e in ap not (lt-leb m j l)
 
@@ -88,7 +88,7 @@ module _ (clients : FinMap nat_cmp Client) (cells : FinMap nat_cmp Cell) (agenda
       go : (es : List Event) → c.1.events ≡ es → is_late clients j (pending_in c) ≡ true
       go [] f = subst (λ xs. list_all (λ e. not (is_by j (event_moment clients (pending_in c) e))) xs ≡ true) (sym f) refl
       go (e ∷ es) f = late_first clients j (pending_in c) e es f (rising e es f)
-          (ap (λ o. not (is_by j o)) (event_moment-is clients (pending_in c) e) ∙ not_by (moment_at clients c.1.queue c.1.accepted e.due) (keyed ∙ ap (λ xs. key_at c (first_moment clients (pending_in c) xs)) f))
+          (ap (λ o. not (is_by j o)) (event_moment-is clients (pending_in c) e) ∙ not_by (moment_at clients c.1.queue c.1.accepted e.due) (keyed ∙ ap (λ xs. cell_key c (first_moment clients (pending_in c) xs)) f))
 
   -- all playbacks of ranks that a bound on keys covers
   pub late_all : (j m : ℕ) → ((q : ℕ) (c : Cell) (key : DueKey) → FinMap.get cells q ≡ Some c → c.1.rank < m → FinMap.get agenda q ≡ Some key → j < key.moment) → list_all (is_late clients j) (ranked (at_rank cells) m) ≡ true
@@ -105,22 +105,22 @@ module _ (clients : FinMap nat_cmp Client) (cells : FinMap nat_cmp Cell) (agenda
 
   module _ (pools : FinMap nat_cmp Pool) (edges : List Edge) (k m : ℕ) (key : DueKey) (first : IsFirstDue agenda k key m) (c : Cell) (here : FinMap.get cells k ≡ Some c) (e : Event) (es : List Event) (events : c.1.events ≡ e ∷ es) where
     abbrev pub after : FinMap nat_cmp Cell
-    after = put cells k (rest_of c es)
+    after = put cells k (cell_rest c es)
 
     pub its_key : (event_moment clients (pending_in c) e ≡ Some key.moment) × (c.1.rank ≡ key.rank)
     its_key =
         let h = key_at-some c (moment_at clients c.1.queue c.1.accepted e.due) key
-        (ap (λ xs. key_at c (first_moment clients (pending_in c) xs)) (sym events) ∙ sym (ap (key_of clients) here) ∙ sym (keys.keyed k) ∙ first.here) in
+        (ap (λ xs. cell_key c (first_moment clients (pending_in c) xs)) (sym events) ∙ sym (ap (key_of clients) here) ∙ sym (keys.keyed k) ∙ first.here) in
         (event_moment-is clients (pending_in c) e ∙ h.0, h.1)
 
-    rest_rank : (xs : List Event) (d : Cell) → rest_of c xs ≡ Some d → d.1.rank ≡ c.1.rank
+    rest_rank : (xs : List Event) (d : Cell) → cell_rest c xs ≡ Some d → d.1.rank ≡ c.1.rank
     rest_rank [] d f = absurd (none_some d f)
     rest_rank (x ∷ xs) d f = ap (λ (y : Cell). y.1.rank) (sym (some_of _ d f))
 
     pub after_cells : AreCells after n
-    after_cells = put_cells cells n n k (rest_of c es) (omega arith) (λ d f. fits es (both_right (list_all (λ x. due_le e.due x.due) es) (are_in_order es) (subst (λ xs. are_in_order xs ≡ true) events (are.ordered k c here))) d f) are
+    after_cells = put_cells cells n n k (cell_rest c es) (omega arith) (λ d f. fits es (both_right (list_all (λ x. due_le e.due x.due) es) (are_in_order es) (subst (λ xs. are_in_order xs ≡ true) events (are.ordered k c here))) d f) are
       where
-        fits : (xs : List Event) → are_in_order xs ≡ true → (d : Cell) → rest_of c xs ≡ Some d → Fits cells k n d
+        fits : (xs : List Event) → are_in_order xs ≡ true → (d : Cell) → cell_rest c xs ≡ Some d → Fits cells k n d
         fits [] o d f = absurd (none_some d f)
         fits (x ∷ xs) o d f = subst (Fits cells k n) (some_of _ d f) (record {
           early = are.early k c here;
@@ -141,9 +141,9 @@ module _ (clients : FinMap nat_cmp Client) (cells : FinMap nat_cmp Cell) (agenda
 
     is : playbacks after n ≡ before ++ (filter is_left (with_events (pending_in c) es ∷ []) ++ later)
     unfolding before later
-    is = playbacks-changed cells n k c (rest_of c es) are after_cells here (rest_rank es) ∙ ap (λ xs. before ++ (xs ++ later)) (go es)
+    is = playbacks-changed cells n k c (cell_rest c es) are after_cells here (rest_rank es) ∙ ap (λ xs. before ++ (xs ++ later)) (go es)
       where
-        go : (xs : List Event) → option_to_list (pending_of_cell (rest_of c xs)) ≡ filter is_left (with_events (pending_in c) xs ∷ [])
+        go : (xs : List Event) → option_to_list (pending_of_cell (cell_rest c xs)) ≡ filter is_left (with_events (pending_in c) xs ∷ [])
         go [] = refl
         go (x ∷ xs) = refl
 
@@ -206,7 +206,7 @@ same_after clients m (p ∷ ps) h l =
     ∙ ap (λ xs. p ∷ xs) more
 
 -- where nothing is due, settling does nothing
-pub settle_end : (clients : FinMap nat_cmp Client) (pools : FinMap nat_cmp Pool) (edges : List Edge) (cells : FinMap nat_cmp Cell) (agenda : FinMap nat_cmp DueKey) (n m : ℕ) → AreCells cells n → AreKeys clients cells agenda → NoneDue agenda m →
+pub settle_end : (clients : FinMap nat_cmp Client) (pools : FinMap nat_cmp Pool) (edges : List Edge) (cells : FinMap nat_cmp Cell) (agenda : FinMap nat_cmp DueKey) (n m : ℕ) → AreCells cells n → AreFirstKeys clients cells agenda → NoneDue agenda m →
     ((settle (seen clients pools edges cells n) m).state ≡ seen clients pools edges cells n) × ((settle (seen clients pools edges cells n) m).delivered ≡ [])
 settle_end clients pools edges cells agenda n m are keys none =
     let s : State = seen clients pools edges cells n in

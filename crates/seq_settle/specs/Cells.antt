@@ -112,16 +112,16 @@ abbrev pub key_with : ℕ → Option ℕ → Option DueKey
 key_with rank None = None
 key_with rank (Some m) = Some (record { moment = m; rank = rank; place = 0 })
 
-abbrev pub key_at : Cell → Option ℕ → Option DueKey
-key_at c o = key_with c.1.rank o
+abbrev pub cell_key : Cell → Option ℕ → Option DueKey
+cell_key c o = key_with c.1.rank o
 
 -- the key of a cell, where its first event has a moment
 abbrev pub key_of : FinMap nat_cmp Client → Option Cell → Option DueKey
 key_of clients None = None
-key_of clients (Some c) = key_at c (first_moment clients (pending_in c) c.1.events)
+key_of clients (Some c) = cell_key c (first_moment clients (pending_in c) c.1.events)
 
 -- The agenda has for each cell the key of its first event.
-pub record AreKeys (clients : FinMap nat_cmp Client) (cells : FinMap nat_cmp Cell) (agenda : FinMap nat_cmp DueKey) : Type 0 where
+pub record AreFirstKeys (clients : FinMap nat_cmp Client) (cells : FinMap nat_cmp Cell) (agenda : FinMap nat_cmp DueKey) : Type 0 where
   pub keyed : (q : ℕ) → FinMap.get agenda q ≡ key_of clients (FinMap.get cells q)
 
 -- ---- an event goes
@@ -135,9 +135,9 @@ abbrev pub with_rest : Left → List Event → Left
 with_rest l es = record l { events = es }
 
 -- what is left of a cell whose first event went
-abbrev pub rest_of : Cell → List Event → Option Cell
-rest_of c [] = None
-rest_of c (e ∷ es) = Some (c.0, with_rest c.1 (e ∷ es))
+abbrev pub cell_rest : Cell → List Event → Option Cell
+cell_rest c [] = None
+cell_rest c (e ∷ es) = Some (c.0, with_rest c.1 (e ∷ es))
 
 -- the events of all playbacks
 abbrev pub events_in : List Pending → ℕ

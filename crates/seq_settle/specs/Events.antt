@@ -8,8 +8,8 @@ use Rattle.seq_settle.specs.declared.events.Source.TheVariants.{Scheduled, Playe
 use Rattle.seq_state.specs.State.{Event}
 
 -- an event of a file is due at its tick
-abbrev pub event_of : files.Event → Event
-event_of e = record { due = Tick e.tick; message = e.message }
+abbrev pub file_event : files.Event → Event
+file_event e = record { due = Tick e.tick; message = e.message }
 
 abbrev pub scheduled_event : Due → Option (List ℕ) → List Event
 scheduled_event due None = []
@@ -17,4 +17,4 @@ scheduled_event due (Some message) = record { due = due; message = message } ∷
 
 abbrev pub events_seen : Source → List Event
 events_seen (Scheduled due message) = scheduled_event due message
-events_seen (Played cursor) = map event_of cursor
+events_seen (Played cursor) = map file_event cursor

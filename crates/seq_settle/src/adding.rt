@@ -4,7 +4,7 @@ ghost use Rattle.std.specs.Prelude.{◌≡◌, ℕ, ◌<◌, ◌+◌, ◌++◌, 
 ghost use Rattle.std.specs.List.{filter};
 ghost use Rattle.cell_pools.specs.Cells.{size_of, used_by};
 ghost use Rattle.seq_state.specs.Step.{is_left};
-ghost use Rattle.seq_settle.specs.Cells.{AreCells, AreKeys, are_in_order, pending_in, playbacks};
+ghost use Rattle.seq_settle.specs.Cells.{AreCells, AreFirstKeys, are_in_order, pending_in, playbacks};
 ghost use Rattle.seq_settle.specs.Sends.{new_left};
 
 use crate::desk::Desk;
@@ -36,14 +36,16 @@ pub fn add_playback<'b, D: Desk, A: Agenda>(
     accepted: Accepted<'b>,
 ) -> Result<(), OutOfMemory>
     requires cells { AreCells cells.old.cells rank }
-    requires keys { AreKeys (D.clients desk.now) cells.old.cells (A.content agenda.old) }
+    requires keys { AreFirstKeys (D.clients desk.now) cells.old.cells (A.content agenda.old) }
     requires ordered { are_in_order accepted.events ≡ true }
     requires room { used_by cells.old.cells accepted.client < size_of cells.old accepted.client }
-    ensures added { OnOk result (playbacks cells.new.cells (rank + 1)
-        ≡ playbacks cells.old.cells rank
-        ++ filter is_left (pending_in (accepted.entry.client, new_left rank accepted.entry.port accepted.entry.queue accepted.entry.moment accepted.entry.events) ∷ [])) }
+    ensures added { let a = accepted.entry in
+        let added = pending_in (a.client, new_left rank a.port a.queue a.moment a.events) in
+        OnOk result (playbacks cells.new.cells (rank + 1)
+        ≡ playbacks cells.old.cells rank ++ filter is_left (added ∷ [])) }
     ensures cells { OnOk result (AreCells cells.new.cells (rank + 1)) }
-    ensures keys { OnOk result (AreKeys (D.clients desk.now) cells.new.cells (A.content agenda.new)) }
+    ensures keys { OnOk result
+        (AreFirstKeys (D.clients desk.now) cells.new.cells (A.content agenda.new)) }
     ensures sizes { OnOk result ((client : ℕ) →
         size_of cells.new client ≡ size_of cells.old client) }
 {

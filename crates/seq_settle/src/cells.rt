@@ -5,7 +5,7 @@ ghost use Rattle.std.specs.FinMap as map;
 ghost use Rattle.std.specs.Option.{option_map};
 ghost use Rattle.cell_pools.specs.Cells.{size_of, IsTaken};
 ghost use Rattle.seq_state.specs.State.{Event, put};
-ghost use Rattle.seq_settle.specs.Cells.{Cell, with_rest, rest_of};
+ghost use Rattle.seq_settle.specs.Cells.{Cell, with_rest, cell_rest};
 ghost use Rattle.seq_settle.specs.Sends.{head_of, popped};
 
 use crate::head::{Head, Popped};
@@ -36,7 +36,7 @@ pub(crate) fn pop_first(
         → c.1.events ≡ e ∷ es → r ≡ Some (popped c e es)) }
     ensures rest { OnOk result ((c : Cell) (e : Event) (es : List Event) →
         map.get cells.old.cells key ≡ Some c
-        → c.1.events ≡ e ∷ es → cells.new.cells ≡ put cells.old.cells key (rest_of c es)) }
+        → c.1.events ≡ e ∷ es → cells.new.cells ≡ put cells.old.cells key (cell_rest c es)) }
     ensures sizes { OnOk result ((client : ℕ) →
         size_of cells.new client ≡ size_of cells.old client) }
 {

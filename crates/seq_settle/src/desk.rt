@@ -40,7 +40,9 @@ pub trait Desk {
         ensures clients { OnOk result (clients self.new ≡ clients self.old) }
         ensures edges { OnOk result (edges self.new ≡ edges self.old) }
         ensures pools { OnOk result (pools self.new
-            ≡ offered (pools self.old) (copies_of (clients self.old) (edges self.old) moment client port message.now)) }
+            ≡ offered (pools self.old)
+            (copies_of (clients self.old) (edges self.old) moment client port message.now)) }
         ensures sent { OnOk result (out.new.items ≡ out.old.items
-            ++ delivered (pools self.old) (copies_of (clients self.old) (edges self.old) moment client port message.now)) };
+            ++ delivered (pools self.old)
+            (copies_of (clients self.old) (edges self.old) moment client port message.now)) };
 }

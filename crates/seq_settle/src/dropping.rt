@@ -6,7 +6,7 @@ ghost use Rattle.std.specs.Ordering.{nat_cmp};
 ghost use Rattle.std.specs.FinMap as map;
 ghost use Rattle.cell_pools.specs.Cells.{size_of, is_of};
 ghost use Rattle.seq_state.specs.State.{Client};
-ghost use Rattle.seq_settle.specs.Cells.{Cell, AreCells, AreKeys, pending_in, playbacks};
+ghost use Rattle.seq_settle.specs.Cells.{Cell, AreCells, AreFirstKeys, pending_in, playbacks};
 ghost use Rattle.seq_settle.specs.Drops.{chosen, kept_cell, stays, IsDropped};
 
 use crate::cells::{drop_cell, head_at};
@@ -36,8 +36,8 @@ pub fn drop_playbacks<A: Agenda>(
         ≡ filter (stays client which.now) (playbacks cells.old.cells steps) }
     ensures cells { AreCells cells.new.cells steps }
     ensures keys { (clients : map.FinMap nat_cmp Client) →
-        AreKeys clients cells.old.cells (A.content agenda.old)
-        → AreKeys clients cells.new.cells (A.content agenda.new) }
+        AreFirstKeys clients cells.old.cells (A.content agenda.old)
+        → AreFirstKeys clients cells.new.cells (A.content agenda.new) }
     ensures left { (q : ℕ) (c : Cell) → map.get cells.new.cells q ≡ Some c →
         stays client which.now (pending_in c) ≡ true }
     ensures sizes { (owner : ℕ) → size_of cells.new owner ≡ size_of cells.old owner }
@@ -63,10 +63,11 @@ fn drop_of<A: Agenda>(
 )
     ensures cells { (q : ℕ) →
         map.get cells.new.cells q ≡ (if is_of owner (map.get cells.old.cells q)
-        then kept_cell (stays client which.now) (map.get cells.old.cells q) else map.get cells.old.cells q) }
+        then kept_cell (stays client which.now) (map.get cells.old.cells q)
+        else map.get cells.old.cells q) }
     ensures keys { (clients : map.FinMap nat_cmp Client) →
-        AreKeys clients cells.old.cells (A.content agenda.old)
-        → AreKeys clients cells.new.cells (A.content agenda.new) }
+        AreFirstKeys clients cells.old.cells (A.content agenda.old)
+        → AreFirstKeys clients cells.new.cells (A.content agenda.new) }
     ensures sizes { (other : ℕ) → size_of cells.new other ≡ size_of cells.old other }
 {
     for index in (0..cells.used(owner)).rev() {
@@ -86,8 +87,8 @@ fn drop_one<A: Agenda>(
 )
     ensures cells { IsDropped client which.now cells.old cells.new cell }
     ensures keys { (clients : map.FinMap nat_cmp Client) →
-        AreKeys clients cells.old.cells (A.content agenda.old)
-        → AreKeys clients cells.new.cells (A.content agenda.new) }
+        AreFirstKeys clients cells.old.cells (A.content agenda.old)
+        → AreFirstKeys clients cells.new.cells (A.content agenda.new) }
 {
     if let Some(head) = head_at(cells, cell) {
         if chosen(&head, client, which) {

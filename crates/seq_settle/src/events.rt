@@ -2,7 +2,7 @@
 
 ghost use Rattle.std.specs.Prelude.{◌≡◌, List, [], ◌∷◌, map, Some, IfOk, OnOk};
 ghost use Rattle.seq_state.specs.State.{Event};
-ghost use Rattle.seq_settle.specs.Events.{event_of};
+ghost use Rattle.seq_settle.specs.Events.{file_event};
 ghost use Rattle.seq_settle.specs.Sends.{next_due};
 
 use memory::OutOfMemory;
@@ -54,7 +54,7 @@ impl<'b> Events<'b> {
 
     /// What a cursor in a file still gives, each event due at its tick.
     pub fn played(cursor: Cursor<'b>) -> Events<'b>
-        ensures { result ≡ map event_of cursor.entry }
+        ensures { result ≡ map file_event cursor.entry }
     {
         Events {
             source: Source::Played(cursor),

@@ -30,7 +30,13 @@ impl<'b> Model for Playing<'b> {
     ghost coded = { coded_left };
 
     ghost view = { λ p.
-        record { rank = p.rank; port = p.port; queue = p.queue; accepted = p.accepted; events = p.events } };
+        record {
+          rank = p.rank;
+          port = p.port;
+          queue = p.queue;
+          accepted = p.accepted;
+          events = p.events;
+        } };
 }
 
 impl<'b> Playing<'b> {
@@ -41,8 +47,13 @@ impl<'b> Playing<'b> {
         accepted: u64,
         events: Events<'b>,
     ) -> Playing<'b>
-        ensures { result
-            ≡ record { rank = rank; port = port; queue = queue; accepted = accepted; events = events.entry } }
+        ensures { result ≡ record {
+          rank = rank;
+          port = port;
+          queue = queue;
+          accepted = accepted;
+          events = events.entry;
+        } }
     {
         Playing {
             rank,

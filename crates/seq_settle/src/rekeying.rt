@@ -7,7 +7,7 @@ ghost use Rattle.cell_pools.specs.Cells.{is_of};
 ghost use Rattle.node_table.specs.declared.number.QueueAddr.{QueueAddr};
 ghost use Rattle.seq_state.specs.State.{Client};
 ghost use Rattle.seq_settle.specs.Moments.{SameMoments};
-ghost use Rattle.seq_settle.specs.Cells.{Cell, AreCells, AreKeys};
+ghost use Rattle.seq_settle.specs.Cells.{Cell, AreCells, AreFirstKeys};
 ghost use Rattle.seq_settle.specs.Rekeyed.{AreKeysSo, OthersSame};
 
 use crate::cells::head_at;
@@ -34,10 +34,11 @@ pub fn rekey_all<D: Desk, A: Agenda>(
     requires cells { AreCells cells.now.cells steps }
     requires keys { (was : map.FinMap nat_cmp Client)
         × OthersSame was (D.clients desk.now) queue.now
-        × AreKeys was cells.now.cells (A.content agenda.old) }
+        × AreFirstKeys was cells.now.cells (A.content agenda.old) }
     requires alone { foreign ≡ false → (q : ℕ) (c : Cell) → map.get cells.now.cells q ≡ Some c
         → c.1.queue ≡ queue.now → c.0 ≡ queue.now.client }
-    ensures { OnOk result (AreKeys (D.clients desk.now) cells.now.cells (A.content agenda.new)) }
+    ensures { OnOk result
+        (AreFirstKeys (D.clients desk.now) cells.now.cells (A.content agenda.new)) }
 {
     if !foreign {
         return rekey_of(desk, cells, agenda, steps, queue.client, queue);

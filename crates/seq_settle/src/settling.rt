@@ -4,7 +4,7 @@ ghost use Rattle.std.specs.Prelude.{◌≡◌, ℕ, ◌++◌, IsOk, IfOk, OnOk};
 ghost use Rattle.agenda_heap.specs.Due.{NoneDue};
 ghost use Rattle.cell_pools.specs.Cells.{size_of};
 ghost use Rattle.seq_state.specs.Step.{offered, delivered, settle};
-ghost use Rattle.seq_settle.specs.Cells.{AreCells, AreKeys, seen};
+ghost use Rattle.seq_settle.specs.Cells.{AreCells, AreFirstKeys, seen};
 ghost use Rattle.seq_settle.specs.Sends.{copies_of};
 
 use crate::cells::pop_first;
@@ -29,14 +29,18 @@ pub fn settle_all<D: Desk, A: Agenda>(
     out: &mut Vec<Delivery>,
 ) -> Result<(), OutOfMemory>
     requires cells { AreCells cells.old.cells steps }
-    requires keys { AreKeys (D.clients desk.old) cells.old.cells (A.content agenda.old) }
-    ensures state { OnOk result (seen (D.clients desk.new) (D.pools desk.new) (D.edges desk.new) cells.new.cells steps
-        ≡ (settle (seen (D.clients desk.old) (D.pools desk.old) (D.edges desk.old) cells.old.cells steps) moment).state) }
-    ensures delivered { OnOk result (out.new.items
-        ≡ out.old.items
-        ++ (settle (seen (D.clients desk.old) (D.pools desk.old) (D.edges desk.old) cells.old.cells steps) moment).delivered) }
+    requires keys { AreFirstKeys (D.clients desk.old) cells.old.cells (A.content agenda.old) }
+    ensures state { let was = desk.old in
+        let s = seen (D.clients was) (D.pools was) (D.edges was) cells.old.cells steps in
+        OnOk result
+        (seen (D.clients desk.new) (D.pools desk.new) (D.edges desk.new) cells.new.cells steps
+        ≡ (settle s moment).state) }
+    ensures delivered { let was = desk.old in
+        let s = seen (D.clients was) (D.pools was) (D.edges was) cells.old.cells steps in
+        OnOk result (out.new.items ≡ out.old.items ++ (settle s moment).delivered) }
     ensures cells { OnOk result (AreCells cells.new.cells steps) }
-    ensures keys { OnOk result (AreKeys (D.clients desk.new) cells.new.cells (A.content agenda.new)) }
+    ensures keys { OnOk result
+        (AreFirstKeys (D.clients desk.new) cells.new.cells (A.content agenda.new)) }
     ensures sizes { OnOk result ((client : ℕ) →
         size_of cells.new client ≡ size_of cells.old client) }
 
@@ -64,10 +68,14 @@ fn send_popped<D: Desk>(
     ensures head { IfOk result (λ h. h ≡ popped.head) }
     ensures clients { OnOk result (D.clients desk.new ≡ D.clients desk.old) }
     ensures edges { OnOk result (D.edges desk.new ≡ D.edges desk.old) }
-    ensures pools { OnOk result (D.pools desk.new ≡ offered (D.pools desk.old)
-        (copies_of (D.clients desk.old) (D.edges desk.old) moment popped.head.client popped.head.port popped.message)) }
-    ensures sent { OnOk result (out.new.items ≡ out.old.items ++ delivered (D.pools desk.old)
-        (copies_of (D.clients desk.old) (D.edges desk.old) moment popped.head.client popped.head.port popped.message)) }
+    ensures pools { let h = popped.head in
+        let ds = copies_of (D.clients desk.old) (D.edges desk.old)
+        moment h.client h.port popped.message in
+        OnOk result (D.pools desk.new ≡ offered (D.pools desk.old) ds) }
+    ensures sent { let h = popped.head in
+        let ds = copies_of (D.clients desk.old) (D.edges desk.old)
+        moment h.client h.port popped.message in
+        OnOk result (out.new.items ≡ out.old.items ++ delivered (D.pools desk.old) ds) }
 {
     let head = popped.head;
     desk.send(moment, head.client, head.port, &popped.message, out)?;

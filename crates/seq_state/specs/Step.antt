@@ -9,7 +9,7 @@ use Rattle.tempo_clock.specs.declared.due.Due.{Due}
 use Rattle.node_table.specs.declared.caps.Caps.{Caps}
 use Rattle.node_table.specs.declared.number.Addr.{Addr}
 use Rattle.node_table.specs.declared.number.Node.{Node}
-use Rattle.node_table.specs.declared.number.Node.TheVariants.{Port}
+use Rattle.node_table.specs.declared.number.Node.TheVariants.{Port, Filter}
 use Rattle.node_table.specs.declared.number.QueueAddr.{QueueAddr}
 use Rattle.patch_graph.specs.declared.edge.Edge.{Edge}
 use Rattle.seq_state.specs.declared.input.Command.{Command}
@@ -115,6 +115,9 @@ is_left p = has_event p.playback.events
 
 abbrev pub port_addr : ℕ → ℕ → Addr
 port_addr client port = record { client = client; node = Port port }
+
+abbrev pub filter_addr : ℕ → ℕ → Addr
+filter_addr client filter = record { client = client; node = Filter filter }
 
 abbrev pub event_copies : State → Timed → List Delivery
 event_copies s t = copies s t.moment (port_addr t.client t.port) t.message

@@ -87,7 +87,8 @@ fn print_log<W: Sink>(
     ensures text { W.tells out.old ≡ true
         → OnOk result (W.taken out.new ≡ W.taken out.old ++ headed_log client log.now) }
     ensures short { W.tells out.old ≡ true
-        → OnErr result (GainsBytes (W.taken out.old) (W.taken out.new) (headed_log client log.now)) }
+        → OnErr result
+        (GainsBytes (W.taken out.old) (W.taken out.new) (headed_log client log.now)) }
     ensures telling { W.tells out.new ≡ W.tells out.old }
     ensures eager { W.takes_some out.new ≡ W.takes_some out.old }
     ensures unmarked { OnOk result (W.failed out.new ≡ false) }

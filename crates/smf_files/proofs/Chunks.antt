@@ -7,14 +7,14 @@ use Rattle.std.proofs.lemmas.Bool.{le-leb}
 use Rattle.tempo_clock.specs.declared.entry.TempoEntry.{TempoEntry}
 use Rattle.smf_grammar.specs.declared.fault.SmfFault.{SmfFault}
 use Rattle.smf_grammar.specs.Pairs.{Pair}
-use Rattle.smf_grammar.specs.Chunks.{Header, header_at, Chunk, chunk_at, counts_frames}
-use Rattle.smf_grammar.specs.Files.{IsTrack, Item, Other, Track, tracks_in, AreChunks, MidiFile, File, IsChunkFault, Fault}
+use Rattle.smf_grammar.specs.Chunks.{Header, header_at, Chunk, chunk_at, is_frame_division}
+use Rattle.smf_grammar.specs.Files.{IsTrack, Item, Other, Track, tracks_in, AreChunks, MidiFile, IsFile, IsChunkFault, Fault}
 use Rattle.smf_grammar.specs.Reading.{pairs_of}
 use Rattle.smf_grammar.specs.Contents.{tempos_from, skipped_in, skipped_in_all, entries_of, in_order, last_at_each, default_entry}
 use Rattle.smf_grammar.proofs.Whole.{track-content}
 use Rattle.midi_wire.proofs.MessageTests.{and_both}
 use Rattle.smf_files.specs.Taken.{with_tempos, TrackTaken}
-use Rattle.smf_files.specs.Kept.{pairs_or_none, pairs_seen, file_seen, is_track, is_division, are_tempos, IsKept}
+use Rattle.smf_files.specs.Kept.{pairs_or_none, pairs_seen, file_seen, is_track, is_division, are_tempos, IsFileKept}
 use Rattle.smf_files.proofs.Increasing.{kept-in-range}
 
 -- the tempos of all tracks, where tempo counts
@@ -136,7 +136,7 @@ count-taken metrical after left contents tempos skipped w = ap (λ (ts : List (L
 
 -- all tracks are read
 pub chunks-file : (metrical : Bool) (bytes after left : List ℕ) (header : Header) (contents : List (List ℕ)) (tempos : List TempoEntry) (skipped : ℕ) →
-    ChunksTaken metrical after left contents tempos skipped → header_at bytes ≡ Ok (header, after) → length contents ≡ header.tracks → File bytes (file_seen header.format header.division contents)
+    ChunksTaken metrical after left contents tempos skipped → header_at bytes ≡ Ok (header, after) → length contents ≡ header.tracks → IsFile bytes (file_seen header.format header.division contents)
 chunks-file metrical bytes after left header contents tempos skipped w head count = record {
   header = header;
   after = after;
@@ -150,21 +150,21 @@ chunks-file metrical bytes after left header contents tempos skipped w head coun
   tracks = sym w.tracks;
 }
 
-entries-kept : (b : Bool) (metrical : Bool) (f : MidiFile) (tempos entries : List TempoEntry) → counts_frames f.division ≡ b → metrical ≡ not b → tempos ≡ all_tempos metrical f.tracks → entries ≡ (if metrical then last_at_each (default_entry ∷ in_order (λ e. e.tick) tempos) else []) → entries ≡ entries_of f
+entries-kept : (b : Bool) (metrical : Bool) (f : MidiFile) (tempos entries : List TempoEntry) → is_frame_division f.division ≡ b → metrical ≡ not b → tempos ≡ all_tempos metrical f.tracks → entries ≡ (if metrical then last_at_each (default_entry ∷ in_order (λ e. e.tick) tempos) else []) → entries ≡ entries_of f
 entries-kept true metrical f tempos entries is m t e = rw (is) (e ∙ ap (λ (k : Bool). if k then last_at_each (default_entry ∷ in_order (λ e. e.tick) tempos) else []) m)
 entries-kept false metrical f tempos entries is m t e =
     rw (is) (e ∙ ap (λ (k : Bool). if k then last_at_each (default_entry ∷ in_order (λ e. e.tick) tempos) else []) m
     ∙ ap (λ (ts : List TempoEntry). last_at_each (default_entry ∷ in_order (λ e. e.tick) ts)) (t ∙ ap (λ (k : Bool). all_tempos k f.tracks) m))
 
 pub chunks-kept : (metrical : Bool) (after left : List ℕ) (format division : ℕ) (contents : List (List ℕ)) (tempos entries : List TempoEntry) (skipped : ℕ) →
-    ChunksTaken metrical after left contents tempos skipped → metrical ≡ not (counts_frames division) → length contents < 2 ^ 16 → IsTrue (is_division division) → IsTrue (are_tempos tempos) →
-    entries ≡ (if metrical then last_at_each (default_entry ∷ in_order (λ e. e.tick) tempos) else []) → IsKept (file_seen format division contents) contents entries skipped
+    ChunksTaken metrical after left contents tempos skipped → metrical ≡ not (is_frame_division division) → length contents < 2 ^ 16 → IsTrue (is_division division) → IsTrue (are_tempos tempos) →
+    entries ≡ (if metrical then last_at_each (default_entry ∷ in_order (λ e. e.tick) tempos) else []) → IsFileKept (file_seen format division contents) contents entries skipped
 chunks-kept metrical after left format division contents tempos entries skipped w m few whole range e = record {
   tracks = w.whole;
   few = few;
   division = whole;
   tempos = rw e (kept-in-range metrical tempos range);
-  entries_are = entries-kept (counts_frames division) metrical (file_seen format division contents) tempos entries refl m (w.tempos_are ∙ ap (all_tempos metrical) w.tracks) e;
+  entries_are = entries-kept (is_frame_division division) metrical (file_seen format division contents) tempos entries refl m (w.tempos_are ∙ ap (all_tempos metrical) w.tracks) e;
   skipped_are = w.skipped_are ∙ ap (skipped_in_all metrical) w.tracks ∙ ap (λ (k : Bool). skipped_in_all k (map pairs_seen contents)) m;
 }
 

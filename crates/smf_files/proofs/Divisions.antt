@@ -9,10 +9,10 @@ use Rattle.tempo_clock.specs.Entries.{is_ppq}
 use Rattle.tempo_clock.specs.Ticks.{Tempos, resolution}
 use Rattle.tempo_clock.proofs.Comparisons.{both, either, joined}
 use Rattle.byteorder.specs.Endian.{big_number}
-use Rattle.smf_grammar.specs.Outcomes.{◌>>=◌, unless}
+use Rattle.smf_grammar.specs.Outcomes.{◌>>=◌, fault_unless}
 use Rattle.smf_grammar.specs.declared.fault.SmfFault.{SmfFault}
 use Rattle.smf_grammar.specs.declared.fault.SmfFault.TheVariants.{NotMidi, ShortHeader, UnknownFormat, Format2, BadTrackCount, ZeroDivision, SmpteDivision, DropFrame, TooLarge}
-use Rattle.smf_grammar.specs.Chunks.{Header, most_bytes, starts, counts_frames, is_whole_rate, is_track_count, header_of, size_at, is_long_enough, header_at}
+use Rattle.smf_grammar.specs.Chunks.{Header, most_bytes, starts, is_frame_division, is_whole_rate, is_track_count, header_of, size_at, is_long_enough, header_at}
 use Rattle.smf_files.specs.Kept.{is_division}
 
 -- ---- what a header may have
@@ -24,14 +24,14 @@ is-whole : (b : Bool) → not (true && not b) ≡ true → b ≡ true
 is-whole true e = refl
 is-whole false e = e
 
-tested : (frames : Bool) (division : ℕ) → counts_frames division ≡ frames → not (division == 0) ≡ true → not (frames && not (is_whole_rate (division / 256))) ≡ true → not (frames && division % 256 == 0) ≡ true
+tested : (frames : Bool) (division : ℕ) → is_frame_division division ≡ frames → not (division == 0) ≡ true → not (frames && not (is_whole_rate (division / 256))) ≡ true → not (frames && division % 256 == 0) ≡ true
     → (if frames then (is_whole_rate (division / 256) && nat_le 1 (division % 256)) else is_ppq division) ≡ true
 tested true division is some rate ticks = joined _ _ (is-whole (is_whole_rate (division / 256)) rate) (above-none (division % 256) ticks)
 tested false division is some rate ticks = joined _ _ (above-none division some) (grind (arith, nat_tests))
 
 -- what the tests of a header tell, where all hold
 passed : (known played counted some whole rate ticks : Bool) (header found : Header)
-    → unless known UnknownFormat (unless played Format2 (unless counted BadTrackCount (unless some ZeroDivision (unless whole DropFrame (unless rate SmpteDivision (unless ticks ZeroDivision (Ok header))))))) ≡ Ok found
+    → fault_unless known UnknownFormat (fault_unless played Format2 (fault_unless counted BadTrackCount (fault_unless some ZeroDivision (fault_unless whole DropFrame (fault_unless rate SmpteDivision (fault_unless ticks ZeroDivision (Ok header))))))) ≡ Ok found
     → (some ≡ true) × (rate ≡ true) × (ticks ≡ true) × (header ≡ found)
 passed true true true true true true true header found e = (refl, refl, refl, cc)
 passed true true true true true true false header found e = absurd cc
@@ -45,14 +45,14 @@ passed false played counted some whole rate ticks header found e = absurd cc
 header-of-division : (format tracks division : ℕ) (header : Header) → header_of format tracks division ≡ Ok header → IsTrue (is_division header.division)
 unfolding header_of
 header-of-division format tracks division header e =
-    let frames : Bool = counts_frames division in
+    let frames : Bool = is_frame_division division in
     let told = passed (nat_le format 2) (not (format == 2)) (is_track_count format tracks) (not (division == 0)) (not (frames && division / 256 == 227))
     (not (frames && not (is_whole_rate (division / 256)))) (not (frames && division % 256 == 0)) (record { format = format; tracks = tracks; division = division }) header e in
-    subst (λ (h : Header). IsTrue (is_division h.division)) told.3 (tested (counts_frames division) division refl told.0 told.1 told.2)
+    subst (λ (h : Header). IsTrue (is_division h.division)) told.3 (tested (is_frame_division division) division refl told.0 told.1 told.2)
 
 -- the same of the whole header
 found : (small midi long : Bool) (read : Result Header SmfFault) (after left : List ℕ) (header : Header)
-    → unless {A = Header × List ℕ} small TooLarge (unless midi NotMidi (unless long ShortHeader (read >>= λ header. Ok (header, after)))) ≡ Ok (header, left) → read ≡ Ok header
+    → fault_unless {A = Header × List ℕ} small TooLarge (fault_unless midi NotMidi (fault_unless long ShortHeader (read >>= λ header. Ok (header, after)))) ≡ Ok (header, left) → read ≡ Ok header
 found true true true (Ok header) after left other e =
     let pair : ◌≡◌ {A = Header × List ℕ} (header, after) (other, left) = cc in
     ap (λ (p : Header × List ℕ). Ok p.0) pair
@@ -80,7 +80,7 @@ below-whole high e = elim (either _ _ e) [
   ]
 ]
 
-ticks-by : (frames : Bool) (m : Tempos) → counts_frames m.division ≡ frames
+ticks-by : (frames : Bool) (m : Tempos) → is_frame_division m.division ≡ frames
     → (if frames then (is_whole_rate (m.division / 256) && nat_le 1 (m.division % 256)) else is_ppq m.division) ≡ true → 0 < cond frames ((256 - m.division / 256) * (m.division % 256)) m.division
 ticks-by true m frames e =
     let parts = both (is_whole_rate (m.division / 256)) (nat_le 1 (m.division % 256)) e in
@@ -92,4 +92,4 @@ ticks-by false m frames e = leb-true _ _ (both (nat_le 1 m.division) (nat_le m.d
 -- a division has ticks
 pub division-ticks : (division : ℕ) (entries : List TempoEntry) → IsTrue (is_division division) → 0 < resolution (record { division = division; entries = entries })
 unfolding resolution
-division-ticks division entries e = ticks-by (counts_frames division) (record { division = division; entries = entries }) refl e
+division-ticks division entries e = ticks-by (is_frame_division division) (record { division = division; entries = entries }) refl e

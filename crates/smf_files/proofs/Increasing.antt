@@ -9,9 +9,9 @@ use Rattle.tempo_clock.specs.declared.entry.TempoEntry.{TempoEntry}
 use Rattle.tempo_clock.specs.Entries.{is_tempo, are_rising_from, are_entries}
 use Rattle.tempo_clock.proofs.Comparisons.{both, joined}
 use Rattle.smf_grammar.specs.declared.event.Event.{Event}
-use Rattle.smf_grammar.specs.Chunks.{counts_frames}
+use Rattle.smf_grammar.specs.Chunks.{is_frame_division}
 use Rattle.smf_grammar.specs.Files.{MidiFile}
-use Rattle.smf_grammar.specs.Contents.{tempo_in, put, in_order, events_from, events_of, tempos_from, last_at_each, default_entry, entries_of}
+use Rattle.smf_grammar.specs.Contents.{tempo_in, put_by_tick, in_order, events_from, events_of, tempos_from, last_at_each, default_entry, entries_of}
 use Rattle.smf_files.specs.Kept.{are_tempos}
 use Rattle.smf_files.specs.Rising.{ticks_rise}
 use Rattle.smf_files.proofs.Sorting.{NoneBelow, Rising, order-rises}
@@ -19,12 +19,12 @@ use Rattle.smf_files.proofs.Sorting.{NoneBelow, Rising, order-rises}
 -- ---- all tempos are in range
 
 module _ {X : Type 0} (p : X → Bool) where
-  all-put : (n : X → ℕ) (x : X) (ys : List X) → p x ≡ true → list_all p ys ≡ true → list_all p (put n x ys) ≡ true
+  all-put : (n : X → ℕ) (x : X) (ys : List X) → p x ≡ true → list_all p ys ≡ true → list_all p (put_by_tick n x ys) ≡ true
   all-put n x [] e f = joined _ _ e f
   all-put n x (y ∷ ys) e f =
       go (nat_le (n x) (n y)) (all-put n x ys e (both (p y) (list_all p ys) f).1)
     where
-      go : (b : Bool) → list_all p (put n x ys) ≡ true → list_all p (if b then (x ∷ y ∷ ys) else (y ∷ put n x ys)) ≡ true
+      go : (b : Bool) → list_all p (put_by_tick n x ys) ≡ true → list_all p (if b then (x ∷ y ∷ ys) else (y ∷ put_by_tick n x ys)) ≡ true
       go true ih = joined _ _ e f
       go false ih = joined _ _ (both (p y) (list_all p ys) f).0 ih
 
@@ -109,7 +109,7 @@ all-above [] = tt
 all-above (e ∷ es) = (omega arith, all-above es)
 
 -- the entries of a file by ticks per quarter note make a tempo map
-pub entries-made : (f : MidiFile) (entries : List TempoEntry) → entries ≡ entries_of f → IsTrue (are_tempos entries) → counts_frames f.division ≡ false → are_entries entries ≡ true
+pub entries-made : (f : MidiFile) (entries : List TempoEntry) → entries ≡ entries_of f → IsTrue (are_tempos entries) → is_frame_division f.division ≡ false → are_entries entries ≡ true
 entries-made f entries e range metrical =
     subst (λ (es : List TempoEntry). are_entries es ≡ true) (sym same) (entries-last default_entry tempos refl (all-above tempos, order-rises tick_of (flat_map (tempos_from 0) f.tracks)) (subst (λ (es : List TempoEntry). are_tempos es ≡ true) same range))
   where

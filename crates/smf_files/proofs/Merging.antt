@@ -11,8 +11,8 @@ use Rattle.smf_grammar.specs.Pairs.{TrackEvent, Pair}
 use Rattle.smf_grammar.specs.Pairs as grammar
 use Rattle.midi_wire.specs.Messages.{is_message}
 use Rattle.midi_wire.proofs.Makers.{kind-F0}
-use Rattle.smf_grammar.specs.Contents.{put, in_order, message_of, event_if, events_from}
-use Rattle.smf_grammar.specs.Seen.{is_sound}
+use Rattle.smf_grammar.specs.Contents.{put_by_tick, in_order, message_of, event_if, events_from}
+use Rattle.smf_grammar.specs.Seen.{is_event_sound}
 use Rattle.std.specs.Option.{option_map}
 use Rattle.smf_grammar.specs.Reading.{pairs_from, pairs_of}
 use Rattle.smf_files.specs.Kept.{pairs_seen, is_track}
@@ -40,18 +40,18 @@ from-order : (t : ℕ) (xs : List Event) → From t xs → From t (in_order tick
 from-order t [] h = tt
 from-order t (x ∷ xs) h = below-put tick t x (in_order tick xs) h.0 (from-order t xs h.1)
 
-put-front : (e : Event) (ys : List Event) → From e.tick ys → put tick e ys ≡ e ∷ ys
+put-front : (e : Event) (ys : List Event) → From e.tick ys → put_by_tick tick e ys ≡ e ∷ ys
 put-front e [] h = refl
-put-front e (y ∷ ys) h = let le : e.tick ≤ y.tick = h.0 in ap (λ (t : Bool). if t then (e ∷ y ∷ ys) else (y ∷ put tick e ys)) (le-leb e.tick y.tick le)
+put-front e (y ∷ ys) h = let le : e.tick ≤ y.tick = h.0 in ap (λ (t : Bool). if t then (e ∷ y ∷ ys) else (y ∷ put_by_tick tick e ys)) (le-leb e.tick y.tick le)
 
-put-behind : (a e : Event) (ys : List Event) → e.tick < a.tick → put tick a (e ∷ ys) ≡ e ∷ put tick a ys
-put-behind a e ys h = let no : nat_le a.tick e.tick ≡ false = grind (arith, nat_tests) in ap (λ (t : Bool). if t then (a ∷ e ∷ ys) else (e ∷ put tick a ys)) no
+put-behind : (a e : Event) (ys : List Event) → e.tick < a.tick → put_by_tick tick a (e ∷ ys) ≡ e ∷ put_by_tick tick a ys
+put-behind a e ys h = let no : nat_le a.tick e.tick ≡ false = grind (arith, nat_tests) in ap (λ (t : Bool). if t then (a ∷ e ∷ ys) else (e ∷ put_by_tick tick a ys)) no
 
 pub sort-front : (xs : List Event) (e : Event) (ys : List Event) → From (suc e.tick) xs → From e.tick ys → in_order tick (xs ++ e ∷ ys) ≡ e ∷ in_order tick (xs ++ ys)
 sort-front [] e ys h k = put-front e (in_order tick ys) (from-order e.tick ys k)
 sort-front (x ∷ xs) e ys h k =
     let later : suc e.tick ≤ x.tick = h.0 in
-    ap (put tick x) (sort-front xs e ys h.1 k) ∙ put-behind x e (in_order tick (xs ++ ys)) (omega arith)
+    ap (put_by_tick tick x) (sort-front xs e ys h.1 k) ∙ put-behind x e (in_order tick (xs ++ ys)) (omega arith)
 
 -- ---- events of a track do not come before its tick
 
@@ -382,7 +382,7 @@ over-counts k i v is = ap (count k) (head-over i v is)
 
 record Fine (v : TrackPlace) : Type 0 where
   some : IsTrue (is_some (message_of (event_in v)))
-  sound : IsTrue (is_sound (event_in v))
+  sound : IsTrue (is_event_sound (event_in v))
   before : IsTrue (is_running (running_before v))
   status : IsTrue (is_running (running_in v))
   whole : IsTrue (is_whole (running_in v) (left_in v))
@@ -390,10 +390,10 @@ record Fine (v : TrackPlace) : Type 0 where
 
 fine-parts : (v : TrackPlace) → is_over v ≡ false → IsTrue (is_fine v) → Fine v
 fine-parts v there h =
-    go (is_over v) (is_some (message_of (event_in v))) (is_sound (event_in v)) (is_running (running_before v)) (is_running (running_in v)) (is_whole (running_in v) (left_in v)) (is_early v.tick (left_in v)) there h refl refl refl refl refl refl
+    go (is_over v) (is_some (message_of (event_in v))) (is_event_sound (event_in v)) (is_running (running_before v)) (is_running (running_in v)) (is_whole (running_in v) (left_in v)) (is_early v.tick (left_in v)) there h refl refl refl refl refl refl
   where
     go : (o a b c d e f : Bool) → o ≡ false → (o || (a && (b && (c && (d && (e && f)))))) ≡ true →
-        is_some (message_of (event_in v)) ≡ a → is_sound (event_in v) ≡ b → is_running (running_before v) ≡ c → is_running (running_in v) ≡ d → is_whole (running_in v) (left_in v) ≡ e → is_early v.tick (left_in v) ≡ f → Fine v
+        is_some (message_of (event_in v)) ≡ a → is_event_sound (event_in v) ≡ b → is_running (running_before v) ≡ c → is_running (running_in v) ≡ d → is_whole (running_in v) (left_in v) ≡ e → is_early v.tick (left_in v) ≡ f → Fine v
     go true a b c d e f o h p q r s t u = let bad : ⊥ = cc in absurd bad
     go false true true true true true true o h p q r s t u = record { some = p; sound = q; before = r; status = s; whole = t; early = leb-true (v.tick + length (left_in v) * 268435456) 4503599627370496 u }
     go false false b c d e f o h p q r s t u = let bad : ⊥ = cc in absurd bad
@@ -405,7 +405,7 @@ fine-parts v there h =
 
 pub record Next (places : List TrackPlace) (rs : List (Head)) (h : Head) (v : TrackPlace) : Type 0 where
   pub some : IsTrue (is_some (message_of (event_in v)))
-  pub sound : IsTrue (is_sound (event_in v))
+  pub sound : IsTrue (is_event_sound (event_in v))
   pub there : is_over v ≡ false
   pub before : IsTrue (is_running (running_before v))
   pub status : IsTrue (is_running (running_in v))

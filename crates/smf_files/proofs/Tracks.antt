@@ -4,7 +4,7 @@ use Rattle.std.specs.Prelude.{Option, None, Ok, Err, if◌then◌else◌}
 use Rattle.std.proofs.lemmas.Bool.{eqb-true}
 use Rattle.tempo_clock.specs.declared.entry.TempoEntry.{TempoEntry}
 use Rattle.smf_grammar.specs.declared.fault.PairFault.{PairFault}
-use Rattle.smf_grammar.specs.Pairs.{TrackEvent, Voice, Exclusive, Escape, Meta, Pair, is_end, status_after, pair_at}
+use Rattle.smf_grammar.specs.Pairs.{TrackEvent, Voice, Exclusive, Escape, Meta, Pair, is_end, running_after, pair_at}
 use Rattle.smf_grammar.specs.Files.{ArePairs, fault_of_pair, TrackFault}
 use Rattle.smf_grammar.specs.Contents.{entry_if, tempo_of, tempos_from, is_skipped, skipped_in}
 use Rattle.smf_files.specs.Taken.{with_tempos, TrackTaken}
@@ -33,9 +33,9 @@ nothing-taken metrical content old = record { before = []; stand = (refl, refl);
         append_nil (x ∷ xs) = ap (λ (ys : List TempoEntry). x ∷ ys) (append_nil xs)
     go false = refl
 
-pairs-snoc : (ps : List Pair) (start running : Option ℕ) (content left more : List ℕ) (p : Pair) → ArePairs start content ps running left → pair_at running left ≡ Ok (p, more) → is_end p.event ≡ false → ArePairs start content (ps ++ p ∷ []) (status_after p.event) more
+pairs-snoc : (ps : List Pair) (start running : Option ℕ) (content left more : List ℕ) (p : Pair) → ArePairs start content ps running left → pair_at running left ≡ Ok (p, more) → is_end p.event ≡ false → ArePairs start content (ps ++ p ∷ []) (running_after p.event) more
 pairs-snoc [] start running content left more p stand next ends = (more, rw (stand.0, stand.1) next, ends, (refl, refl))
-pairs-snoc (q ∷ ps) start running content left more p stand next ends = (stand.0, stand.1, stand.2, pairs-snoc ps (status_after q.event) running stand.0 left more p stand.3 next ends)
+pairs-snoc (q ∷ ps) start running content left more p stand next ends = (stand.0, stand.1, stand.2, pairs-snoc ps (running_after q.event) running stand.0 left more p stand.3 next ends)
 
 ticks-snoc : (ps : List Pair) (tick : ℕ) (p : Pair) → ticks_of tick (ps ++ p ∷ []) ≡ ticks_of tick ps + p.delta
 ticks-snoc [] tick p = refl
@@ -68,7 +68,7 @@ with-snoc false old new ps p e = e
 -- one more pair
 pub taken-more : (metrical : Bool) (content : List ℕ) (running : Option ℕ) (left more : List ℕ) (tick : ℕ) (old new : List TempoEntry) (skipped : ℕ) (p : Pair) →
     Taken metrical content running left tick old new skipped → pair_at running left ≡ Ok (p, more) → is_end p.event ≡ false →
-    Taken metrical content (status_after p.event) more (tick + p.delta) old (if metrical then (new ++ entry_if (tick + p.delta) (tempo_of p.event)) else new) (skipped + weight metrical p.event)
+    Taken metrical content (running_after p.event) more (tick + p.delta) old (if metrical then (new ++ entry_if (tick + p.delta) (tempo_of p.event)) else new) (skipped + weight metrical p.event)
 taken-more metrical content running left more tick old new skipped p w next ends = record {
   before = w.before ++ p ∷ [];
   stand = pairs-snoc w.before None running content left more p w.stand next ends;
@@ -79,7 +79,7 @@ taken-more metrical content running left more tick old new skipped p w next ends
 
 -- the same, by what the code computed
 pub taken-step : (metrical : Bool) (content : List ℕ) (running running' : Option ℕ) (left more : List ℕ) (tick : ℕ) (old new new' : List TempoEntry) (skipped skips : ℕ) (p : Pair) →
-    Taken metrical content running left tick old new skipped → pair_at running left ≡ Ok (p, more) → is_end p.event ≡ false → running' ≡ status_after p.event →
+    Taken metrical content running left tick old new skipped → pair_at running left ≡ Ok (p, more) → is_end p.event ≡ false → running' ≡ running_after p.event →
     new' ≡ (if metrical then (new ++ entry_if (tick + p.delta) (tempo_of p.event)) else new) → skips ≡ weight metrical p.event →
     Taken metrical content running' more (tick + p.delta) old new' (skipped + skips)
 taken-step metrical content running running' left more tick old new new' skipped skips p w next ends status tempos count =

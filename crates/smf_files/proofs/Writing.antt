@@ -22,7 +22,7 @@ use Rattle.smf_grammar.specs.Texts.{shortest, message_text, events_text, track_t
 use Rattle.smf_grammar.proofs.TextFile.{reads-text}
 use Rattle.smf_files.specs.declared.fault.WriteFault.TheVariants.{BadPpq, BadTempo, TooLarge, OutOfMemory}
 use Rattle.smf_files.specs.declared.fault.WriteFault.{WriteFault}
-use Rattle.smf_files.specs.Refusals.{refusal_by, refusal_of, refusal_in}
+use Rattle.smf_files.specs.Refusals.{refusal_by, write_refusal, told_refusal}
 
 -- ---- which messages stand in files
 
@@ -213,19 +213,19 @@ pub record Tested (ppq tempo : ℕ) (events : List Event) : Type 0 where
   pub small_tempo : tempo ≤ 16777215
   pub good : bad_event 0 events ≡ None
 
-refused-by-size : (ppq tempo : ℕ) (events : List Event) → Tested ppq tempo events → refusal_of ppq tempo events ≡ (if nat_le (length (file_text ppq tempo events)) most_bytes then None else Some TooLarge)
+refused-by-size : (ppq tempo : ℕ) (events : List Event) → Tested ppq tempo events → write_refusal ppq tempo events ≡ (if nat_le (length (file_text ppq tempo events)) most_bytes then None else Some TooLarge)
 refused-by-size ppq tempo events t =
     ap (λ (b : Bool). if not b then Some BadPpq else (if not (is_tempo tempo) then Some BadTempo else refusal_by (bad_event 0 events) (length (file_text ppq tempo events)))) (in-range 1 ppq 32767 t.some_ppq t.small_ppq)
     ∙ ap (λ (b : Bool). if not b then Some BadTempo else refusal_by (bad_event 0 events) (length (file_text ppq tempo events))) (in-range 1 tempo 16777215 t.some_tempo t.small_tempo)
     ∙ ap (λ (o : Option ℕ). refusal_by o (length (file_text ppq tempo events))) t.good
 
-pub too-large : (ppq tempo : ℕ) (events : List Event) → Tested ppq tempo events → 16777183 < length (events_text 0 events) → refusal_of ppq tempo events ≡ Some TooLarge
+pub too-large : (ppq tempo : ℕ) (events : List Event) → Tested ppq tempo events → 16777183 < length (events_text 0 events) → write_refusal ppq tempo events ≡ Some TooLarge
 too-large ppq tempo events t h =
     let n : length (file_text ppq tempo events) ≡ length (events_text 0 events) + 33 = file-length ppq tempo events in
     let f : nat_le (length (file_text ppq tempo events)) most_bytes ≡ false = grind (arith, nat_tests) in
     refused-by-size ppq tempo events t ∙ ap (λ (b : Bool). if b then None else Some TooLarge) f
 
-pub accepted : (ppq tempo : ℕ) (events : List Event) → Tested ppq tempo events → length (events_text 0 events) ≤ 16777183 → refusal_of ppq tempo events ≡ None
+pub accepted : (ppq tempo : ℕ) (events : List Event) → Tested ppq tempo events → length (events_text 0 events) ≤ 16777183 → write_refusal ppq tempo events ≡ None
 accepted ppq tempo events t h =
     let n : length (file_text ppq tempo events) ≡ length (events_text 0 events) + 33 = file-length ppq tempo events in
     let f : nat_le (length (file_text ppq tempo events)) most_bytes ≡ true = le-leb (length (file_text ppq tempo events)) 16777216 (omega arith) in
@@ -241,9 +241,9 @@ back ppq tempo events t messages h = reads-text ppq tempo events (record {
 })
 
 -- want of memory refuses no events
-pub nothing-refused : {A : Type 0} (r : Result A WriteFault) (o : Option WriteFault) → IfErr r (λ x. x ≡ OutOfMemory) → o ≡ None → IfErr r (λ x. o ≡ refusal_in x)
+pub nothing-refused : {A : Type 0} (r : Result A WriteFault) (o : Option WriteFault) → IfErr r (λ x. x ≡ OutOfMemory) → o ≡ None → IfErr r (λ x. o ≡ told_refusal x)
 nothing-refused (Ok a) o h e = tt
-nothing-refused (Err x) o h e = e ∙ sym (ap refusal_in h)
+nothing-refused (Err x) o h e = e ∙ sym (ap told_refusal h)
 
 pub whole-steps : (ppq tempo size : ℕ) (events : List Event) (none head format one division kind tempos written' whole : List ℕ) → size ≡ length (events_text 0 events) →
     none ≡ [] → head ≡ none ++ (77 ∷ 84 ∷ 104 ∷ 100 ∷ []) ++ big_bytes 4 6 → format ≡ head ++ big_bytes 2 0 → one ≡ format ++ big_bytes 2 1 → division ≡ one ++ big_bytes 2 ppq →

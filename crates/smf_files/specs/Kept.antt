@@ -4,7 +4,7 @@ use Rattle.std.specs.List.{list_all}
 use Rattle.tempo_clock.specs.declared.entry.TempoEntry.{TempoEntry}
 use Rattle.tempo_clock.specs.Entries.{is_tempo, is_ppq}
 use Rattle.smf_grammar.specs.Pairs.{Pair}
-use Rattle.smf_grammar.specs.Chunks.{counts_frames, is_whole_rate}
+use Rattle.smf_grammar.specs.Chunks.{is_frame_division, is_whole_rate}
 use Rattle.smf_grammar.specs.Files.{MidiFile}
 use Rattle.smf_grammar.specs.Contents.{entries_of, skipped_of}
 use Rattle.smf_grammar.specs.Reading.{Pairs, pairs_of}
@@ -30,7 +30,7 @@ is_track content = is_ok (pairs_of content) && nat_le (length content) 16777216
 -- quarter note
 abbrev pub is_division : ℕ → Bool
 is_division division =
-    if counts_frames division then (is_whole_rate (division / 256) && nat_le 1 (division % 256))
+    if is_frame_division division then (is_whole_rate (division / 256) && nat_le 1 (division % 256))
     else is_ppq division
 
 -- all tempos are in range
@@ -38,7 +38,7 @@ abbrev pub are_tempos : List TempoEntry → Bool
 are_tempos entries = list_all (λ e. is_tempo e.tempo) entries
 
 -- what is kept beside the contents is what the file says, and a tempo map can be made of it
-pub record IsKept (f : MidiFile) (contents : List (List ℕ)) (entries : List TempoEntry)
+pub record IsFileKept (f : MidiFile) (contents : List (List ℕ)) (entries : List TempoEntry)
     (skipped : ℕ) : Type 0 where
   pub tracks : IsTrue (list_all is_track contents)
   pub few : length contents < 2 ^ 16

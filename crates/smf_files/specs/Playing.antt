@@ -9,7 +9,7 @@ use Rattle.smf_grammar.specs.Pairs.{TrackEvent, Pair, pair_at}
 use Rattle.smf_grammar.specs.Pairs as grammar
 use Rattle.smf_grammar.specs.Contents.{in_order, message_of, event_if, events_from}
 use Rattle.smf_grammar.specs.Reading.{pairs_from}
-use Rattle.smf_grammar.specs.Seen.{is_sound, is_voice}
+use Rattle.smf_grammar.specs.Seen.{is_event_sound, is_voice}
 use Rattle.smf_files.specs.Kept.{pairs_or_none, pairs_seen}
 use Rattle.smf_files.specs.declared.place.TrackPlace.{TrackPlace}
 use Rattle.smf_files.specs.declared.place.NextMessage.{NextMessage}
@@ -27,14 +27,14 @@ is_whole running left = is_ok (pairs_from (suc (length left)) running left)
 -- ---- where a track stands
 
 -- no message is left
-abbrev pub is_end : NextMessage → Bool
-is_end (OneData status first) = false
-is_end (TwoData status first second) = false
-is_end (Exclusive running) = false
-is_end End = true
+abbrev pub is_end_of_track : NextMessage → Bool
+is_end_of_track (OneData status first) = false
+is_end_of_track (TwoData status first second) = false
+is_end_of_track (Exclusive running) = false
+is_end_of_track End = true
 
 abbrev pub is_over : TrackPlace → Bool
-is_over p = is_end p.next
+is_over p = is_end_of_track p.next
 
 -- the event of the pair that stands first, and what is left after it
 abbrev pub first_event : Result (Pair × List ℕ) PairFault → TrackEvent
@@ -121,7 +121,7 @@ is_early tick left = nat_le (tick + length left * most_delta_a_byte) most_tick
 abbrev pub is_fine : TrackPlace → Bool
 is_fine v =
     is_over v
-    || (is_some (message_of (event_in v)) && (is_sound (event_in v)
+    || (is_some (message_of (event_in v)) && (is_event_sound (event_in v)
     && (is_running (running_before v) && (is_running (running_in v)
     && (is_whole (running_in v) (left_in v) && is_early v.tick (left_in v))))))
 

@@ -14,16 +14,16 @@ refusal_by None size = if nat_le size most_bytes then None else Some TooLarge
 
 -- why a file with these ticks per quarter note, this tempo and these events is refused, by the
 -- first test that fails
-abbrev pub refusal_of : ℕ → ℕ → List Event → Option WriteFault
-refusal_of ppq tempo events =
+abbrev pub write_refusal : ℕ → ℕ → List Event → Option WriteFault
+write_refusal ppq tempo events =
     if not (is_ppq ppq) then Some BadPpq else
     (if not (is_tempo tempo) then Some BadTempo else
     refusal_by (bad_event 0 events) (length (file_text ppq tempo events)))
 
 -- what a fault says of the events: want of memory says nothing
-abbrev pub refusal_in : WriteFault → Option WriteFault
-refusal_in BadPpq = Some BadPpq
-refusal_in BadTempo = Some BadTempo
-refusal_in (BadEvent index) = Some (BadEvent index)
-refusal_in TooLarge = Some TooLarge
-refusal_in OutOfMemory = None
+abbrev pub told_refusal : WriteFault → Option WriteFault
+told_refusal BadPpq = Some BadPpq
+told_refusal BadTempo = Some BadTempo
+told_refusal (BadEvent index) = Some (BadEvent index)
+told_refusal TooLarge = Some TooLarge
+told_refusal OutOfMemory = None

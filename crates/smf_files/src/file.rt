@@ -2,7 +2,7 @@
 
 ghost use Rattle.std.specs.Prelude.{◌≡◌, ◌<◌, ◌∷◌, [], ◌++◌, length, true, IfOk, IfErr, OnOk};
 ghost use Rattle.tempo_clock.specs.Ticks.{resolution};
-ghost use Rattle.smf_grammar.specs.Files.{File, Fault};
+ghost use Rattle.smf_grammar.specs.Files.{IsFile, Fault};
 ghost use Rattle.smf_grammar.specs.Contents.{events_of, entries_of, skipped_of};
 ghost use Rattle.smf_files.specs.Rising.{ticks_rise};
 ghost use Rattle.smf_files.specs.Taken.{Faulty};
@@ -42,13 +42,13 @@ pub struct SmfFile<'b> {
 impl<'b> Model for SmfFile<'b> {
     ghost use Rattle.std.specs.Prelude.{map};
     ghost use Rattle.smf_grammar.specs.Files.{MidiFile};
-    ghost use Rattle.smf_files.specs.Kept.{file_seen, IsKept};
+    ghost use Rattle.smf_files.specs.Kept.{file_seen, IsFileKept};
 
     ghost Value = { MidiFile };
 
     ghost view = { λ f. file_seen f.format f.division (map (λ c. c.now) f.contents.items) };
 
-    ghost invariant = { λ f. IsKept
+    ghost invariant = { λ f. IsFileKept
         (file_seen f.format f.division (map (λ c. c.now) f.contents.items))
         (map (λ c. c.now) f.contents.items) f.entries.items f.skipped };
 }
@@ -56,7 +56,7 @@ impl<'b> Model for SmfFile<'b> {
 impl<'b> SmfFile<'b> {
     /// Reads a file in one pass: it is one, or its first fault is told.
     pub fn read(alloc: Global, bytes: &'b [u8]) -> Result<SmfFile<'b>, SmfFault>
-        ensures file { IfOk result (λ f. File bytes.now f) }
+        ensures file { IfOk result (λ f. IsFile bytes.now f) }
         ensures fault { IfErr result (λ x. Faulty (Fault bytes.now) x) }
     {
         let (header, after) = header_at(bytes)?;

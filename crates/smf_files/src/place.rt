@@ -3,8 +3,8 @@
 ghost use Rattle.std.specs.Prelude.{◌≡◌, ◌≤◌, ◌+◌, ◌*◌, ◌^◌, ◌++◌, ◌∷◌, length, IsTrue, false, IfOk, OnErr, Ok, Some, is_some, None};
 ghost use Rattle.midi_wire.specs.Messages.{is_message};
 ghost use Rattle.smf_grammar.specs.Contents.{message_of, events_from};
-ghost use Rattle.smf_grammar.specs.Pairs.{pair_at, status_after};
-ghost use Rattle.smf_grammar.specs.Seen.{event_seen, pair_seen, is_sound};
+ghost use Rattle.smf_grammar.specs.Pairs.{pair_at, running_after};
+ghost use Rattle.smf_grammar.specs.Seen.{event_seen, pair_seen, is_event_sound};
 ghost use Rattle.smf_files.specs.Playing.{first_event, after_first, is_over, event_in, running_in, left_in, running_before, rest_of, is_whole, is_running, to_come, is_fine, IsExclusive};
 
 use memory::OutOfMemory;
@@ -121,7 +121,7 @@ fn place_at<'b>(
     ensures tick { result.tick ≡ tick }
     ensures there { is_over result ≡ false }
     ensures event { event_in result ≡ event_seen pair.entry.event }
-    ensures running { running_in result ≡ status_after (event_seen pair.entry.event) }
+    ensures running { running_in result ≡ running_after (event_seen pair.entry.event) }
     ensures left { left_in result ≡ after.entry.now }
     ensures status { IsTrue (is_running (running_before result)) }
 {
@@ -199,7 +199,7 @@ fn exclusive(alloc: Global, payload: &[u8]) -> Result<Message, OutOfMemory>
 #[inline(always)]
 pub(crate) fn message_of(alloc: Global, event: &EventBytes<'_>) -> Result<Message, OutOfMemory>
     requires some { IsTrue (is_some (message_of (event_seen event.now))) }
-    requires sound { IsTrue (is_sound (event_seen event.now)) }
+    requires sound { IsTrue (is_event_sound (event_seen event.now)) }
     ensures ok { IfOk result (λ m. message_of (event_seen event.now) ≡ Some m) }
     ensures exclusive { OnErr result (IsExclusive (event_seen event.now)) }
 {

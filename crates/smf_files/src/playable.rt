@@ -2,7 +2,7 @@
 
 ghost use Rattle.std.specs.Prelude.{◌≡◌, [], IfOk, IsTrue, false, true};
 ghost use Rattle.tempo_clock.specs.Entries.{are_entries};
-ghost use Rattle.smf_grammar.specs.Chunks.{counts_frames};
+ghost use Rattle.smf_grammar.specs.Chunks.{is_frame_division};
 ghost use Rattle.smf_files.specs.Kept.{is_division};
 
 use memory::OutOfMemory;
@@ -13,7 +13,7 @@ use tempo_clock::{MapFault, TempoEntry, TempoMap};
 /// The map of a division of so many frames per second, and so many ticks in each.
 fn map_by_frames(alloc: Global, division: u16) -> TempoMap
     requires division { IsTrue (is_division division) }
-    requires frames { counts_frames division ≡ true }
+    requires frames { is_frame_division division ≡ true }
     ensures { result ≡ record { division = division; entries = [] } }
 {
     let frames = (256 - division / 256) as u8;
@@ -31,8 +31,8 @@ pub(crate) fn map_of(
     entries: &[TempoEntry],
 ) -> Result<TempoMap, OutOfMemory>
     requires division { IsTrue (is_division division) }
-    requires metrical { counts_frames division ≡ false → are_entries entries.now ≡ true }
-    requires frames { counts_frames division ≡ true → entries.now ≡ [] }
+    requires metrical { is_frame_division division ≡ false → are_entries entries.now ≡ true }
+    requires frames { is_frame_division division ≡ true → entries.now ≡ [] }
     ensures { IfOk result (λ m. m ≡ record { division = division; entries = entries.now }) }
 {
     if counts_frames(division) {

@@ -7,7 +7,7 @@ ghost use Rattle.midi_wire.specs.Writings.{status_of};
 ghost use Rattle.smf_grammar.specs.Laws.{ReadsBack};
 ghost use Rattle.smf_grammar.specs.Texts.{shortest, message_text, events_text, file_text, stands_in_files, can_follow, bad_event};
 ghost use Rattle.smf_files.specs.declared.write.TheConstants.{MOST_EVENT_BYTES};
-ghost use Rattle.smf_files.specs.Refusals.{refusal_of, refusal_in};
+ghost use Rattle.smf_files.specs.Refusals.{write_refusal, told_refusal};
 
 use crate::fault::WriteFault;
 use byteorder::{BigEndian, ByteOrder};
@@ -246,8 +246,8 @@ pub fn write_format0(
     events: &[Event],
 ) -> Result<Vec<u8>, WriteFault>
     ensures text { IfOk result (λ file. file.items ≡ file_text ppq tempo events.now) }
-    ensures taken { OnOk result (refusal_of ppq tempo events.now ≡ None) }
-    ensures refused { IfErr result (λ x. refusal_of ppq tempo events.now ≡ refusal_in x) }
+    ensures taken { OnOk result (write_refusal ppq tempo events.now ≡ None) }
+    ensures refused { IfErr result (λ x. write_refusal ppq tempo events.now ≡ told_refusal x) }
     ensures reads_back { OnOk result (ReadsBack ppq tempo events.now) }
 {
     if ppq == 0 || ppq > MOST_PPQ {

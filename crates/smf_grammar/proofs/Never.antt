@@ -2,14 +2,14 @@
 use Rattle.std.proofs.Common.{◌≡◌, ◌≢◌, ℕ, ◌+◌, ◌-◌, ◌/◌, ◌%◌, Bool, true, false, not, List, length, drop, sym, inl, inr}
 use Rattle.std.specs.Prelude.{Result, Ok, Err, nat_le, ◌==◌, ◌&&◌, codes}
 use Rattle.byteorder.specs.Endian.{big_number}
-use Rattle.smf_grammar.specs.Outcomes.{◌>>=◌, unless}
+use Rattle.smf_grammar.specs.Outcomes.{◌>>=◌, fault_unless}
 use Rattle.smf_grammar.specs.declared.fault.SmfFault.{SmfFault}
 use Rattle.smf_grammar.specs.declared.fault.SmfFault.TheVariants.{NotMidi, ShortHeader, UnknownFormat, Format2, BadTrackCount, ZeroDivision, SmpteDivision, DropFrame, TooLarge, OutOfMemory}
 use Rattle.smf_grammar.specs.declared.fault.PairFault.{PairFault}
 use Rattle.smf_grammar.specs.declared.fault.PairFault.TheVariants as pair_fault
 use Rattle.smf_grammar.specs.declared.fault.ChunkFault.{ChunkFault}
 use Rattle.smf_grammar.specs.declared.fault.ChunkFault.TheVariants as chunk_fault
-use Rattle.smf_grammar.specs.Chunks.{Header, most_bytes, starts, is_track_count, counts_frames, is_whole_rate, is_long_enough, header_of, header_at, Chunk, chunk_at}
+use Rattle.smf_grammar.specs.Chunks.{Header, most_bytes, starts, is_track_count, is_frame_division, is_whole_rate, is_long_enough, header_of, header_at, Chunk, chunk_at}
 use Rattle.smf_grammar.specs.Files.{fault_of_pair, IsChunkFault}
 use Rattle.smf_grammar.specs.Laws.{FaultsOfBytes}
 
@@ -23,7 +23,7 @@ never-bind : {A B : Type 0} (r : Result A SmfFault) (f : A → Result B SmfFault
 never-bind (Ok x) f h k e = k x e
 never-bind {A = A} (Err y) f h k e = let same : ◌≡◌ {A = Result A SmfFault} (Err y) (Err OutOfMemory) = cc in h same
 
-never-seven : (a b c d e f g : Bool) (h : Header) → Never (unless a UnknownFormat (unless b Format2 (unless c BadTrackCount (unless d ZeroDivision (unless e DropFrame (unless f SmpteDivision (unless g ZeroDivision (Ok h))))))))
+never-seven : (a b c d e f g : Bool) (h : Header) → Never (fault_unless a UnknownFormat (fault_unless b Format2 (fault_unless c BadTrackCount (fault_unless d ZeroDivision (fault_unless e DropFrame (fault_unless f SmpteDivision (fault_unless g ZeroDivision (Ok h))))))))
 never-seven false b c d e f g h x = cc
 never-seven true false c d e f g h x = cc
 never-seven true true false d e f g h x = cc
@@ -36,9 +36,9 @@ never-seven true true true true true true true h x = cc
 never-header : (format tracks division : ℕ) → Never (header_of format tracks division)
 unfolding header_of
 never-header format tracks division =
-    never-seven (nat_le format 2) (not (format == 2)) (is_track_count format tracks) (not (division == 0)) (not (counts_frames division && division / 256 == 227)) (not (counts_frames division && not (is_whole_rate (division / 256)))) (not (counts_frames division && division % 256 == 0)) (record { format = format; tracks = tracks; division = division })
+    never-seven (nat_le format 2) (not (format == 2)) (is_track_count format tracks) (not (division == 0)) (not (is_frame_division division && division / 256 == 227)) (not (is_frame_division division && not (is_whole_rate (division / 256)))) (not (is_frame_division division && division % 256 == 0)) (record { format = format; tracks = tracks; division = division })
 
-never-three : (a b c : Bool) (r : Result (Header × List ℕ) SmfFault) → Never r → Never (unless a TooLarge (unless b NotMidi (unless c ShortHeader r)))
+never-three : (a b c : Bool) (r : Result (Header × List ℕ) SmfFault) → Never r → Never (fault_unless a TooLarge (fault_unless b NotMidi (fault_unless c ShortHeader r)))
 never-three false b c r h x = cc
 never-three true false c r h x = cc
 never-three true true false r h x = cc

@@ -7,7 +7,7 @@ use Rattle.midi_wire.specs.declared.status.Width.TheVariants.{One, Two}
 use Rattle.midi_wire.specs.declared.status.StatusClass.{StatusClass}
 use Rattle.midi_wire.specs.Messages.{begins, is_status}
 use Rattle.midi_wire.specs.declared.status.StatusClass.TheVariants as wire
-use Rattle.smf_grammar.specs.Outcomes.{◌>>=◌, unless}
+use Rattle.smf_grammar.specs.Outcomes.{◌>>=◌, fault_unless}
 use Rattle.smf_grammar.specs.Quantities.{continued, septets, quantity}
 use Rattle.smf_grammar.specs.declared.fault.QuantityFault.{QuantityFault}
 use Rattle.smf_grammar.specs.declared.fault.QuantityFault.TheVariants.{Short, Long}
@@ -100,7 +100,7 @@ running-shortens n (Some status) left h = voice-shortens n status left h
 sized-shortens : (n : ℕ) (left : List ℕ) → length left ≤ n → Shortens n (sized_at left)
 unfolding sized_at
 sized-shortens n left h =
-    shortens-bind n (quantity_at left) (λ size. unless (nat_le size.0 (length size.1)) Truncated (Ok (take size.0 size.1, drop size.0 size.1))) (quantity-shortens n left h)
+    shortens-bind n (quantity_at left) (λ size. fault_unless (nat_le size.0 (length size.1)) Truncated (Ok (take size.0 size.1, drop size.0 size.1))) (quantity-shortens n left h)
     (λ y k. shortens-unless n (nat_le y.0 (length y.1)) Truncated (Ok (take y.0 y.1, drop y.0 y.1)) (λ _. shortens-ok n (take y.0 y.1, drop y.0 y.1) (rw length-drop (omega arith))))
 
 meta-shortens : (n : ℕ) (left : List ℕ) → length left ≤ n → Shortens n (meta_at left)
@@ -145,7 +145,7 @@ chunk-shorter left x e =
     rest_of (Ok y) = y.1
     rest_of (Err y) = []
 
-    go : (t u : Bool) → nat_le 8 (length left) ≡ t → unless t Missing (unless u Cut (Ok (record { is_track = starts (codes "MTrk") left; content = take (big_number 4 (drop 4 left)) (drop 8 left) }, drop (big_number 4 (drop 4 left)) (drop 8 left)))) ≡ Ok x → length x.1 < length left
+    go : (t u : Bool) → nat_le 8 (length left) ≡ t → fault_unless t Missing (fault_unless u Cut (Ok (record { is_track = starts (codes "MTrk") left; content = take (big_number 4 (drop 4 left)) (drop 8 left) }, drop (big_number 4 (drop 4 left)) (drop 8 left)))) ≡ Ok x → length x.1 < length left
     go false u is e = let bad : ⊥ = cc in absurd bad
     go true false is e = let bad : ⊥ = cc in absurd bad
     go true true is e =

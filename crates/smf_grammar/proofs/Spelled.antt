@@ -12,7 +12,7 @@ use Rattle.midi_wire.specs.declared.status.StatusClass.TheVariants as wire
 use Rattle.midi_wire.specs.Writings.{is_channel, status_of}
 use Rattle.midi_wire.proofs.Table.{begins-low, channel-from}
 use Rattle.midi_wire.proofs.Written.{and_true}
-use Rattle.smf_grammar.specs.Outcomes.{◌>>=◌, unless}
+use Rattle.smf_grammar.specs.Outcomes.{◌>>=◌, fault_unless}
 use Rattle.smf_grammar.specs.declared.fault.PairFault.{PairFault}
 use Rattle.smf_grammar.specs.declared.fault.PairFault.TheVariants.{Truncated, BadData}
 use Rattle.smf_grammar.specs.Septets.{septets_at}
@@ -115,8 +115,8 @@ pub sized-text : (n : ℕ) (left bytes more : List ℕ) → quantity_at left ≡
 unfolding sized_at
 sized-text n left bytes more e same =
     let fits : nat_le n (length (bytes ++ more)) ≡ true = le-leb n (length (bytes ++ more)) (omega (arith, length-append bytes more)) in
-    ap (λ (r : Result (ℕ × List ℕ) PairFault). r >>= λ size. unless (nat_le size.0 (length size.1)) Truncated (Ok (take size.0 size.1, drop size.0 size.1))) e
-    ∙ ap (λ (t : Bool). unless t Truncated (Ok (take n (bytes ++ more), drop n (bytes ++ more)))) fits
+    ap (λ (r : Result (ℕ × List ℕ) PairFault). r >>= λ size. fault_unless (nat_le size.0 (length size.1)) Truncated (Ok (take size.0 size.1, drop size.0 size.1))) e
+    ∙ ap (λ (t : Bool). fault_unless t Truncated (Ok (take n (bytes ++ more), drop n (bytes ++ more)))) fits
     ∙ ap (λ (k : ℕ). Ok (take k (bytes ++ more), drop k (bytes ++ more))) same
     ∙ ap (λ (xs : List ℕ). Ok (xs, drop (length bytes) (bytes ++ more))) (take-append_seam bytes more)
     ∙ ap (λ (xs : List ℕ). Ok (bytes, xs)) (drop-front bytes more)

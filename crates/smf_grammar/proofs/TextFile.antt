@@ -15,10 +15,10 @@ use Rattle.tempo_clock.specs.Entries.{is_ppq, is_tempo}
 use Rattle.tempo_clock.specs.declared.entry.TempoEntry.{TempoEntry}
 use Rattle.smf_grammar.specs.declared.event.Event.{Event}
 use Rattle.smf_grammar.specs.Outcomes.{◌>>=◌}
-use Rattle.smf_grammar.specs.Pairs.{Voice, Exclusive, Meta, Pair, is_end, status_after, meta_at, event_at, pair_at}
-use Rattle.smf_grammar.specs.Chunks.{counts_frames, header_of, header_at, chunk_at}
+use Rattle.smf_grammar.specs.Pairs.{Voice, Exclusive, Meta, Pair, is_end, running_after, meta_at, event_at, pair_at}
+use Rattle.smf_grammar.specs.Chunks.{is_frame_division, header_of, header_at, chunk_at}
 use Rattle.smf_grammar.specs.Files.{ArePairs, IsTrack, Track}
-use Rattle.smf_grammar.specs.Contents.{put, in_order, message_of, event_if, events_from, events_of, tempo_in, tempo_of, entry_if, tempos_from, entries_of, last_at_each, default_entry, is_skipped, skipped_in, skipped_in_all, skipped_of}
+use Rattle.smf_grammar.specs.Contents.{put_by_tick, in_order, message_of, event_if, events_from, events_of, tempo_in, tempo_of, entry_if, tempos_from, entries_of, last_at_each, default_entry, is_skipped, skipped_in, skipped_in_all, skipped_of}
 use Rattle.smf_grammar.specs.Texts.{shortest, message_text, events_text, track_text, chunk_text, file_text, can_follow, bad_event, stands_in_files}
 use Rattle.smf_grammar.specs.Laws.{ReadsText}
 use Rattle.smf_grammar.proofs.Spelled.{quantity-shortest, quantity-byte, event-spelled, sized-text, event-text, pair-parts}
@@ -73,7 +73,7 @@ unfolding pairs-text
 events-stand [] before running rest h k = record { after = running; stand = (refl, refl) }
 events-stand (e ∷ events) before running rest h k =
     let f : Follows before e events = follows before e events h in
-    let ih : Stand (status_after (event-spelled e.message)) (events_text e.tick events ++ rest) (pairs-text e.tick events) rest = events-stand events e.tick (status_after (event-spelled e.message)) rest f.more k.1 in
+    let ih : Stand (running_after (event-spelled e.message)) (events_text e.tick events ++ rest) (pairs-text e.tick events) rest = events-stand events e.tick (running_after (event-spelled e.message)) rest f.more k.1 in
     let shape : events_text before (e ∷ events) ++ rest ≡ shortest (e.tick - before) ++ (message_text e.message ++ (events_text e.tick events ++ rest)) =
     append_assoc (shortest (e.tick - before) ++ message_text e.message) (events_text e.tick events) rest ∙ append_assoc (shortest (e.tick - before)) (message_text e.message) (events_text e.tick events ++ rest) in
     let first : pair_at running (shortest (e.tick - before) ++ (message_text e.message ++ (events_text e.tick events ++ rest))) ≡ Ok (record { delta = e.tick - before; event = event-spelled e.message }, events_text e.tick events ++ rest) =
@@ -220,19 +220,19 @@ none-skipped (e ∷ events) before k =
     ∙ ap (λ (n : ℕ). 0 + n) (none-skipped events e.tick k.1)
 
 -- written events rise
-put-first : (e : Event) (before : ℕ) (events : List Event) → before ≡ e.tick → bad_event before events ≡ None → put (λ (x : Event). x.tick) e events ≡ e ∷ events
+put-first : (e : Event) (before : ℕ) (events : List Event) → before ≡ e.tick → bad_event before events ≡ None → put_by_tick (λ (x : Event). x.tick) e events ≡ e ∷ events
 put-first e before [] same h = refl
 put-first e before (d ∷ events) same h =
     let f : Follows before d events = follows before d events h in
     let le : before ≤ d.tick = f.later in
     let test : nat_le e.tick d.tick ≡ true = le-leb e.tick d.tick (omega arith) in
-    ap (λ (t : Bool). if t then (e ∷ d ∷ events) else (d ∷ put (λ (x : Event). x.tick) e events)) test
+    ap (λ (t : Bool). if t then (e ∷ d ∷ events) else (d ∷ put_by_tick (λ (x : Event). x.tick) e events)) test
 
 pub written-order : (events : List Event) (before : ℕ) → bad_event before events ≡ None → in_order (λ (x : Event). x.tick) events ≡ events
 written-order [] before h = refl
 written-order (e ∷ events) before h =
     let f : Follows before e events = follows before e events h in
-    ap (put (λ (x : Event). x.tick) e) (written-order events e.tick f.more) ∙ put-first e e.tick events refl f.more
+    ap (put_by_tick (λ (x : Event). x.tick) e) (written-order events e.tick f.more) ∙ put-first e e.tick events refl f.more
 
 tempo-said : (tempo : ℕ) → IsTrue (is_tempo tempo) → tempo_in (big_bytes 3 tempo) ≡ Some tempo
 tempo-said tempo h =
@@ -244,7 +244,7 @@ tempo-said tempo h =
 
 -- ---- together
 
-said-entries : (ppq tempo : ℕ) (events : List Event) → counts_frames ppq ≡ false → IsTrue (is_tempo tempo) → entries_of (record { format = 0; division = ppq; tracks = track-pairs tempo events ∷ [] }) ≡ record { tick = 0; tempo = tempo } ∷ []
+said-entries : (ppq tempo : ℕ) (events : List Event) → is_frame_division ppq ≡ false → IsTrue (is_tempo tempo) → entries_of (record { format = 0; division = ppq; tracks = track-pairs tempo events ∷ [] }) ≡ record { tick = 0; tempo = tempo } ∷ []
 unfolding track-pairs tempo-pair
 said-entries ppq tempo events metrical h =
     let first : tempos_from 0 (tempo-pair tempo ∷ (pairs-text 0 events ++ end-pair ∷ [])) ≡ record { tick = 0; tempo = tempo } ∷ [] =
@@ -252,7 +252,7 @@ said-entries ppq tempo events metrical h =
     ap (λ (t : Bool). if t then [] else last_at_each (default_entry ∷ in_order (λ (e : TempoEntry). e.tick) (tempos_from 0 (tempo-pair tempo ∷ (pairs-text 0 events ++ end-pair ∷ [])) ++ []))) metrical
     ∙ ap (λ (ts : List TempoEntry). last_at_each (default_entry ∷ in_order (λ (e : TempoEntry). e.tick) (ts ++ []))) first
 
-said-skipped : (ppq tempo : ℕ) (events : List Event) → counts_frames ppq ≡ false → IsTrue (is_tempo tempo) → AllMessages (map (λ e. e.message) events) → skipped_of (record { format = 0; division = ppq; tracks = track-pairs tempo events ∷ [] }) ≡ 0
+said-skipped : (ppq tempo : ℕ) (events : List Event) → is_frame_division ppq ≡ false → IsTrue (is_tempo tempo) → AllMessages (map (λ e. e.message) events) → skipped_of (record { format = 0; division = ppq; tracks = track-pairs tempo events ∷ [] }) ≡ 0
 unfolding track-pairs tempo-pair
 said-skipped ppq tempo events metrical h k =
     ap (λ (t : Bool). skipped_in_all (not t) (track-pairs tempo events ∷ [])) metrical
@@ -268,7 +268,7 @@ pub reads-text : ReadsText
 unfolding file_text
 reads-text ppq tempo events w =
     let high : ppq ≤ 32767 = leb-true ppq 32767 (and_true (nat_le 1 ppq) (nat_le ppq 32767) w.ppq_is).1 in
-    let metrical : counts_frames ppq ≡ false = grind (arith, nat_tests) in
+    let metrical : is_frame_division ppq ≡ false = grind (arith, nat_tests) in
     let whole : length (chunk_text (codes "MThd") (big_bytes 2 0 ++ big_bytes 2 1 ++ big_bytes 2 ppq) ++ chunk_text (codes "MTrk") (track_text tempo events)) ≤ 16777216 = w.small in
     let small : length (track_text tempo events) < 256 ^ 4 = track-small ppq (track_text tempo events) whole in
     record {

@@ -2,10 +2,10 @@
 use Rattle.std.proofs.Common.{◌≡◌, ◌<◌, ℕ, zero, suc, ◌+◌, ◌-◌, Bool, true, false, List, [], ◌∷◌, ◌++◌, ◌∙◌, length, refl, arith, ap, sym, subst, inl, inr}
 use Rattle.std.specs.Prelude.{Option, None, Result, Ok, Err, if◌then◌else◌, ◌⊎◌}
 use Rattle.smf_grammar.specs.Outcomes.{◌>>=◌}
-use Rattle.smf_grammar.specs.Pairs.{Pair, is_end, status_after, pair_at}
+use Rattle.smf_grammar.specs.Pairs.{Pair, is_end, running_after, pair_at}
 use Rattle.smf_grammar.specs.Chunks.{Header, header_at, Chunk, chunk_at}
-use Rattle.smf_grammar.specs.Files.{ArePairs, EndsIn, IsTrack, StopsAt, TrackFault, Item, Other, Track, tracks_in, AreChunks, MidiFile, File, IsChunkFault, Fault}
-use Rattle.smf_grammar.specs.Reading.{Pairs, with_pair, pairs_by, pairs_from, pairs_of, track_by, tracks_by, tracks_from, reading}
+use Rattle.smf_grammar.specs.Files.{ArePairs, EndsIn, IsTrack, StopsAt, TrackFault, Item, Other, Track, tracks_in, AreChunks, MidiFile, IsFile, IsChunkFault, Fault}
+use Rattle.smf_grammar.specs.Reading.{Pairs, with_pair, pairs_by, pairs_from, pairs_of, track_by, tracks_by, tracks_from, file_reading}
 use Rattle.smf_grammar.specs.declared.fault.PairFault.{PairFault}
 use Rattle.smf_grammar.specs.declared.fault.ChunkFault.{ChunkFault}
 use Rattle.smf_grammar.specs.declared.fault.ChunkFault.TheVariants as chunk_fault
@@ -17,7 +17,7 @@ use Rattle.smf_grammar.proofs.Shorter.{pair-shorter, chunk-shorter}
 
 -- ---- pairs
 
-ends-with : (running : Option ℕ) (left more : List ℕ) (p : Pair) (qs : List Pair) → pair_at running left ≡ Ok (p, more) → is_end p.event ≡ false → EndsIn (status_after p.event) more qs → EndsIn running left (p ∷ qs)
+ends-with : (running : Option ℕ) (left more : List ℕ) (p : Pair) (qs : List Pair) → pair_at running left ≡ Ok (p, more) → is_end p.event ≡ false → EndsIn (running_after p.event) more qs → EndsIn running left (p ∷ qs)
 ends-with running left more p qs e f w = record {
   before = p ∷ w.before;
   last = w.last;
@@ -30,7 +30,7 @@ ends-with running left more p qs e f w = record {
   ends = w.ends;
 }
 
-stops-with : (running : Option ℕ) (left more : List ℕ) (p : Pair) (fault : PairFault) (rest : List ℕ) → pair_at running left ≡ Ok (p, more) → is_end p.event ≡ false → StopsAt (status_after p.event) more fault rest → StopsAt running left fault rest
+stops-with : (running : Option ℕ) (left more : List ℕ) (p : Pair) (fault : PairFault) (rest : List ℕ) → pair_at running left ≡ Ok (p, more) → is_end p.event ≡ false → StopsAt (running_after p.event) more fault rest → StopsAt running left fault rest
 stops-with running left more p fault rest e f w = record { before = p ∷ w.before; after = w.after; stand = (more, e, f, w.stand); next = w.next }
 
 pub pairs-end : (n : ℕ) (running : Option ℕ) (left : List ℕ) (ps : List Pair) → pairs_from n running left ≡ Ok ps → EndsIn running left ps
@@ -42,13 +42,13 @@ pairs-end (suc n) running left ps e =
     Again : Type 0
     Again = (run : Option ℕ) (l : List ℕ) (qs : List Pair) → pairs_from n run l ≡ Ok qs → EndsIn run l qs
 
-    more : Again → (p : Pair) (l : List ℕ) → pair_at running left ≡ Ok (p, l) → is_end p.event ≡ false → (r : Pairs) → pairs_from n (status_after p.event) l ≡ r → with_pair p r ≡ Ok ps → EndsIn running left ps
+    more : Again → (p : Pair) (l : List ℕ) → pair_at running left ≡ Ok (p, l) → is_end p.event ≡ false → (r : Pairs) → pairs_from n (running_after p.event) l ≡ r → with_pair p r ≡ Ok ps → EndsIn running left ps
     more again p l is f (Err stop) rest e = let bad : ⊥ = cc in absurd bad
-    more again p l is f (Ok qs) rest e = let same : p ∷ qs ≡ ps = cc in subst (λ (xs : List Pair). EndsIn running left xs) same (ends-with running left l p qs is f (again (status_after p.event) l qs rest))
+    more again p l is f (Ok qs) rest e = let same : p ∷ qs ≡ ps = cc in subst (λ (xs : List Pair). EndsIn running left xs) same (ends-with running left l p qs is f (again (running_after p.event) l qs rest))
 
-    branch : Again → (found : Pair × List ℕ) (t : Bool) → pair_at running left ≡ Ok found → is_end found.0.event ≡ t → (if t then Ok (found.0 ∷ []) else with_pair found.0 (pairs_from n (status_after found.0.event) found.1)) ≡ Ok ps → EndsIn running left ps
+    branch : Again → (found : Pair × List ℕ) (t : Bool) → pair_at running left ≡ Ok found → is_end found.0.event ≡ t → (if t then Ok (found.0 ∷ []) else with_pair found.0 (pairs_from n (running_after found.0.event) found.1)) ≡ Ok ps → EndsIn running left ps
     branch again found true is f e = let same : found.0 ∷ [] ≡ ps = cc in subst (λ (xs : List Pair). EndsIn running left xs) same (record { before = []; last = found.0; after = running; rest = left; unread = found.1; whole = refl; stand = (refl, refl); next = is; ends = f })
-    branch again found false is f e = more again found.0 found.1 is f (pairs_from n (status_after found.0.event) found.1) refl e
+    branch again found false is f e = more again found.0 found.1 is f (pairs_from n (running_after found.0.event) found.1) refl e
 
     go : Again → (r : Result (Pair × List ℕ) PairFault) → pair_at running left ≡ r → pairs_by (pairs_from n) left r ≡ Ok ps → EndsIn running left ps
     go again (Err fault) is e = let bad : ⊥ = cc in absurd bad
@@ -63,16 +63,16 @@ pairs-stop (suc n) running left stop h e =
     Again : Type 0
     Again = (run : Option ℕ) (l : List ℕ) (s : PairFault × List ℕ) → length l < n → pairs_from n run l ≡ Err s → StopsAt run l s.0 s.1
 
-    more : Again → (p : Pair) (l : List ℕ) → pair_at running left ≡ Ok (p, l) → is_end p.event ≡ false → (r : Pairs) → pairs_from n (status_after p.event) l ≡ r → with_pair p r ≡ Err stop → StopsAt running left stop.0 stop.1
+    more : Again → (p : Pair) (l : List ℕ) → pair_at running left ≡ Ok (p, l) → is_end p.event ≡ false → (r : Pairs) → pairs_from n (running_after p.event) l ≡ r → with_pair p r ≡ Err stop → StopsAt running left stop.0 stop.1
     more again p l is f (Ok qs) rest e = let bad : ⊥ = cc in absurd bad
     more again p l is f (Err other) rest e =
         let shorter : length l < length left = pair-shorter running left (p, l) is in
         let same : other ≡ stop = cc in
-        stops-with running left l p stop.0 stop.1 is f (again (status_after p.event) l stop (omega arith) (rest ∙ ap (λ (s : PairFault × List ℕ). Err s) same))
+        stops-with running left l p stop.0 stop.1 is f (again (running_after p.event) l stop (omega arith) (rest ∙ ap (λ (s : PairFault × List ℕ). Err s) same))
 
-    branch : Again → (found : Pair × List ℕ) (t : Bool) → pair_at running left ≡ Ok found → is_end found.0.event ≡ t → (if t then Ok (found.0 ∷ []) else with_pair found.0 (pairs_from n (status_after found.0.event) found.1)) ≡ Err stop → StopsAt running left stop.0 stop.1
+    branch : Again → (found : Pair × List ℕ) (t : Bool) → pair_at running left ≡ Ok found → is_end found.0.event ≡ t → (if t then Ok (found.0 ∷ []) else with_pair found.0 (pairs_from n (running_after found.0.event) found.1)) ≡ Err stop → StopsAt running left stop.0 stop.1
     branch again found true is f e = let bad : ⊥ = cc in absurd bad
-    branch again found false is f e = more again found.0 found.1 is f (pairs_from n (status_after found.0.event) found.1) refl e
+    branch again found false is f e = more again found.0 found.1 is f (pairs_from n (running_after found.0.event) found.1) refl e
 
     go : Again → (r : Result (Pair × List ℕ) PairFault) → pair_at running left ≡ r → pairs_by (pairs_from n) left r ≡ Err stop → StopsAt running left stop.0 stop.1
     go again (Ok found) is e = branch again found (is_end found.0.event) is refl e
@@ -86,11 +86,11 @@ unfolding pairs_from
 end-pairs before zero running after left rest unread last h stand next ends = absurd (omega arith)
 end-pairs [] (suc n) running after left rest unread last h stand next ends =
     let here : pair_at running left ≡ Ok (last, unread) = rw (stand.0, stand.1) next in
-    ap (pairs_by (pairs_from n) left) here ∙ ap (λ (t : Bool). if t then Ok (last ∷ []) else with_pair last (pairs_from n (status_after last.event) unread)) ends
+    ap (pairs_by (pairs_from n) left) here ∙ ap (λ (t : Bool). if t then Ok (last ∷ []) else with_pair last (pairs_from n (running_after last.event) unread)) ends
 end-pairs (p ∷ ps) (suc n) running after left rest unread last h stand next ends =
     let shorter : length stand.0 < length left = pair-shorter running left (p, stand.0) stand.1 in
-    ap (pairs_by (pairs_from n) left) stand.1 ∙ ap (λ (t : Bool). if t then Ok (p ∷ []) else with_pair p (pairs_from n (status_after p.event) stand.0)) stand.2
-    ∙ ap (with_pair p) (end-pairs ps n (status_after p.event) after stand.0 rest unread last (omega arith) stand.3 next ends)
+    ap (pairs_by (pairs_from n) left) stand.1 ∙ ap (λ (t : Bool). if t then Ok (p ∷ []) else with_pair p (pairs_from n (running_after p.event) stand.0)) stand.2
+    ∙ ap (with_pair p) (end-pairs ps n (running_after p.event) after stand.0 rest unread last (omega arith) stand.3 next ends)
 
 pub stop-pairs : (before : List Pair) (n : ℕ) (running after : Option ℕ) (left rest : List ℕ) (fault : PairFault) → length left < n → ArePairs running left before after rest → pair_at after rest ≡ Err fault → pairs_from n running left ≡ Err (fault, rest)
 unfolding pairs_from
@@ -100,8 +100,8 @@ stop-pairs [] (suc n) running after left rest fault h stand next =
     ap (pairs_by (pairs_from n) left) here ∙ ap (λ (l : List ℕ). Err (fault, l)) stand.1
 stop-pairs (p ∷ ps) (suc n) running after left rest fault h stand next =
     let shorter : length stand.0 < length left = pair-shorter running left (p, stand.0) stand.1 in
-    ap (pairs_by (pairs_from n) left) stand.1 ∙ ap (λ (t : Bool). if t then Ok (p ∷ []) else with_pair p (pairs_from n (status_after p.event) stand.0)) stand.2
-    ∙ ap (with_pair p) (stop-pairs ps n (status_after p.event) after stand.0 rest fault (omega arith) stand.3 next)
+    ap (pairs_by (pairs_from n) left) stand.1 ∙ ap (λ (t : Bool). if t then Ok (p ∷ []) else with_pair p (pairs_from n (running_after p.event) stand.0)) stand.2
+    ∙ ap (with_pair p) (stop-pairs ps n (running_after p.event) after stand.0 rest fault (omega arith) stand.3 next)
 
 pub content-track : (content : List ℕ) (ps : List Pair) → pairs_of content ≡ Ok ps → IsTrack content ps
 unfolding pairs_of
@@ -326,8 +326,8 @@ file_with head tracks = Ok (record { format = head.0.format; division = head.0.d
 abbrev after_header : List ℕ → Header × List ℕ → Result MidiFile SmfFault
 after_header bytes head = tracks_from (suc (length head.1)) (length bytes) head.0.tracks 0 head.1 >>= file_with head
 
-pub reading-file : (bytes : List ℕ) (f : MidiFile) → reading bytes ≡ Ok f → File bytes f
-unfolding reading
+pub reading-file : (bytes : List ℕ) (f : MidiFile) → file_reading bytes ≡ Ok f → IsFile bytes f
+unfolding file_reading
 reading-file bytes f e =
     let head : Bound (header_at bytes) (after_header bytes) f = bind-ok (header_at bytes) (after_header bytes) f e in
     let whole : Bound (tracks_from (suc (length head.value.1)) (length bytes) head.value.0.tracks 0 head.value.1) (λ tracks. Ok (record { format = head.value.0.format; division = head.value.0.division; tracks = tracks })) f = bind-ok _ _ _ head.next in
@@ -347,8 +347,8 @@ reading-file bytes f e =
       tracks = sym (ap (λ (g : MidiFile). g.tracks) same) ∙ told.0.are;
     }
 
-pub file-reading : (bytes : List ℕ) (f : MidiFile) → File bytes f → reading bytes ≡ Ok f
-unfolding reading
+pub file-reading : (bytes : List ℕ) (f : MidiFile) → IsFile bytes f → file_reading bytes ≡ Ok f
+unfolding file_reading
 file-reading bytes f w =
     let whole : tracks_from (suc (length w.after)) (length bytes) w.header.tracks 0 w.after ≡ Ok (tracks_in w.items) = stand-tracks w.items (suc (length w.after)) (length bytes) w.header.tracks 0 w.after w.unread (omega arith) w.stand w.counted in
     let same : record { format = w.header.format; division = w.header.division; tracks = tracks_in w.items } ≡ f = three w.header.format w.header.division (tracks_in w.items) f w.format w.division w.tracks in
@@ -359,8 +359,8 @@ file-reading bytes f w =
     three : (format division : ℕ) (tracks : List (List Pair)) (g : MidiFile) → g.format ≡ format → g.division ≡ division → g.tracks ≡ tracks → record { format = format; division = division; tracks = tracks } ≡ g
     three format division tracks g a b c = rw (← a, ← b, ← c) refl
 
-pub reading-fault : (bytes : List ℕ) (x : SmfFault) → reading bytes ≡ Err x → Fault bytes x
-unfolding reading
+pub reading-fault : (bytes : List ℕ) (x : SmfFault) → file_reading bytes ≡ Err x → Fault bytes x
+unfolding file_reading
 reading-fault bytes x e =
     go (header_at bytes) refl e
   where
@@ -376,8 +376,8 @@ reading-fault bytes x e =
     go (Err y) is e = let same : y ≡ x = cc in inl (is ∙ ap (λ (z : SmfFault). Err z) same)
     go (Ok head) is e = more head is (tracks_from (suc (length head.1)) (length bytes) head.0.tracks 0 head.1) refl e
 
-pub fault-reading : (bytes : List ℕ) (x : SmfFault) → Fault bytes x → reading bytes ≡ Err x
-unfolding reading
+pub fault-reading : (bytes : List ℕ) (x : SmfFault) → Fault bytes x → file_reading bytes ≡ Err x
+unfolding file_reading
 fault-reading bytes x (inl e) = ap (λ (r : Result (Header × List ℕ) SmfFault). r >>= after_header bytes) e
 fault-reading bytes x (inr w) =
     let number : length (tracks_in w.items) ≡ 0 + length (tracks_in w.items) = omega arith in
@@ -395,17 +395,17 @@ reads-faults bytes x = (reading-fault bytes x, fault-reading bytes x)
 
 pub file-or-fault : FileOrFault
 file-or-fault bytes =
-    go (reading bytes) refl
+    go (file_reading bytes) refl
   where
-    go : (r : Result MidiFile SmfFault) → reading bytes ≡ r → ((f : MidiFile) × File bytes f) ⊎ ((x : SmfFault) × Fault bytes x)
+    go : (r : Result MidiFile SmfFault) → file_reading bytes ≡ r → ((f : MidiFile) × IsFile bytes f) ⊎ ((x : SmfFault) × Fault bytes x)
     go (Ok f) e = inl (f, reading-file bytes f e)
     go (Err x) e = inr (x, reading-fault bytes x e)
 
 pub one-file : OneFile
-one-file bytes f g w v = let a : reading bytes ≡ Ok f = file-reading bytes f w in let b : reading bytes ≡ Ok g = file-reading bytes g v in cc
+one-file bytes f g w v = let a : file_reading bytes ≡ Ok f = file-reading bytes f w in let b : file_reading bytes ≡ Ok g = file-reading bytes g v in cc
 
 pub one-fault : OneFault
-one-fault bytes x y w v = let a : reading bytes ≡ Err x = fault-reading bytes x w in let b : reading bytes ≡ Err y = fault-reading bytes y v in cc
+one-fault bytes x y w v = let a : file_reading bytes ≡ Err x = fault-reading bytes x w in let b : file_reading bytes ≡ Err y = fault-reading bytes y v in cc
 
 pub not-both : NotBoth
-not-both bytes f x w v = let a : reading bytes ≡ Ok f = file-reading bytes f w in let b : reading bytes ≡ Err x = fault-reading bytes x v in cc
+not-both bytes f x w v = let a : file_reading bytes ≡ Ok f = file-reading bytes f w in let b : file_reading bytes ≡ Err x = fault-reading bytes x v in cc

@@ -4,7 +4,7 @@
 -- format in their order.
 use Rattle.std.specs.Prelude.{ℕ, ◌/◌, ◌%◌, Bool, true, false, not, List, [], ◌∷◌, length, take, drop, Result, Ok, nat_le, ◌==◌, ◌&&◌, ◌||◌, if◌then◌else◌, codes}
 use Rattle.byteorder.specs.Endian.{big_number}
-use Rattle.smf_grammar.specs.Outcomes.{◌>>=◌, unless}
+use Rattle.smf_grammar.specs.Outcomes.{◌>>=◌, fault_unless}
 use Rattle.smf_grammar.specs.declared.fault.SmfFault.{SmfFault}
 use Rattle.smf_grammar.specs.declared.fault.SmfFault.TheVariants.{NotMidi, ShortHeader, UnknownFormat, Format2, BadTrackCount, ZeroDivision, SmpteDivision, DropFrame, TooLarge}
 use Rattle.smf_grammar.specs.declared.fault.ChunkFault.{ChunkFault}
@@ -21,8 +21,8 @@ starts (x ∷ xs) [] = false
 starts (x ∷ xs) (b ∷ bytes) = (b == x) && starts xs bytes
 
 -- bit 15 is set: the upper byte is the negated frames per second, the lower the ticks of a frame
-abbrev pub counts_frames : ℕ → Bool
-counts_frames division = nat_le 32768 division
+abbrev pub is_frame_division : ℕ → Bool
+is_frame_division division = nat_le 32768 division
 
 -- E8, E7 and E2 for 24, 25 and 30 frames per second
 abbrev pub is_whole_rate : ℕ → Bool
@@ -41,13 +41,13 @@ is_track_count format tracks = if format == 0 then tracks == 1 else not (tracks 
 -- the tests of the three numbers of a header
 unfoldable pub header_of : ℕ → ℕ → ℕ → Result Header SmfFault
 header_of format tracks division =
-    unless (nat_le format 2) UnknownFormat
-    (unless (not (format == 2)) Format2
-    (unless (is_track_count format tracks) BadTrackCount
-    (unless (not (division == 0)) ZeroDivision
-    (unless (not (counts_frames division && division / 256 == 227)) DropFrame
-    (unless (not (counts_frames division && not (is_whole_rate (division / 256)))) SmpteDivision
-    (unless (not (counts_frames division && division % 256 == 0)) ZeroDivision
+    fault_unless (nat_le format 2) UnknownFormat
+    (fault_unless (not (format == 2)) Format2
+    (fault_unless (is_track_count format tracks) BadTrackCount
+    (fault_unless (not (division == 0)) ZeroDivision
+    (fault_unless (not (is_frame_division division && division / 256 == 227)) DropFrame
+    (fault_unless (not (is_frame_division division && not (is_whole_rate (division / 256)))) SmpteDivision
+    (fault_unless (not (is_frame_division division && division % 256 == 0)) ZeroDivision
     (Ok (record { format = format; tracks = tracks; division = division }))))))))
 
 -- the length that a chunk says it has
@@ -63,9 +63,9 @@ is_long_enough bytes =
 -- the header of these bytes, and what is left after it
 unfoldable pub header_at : List ℕ → Result (Header × List ℕ) SmfFault
 header_at bytes =
-    unless (nat_le (length bytes) most_bytes) TooLarge
-    (unless (starts (codes "MThd") bytes) NotMidi
-    (unless (is_long_enough bytes) ShortHeader
+    fault_unless (nat_le (length bytes) most_bytes) TooLarge
+    (fault_unless (starts (codes "MThd") bytes) NotMidi
+    (fault_unless (is_long_enough bytes) ShortHeader
     (header_of (big_number 2 (drop 8 bytes)) (big_number 2 (drop 10 bytes))
     (big_number 2 (drop 12 bytes)) >>= λ header.
     Ok (header, drop (size_at bytes) (drop 8 bytes)))))
@@ -83,6 +83,6 @@ chunk_of left size =
 -- the chunk that stands first, and what is left after it
 unfoldable pub chunk_at : List ℕ → Result (Chunk × List ℕ) ChunkFault
 chunk_at left =
-    unless (nat_le 8 (length left)) Missing
-    (unless (nat_le (size_at left) (length (drop 8 left))) Cut
+    fault_unless (nat_le 8 (length left)) Missing
+    (fault_unless (nat_le (size_at left) (length (drop 8 left))) Cut
     (Ok (chunk_of left (size_at left), drop (size_at left) (drop 8 left))))

@@ -7,20 +7,20 @@ use Rattle.midi_wire.specs.Messages.{is_message}
 use Rattle.tempo_clock.specs.declared.entry.TempoEntry.{TempoEntry}
 use Rattle.smf_grammar.specs.declared.event.Event.{Event}
 use Rattle.smf_grammar.specs.Pairs.{TrackEvent, Voice, Exclusive, Escape, Meta, Pair}
-use Rattle.smf_grammar.specs.Chunks.{counts_frames}
+use Rattle.smf_grammar.specs.Chunks.{is_frame_division}
 use Rattle.smf_grammar.specs.Files.{MidiFile}
 
 -- ---- in order
 
 -- puts an item before the first that does not come before it
-abbrev pub put : {A : Type 0} → (A → ℕ) → A → List A → List A
-put tick x [] = x ∷ []
-put tick x (y ∷ ys) = if nat_le (tick x) (tick y) then (x ∷ y ∷ ys) else (y ∷ put tick x ys)
+abbrev pub put_by_tick : {A : Type 0} → (A → ℕ) → A → List A → List A
+put_by_tick tick x [] = x ∷ []
+put_by_tick tick x (y ∷ ys) = if nat_le (tick x) (tick y) then (x ∷ y ∷ ys) else (y ∷ put_by_tick tick x ys)
 
 -- by tick; items at one tick stay in their order
 abbrev pub in_order : {A : Type 0} → (A → ℕ) → List A → List A
 in_order tick [] = []
-in_order tick (x ∷ xs) = put tick x (in_order tick xs)
+in_order tick (x ∷ xs) = put_by_tick tick x (in_order tick xs)
 
 -- ---- events
 
@@ -94,7 +94,7 @@ default_entry = record { tick = 0; tempo = 500000 }
 -- last holds
 abbrev pub entries_of : MidiFile → List TempoEntry
 entries_of f =
-    if counts_frames f.division then []
+    if is_frame_division f.division then []
     else last_at_each (default_entry ∷ in_order (λ e. e.tick) (flat_map (tempos_from 0) f.tracks))
 
 -- ---- what is skipped
@@ -118,4 +118,4 @@ skipped_in_all metrical (ps ∷ tracks) = skipped_in metrical ps + skipped_in_al
 
 -- how many events of a file are skipped and counted
 abbrev pub skipped_of : MidiFile → ℕ
-skipped_of f = skipped_in_all (not (counts_frames f.division)) f.tracks
+skipped_of f = skipped_in_all (not (is_frame_division f.division)) f.tracks

@@ -1,6 +1,6 @@
 -- Files: which bytes are one, and what is wrong with all others (Standard MIDI Files 1.0).
 use Rattle.std.specs.Prelude.{◌≡◌, ◌<◌, ℕ, ◌+◌, ◌-◌, true, false, List, [], ◌∷◌, ◌++◌, length, Option, None, Result, Ok, Err, ◌⊎◌}
-use Rattle.smf_grammar.specs.Pairs.{Pair, is_end, status_after, pair_at}
+use Rattle.smf_grammar.specs.Pairs.{Pair, is_end, running_after, pair_at}
 use Rattle.smf_grammar.specs.Chunks.{Header, header_at, Chunk, chunk_at}
 use Rattle.smf_grammar.specs.declared.fault.PairFault.{PairFault}
 use Rattle.smf_grammar.specs.declared.fault.PairFault.TheVariants as pair_fault
@@ -17,7 +17,7 @@ abbrev pub ArePairs : Option ℕ → List ℕ → List Pair → Option ℕ → L
 ArePairs running left [] after rest = (running ≡ after) × (left ≡ rest)
 ArePairs running left (p ∷ ps) after rest =
     (more : List ℕ) × (pair_at running left ≡ Ok (p, more)) × (is_end p.event ≡ false)
-    × ArePairs (status_after p.event) more ps after rest
+    × ArePairs (running_after p.event) more ps after rest
 
 -- where so much is left stand these pairs, the last of which is the first end of track, and then
 -- bytes that no one reads
@@ -94,7 +94,7 @@ pub record MidiFile : Type 0 where
 
 -- the bytes are this file: a header, chunks with as many tracks as the header says, and bytes that
 -- no one reads
-pub record File (bytes : List ℕ) (f : MidiFile) : Type 0 where
+pub record IsFile (bytes : List ℕ) (f : MidiFile) : Type 0 where
   pub header : Header
   pub after : List ℕ
   pub items : List Item

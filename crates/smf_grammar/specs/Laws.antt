@@ -10,16 +10,16 @@ use Rattle.midi_wire.specs.Messages.{AllMessages}
 use Rattle.tempo_clock.specs.Entries.{is_ppq, is_tempo}
 use Rattle.smf_grammar.specs.declared.fault.SmfFault.{SmfFault}
 use Rattle.smf_grammar.specs.declared.fault.SmfFault.TheVariants.{OutOfMemory}
-use Rattle.smf_grammar.specs.Files.{MidiFile, File, Fault}
-use Rattle.smf_grammar.specs.Reading.{reading}
+use Rattle.smf_grammar.specs.Files.{MidiFile, IsFile, Fault}
+use Rattle.smf_grammar.specs.Reading.{file_reading}
 
 -- the bytes are a file, or they have a fault
 abbrev pub FileOrFault : Type 0
-FileOrFault = (bytes : List ℕ) → ((f : MidiFile) × File bytes f) ⊎ ((x : SmfFault) × Fault bytes x)
+FileOrFault = (bytes : List ℕ) → ((f : MidiFile) × IsFile bytes f) ⊎ ((x : SmfFault) × Fault bytes x)
 
 -- they are one file at most
 abbrev pub OneFile : Type 0
-OneFile = (bytes : List ℕ) (f g : MidiFile) → File bytes f → File bytes g → f ≡ g
+OneFile = (bytes : List ℕ) (f g : MidiFile) → IsFile bytes f → IsFile bytes g → f ≡ g
 
 -- they have one fault at most
 abbrev pub OneFault : Type 0
@@ -27,62 +27,62 @@ OneFault = (bytes : List ℕ) (x y : SmfFault) → Fault bytes x → Fault bytes
 
 -- and never both
 abbrev pub NotBoth : Type 0
-NotBoth = (bytes : List ℕ) (f : MidiFile) (x : SmfFault) → File bytes f → Fault bytes x → ⊥
+NotBoth = (bytes : List ℕ) (f : MidiFile) (x : SmfFault) → IsFile bytes f → Fault bytes x → ⊥
 
 -- reading computes which
 abbrev pub ReadsFiles : Type 0
-ReadsFiles = (bytes : List ℕ) (f : MidiFile) → (reading bytes ≡ Ok f) ↔ File bytes f
+ReadsFiles = (bytes : List ℕ) (f : MidiFile) → (file_reading bytes ≡ Ok f) ↔ IsFile bytes f
 
 abbrev pub ReadsFaults : Type 0
-ReadsFaults = (bytes : List ℕ) (x : SmfFault) → (reading bytes ≡ Err x) ↔ Fault bytes x
+ReadsFaults = (bytes : List ℕ) (x : SmfFault) → (file_reading bytes ≡ Err x) ↔ Fault bytes x
 
 -- ---- the order of events
 
 -- an event with the number of its track and its place there
-pub record Placed : Type 0 where
+pub record PlacedEvent : Type 0 where
   pub tick : ℕ
   pub track : ℕ
   pub place : ℕ
   pub message : List ℕ
 
-abbrev pub placed_if : ℕ → ℕ → ℕ → Option (List ℕ) → List Placed
+abbrev pub placed_if : ℕ → ℕ → ℕ → Option (List ℕ) → List PlacedEvent
 placed_if tick track place None = []
 placed_if tick track place (Some message) =
     record { tick = tick; track = track; place = place; message = message } ∷ []
 
 -- the messages of the pairs of a track, from this tick and this place on
-abbrev pub placed_in : ℕ → ℕ → ℕ → List Pair → List Placed
+abbrev pub placed_in : ℕ → ℕ → ℕ → List Pair → List PlacedEvent
 placed_in track place tick [] = []
 placed_in track place tick (p ∷ ps) =
     placed_if (tick + p.delta) track place (message_of p.event)
     ++ placed_in track (suc place) (tick + p.delta) ps
 
 -- those of all tracks, one after another
-abbrev pub all_placed : ℕ → List (List Pair) → List Placed
+abbrev pub all_placed : ℕ → List (List Pair) → List PlacedEvent
 all_placed track [] = []
 all_placed track (ps ∷ tracks) = placed_in track 0 0 ps ++ all_placed (suc track) tracks
 
 -- an earlier tick; or the same, and an earlier track; or the same too, and an earlier place
-abbrev pub Before : Placed → Placed → Type 0
+abbrev pub Before : PlacedEvent → PlacedEvent → Type 0
 Before a b =
     (a.tick < b.tick) ⊎ ((a.tick ≡ b.tick)
     × ((a.track < b.track) ⊎ ((a.track ≡ b.track) × (a.place < b.place))))
 
-abbrev pub AllBefore : Placed → List Placed → Type 0
+abbrev pub AllBefore : PlacedEvent → List PlacedEvent → Type 0
 AllBefore a [] = Unit {0}
 AllBefore a (b ∷ bs) = Before a b × AllBefore a bs
 
 -- each comes before all after it
-abbrev pub AreInOrder : List Placed → Type 0
+abbrev pub AreInOrder : List PlacedEvent → Type 0
 AreInOrder [] = Unit {0}
 AreInOrder (a ∷ bs) = AllBefore a bs × AreInOrder bs
 
-abbrev pub event_of : Placed → Event
+abbrev pub event_of : PlacedEvent → Event
 event_of a = record { tick = a.tick; message = a.message }
 
 -- the events of a file are all of its tracks' events, by tick, then by track, then by place
 pub record IsOrdered (f : MidiFile) : Type 0 where
-  pub sorted : List Placed
+  pub sorted : List PlacedEvent
   pub all : IsPermutation (all_placed 0 f.tracks) sorted
   pub rising : AreInOrder sorted
   pub events : events_of f ≡ map event_of sorted
@@ -103,7 +103,7 @@ pub record CanBeWritten (ppq tempo : ℕ) (events : List Event) : Type 0 where
 -- its text is a file of format 0 that says just this
 pub record ReadsBack (ppq tempo : ℕ) (events : List Event) : Type 0 where
   pub f : MidiFile
-  pub file : File (file_text ppq tempo events) f
+  pub file : IsFile (file_text ppq tempo events) f
   pub format : f.format ≡ 0
   pub one : length f.tracks ≡ 1
   pub division : f.division ≡ ppq

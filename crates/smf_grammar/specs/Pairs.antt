@@ -9,7 +9,7 @@ use Rattle.midi_wire.specs.declared.status.Width.TheVariants.{One, Two}
 use Rattle.midi_wire.specs.declared.status.StatusClass.{StatusClass}
 use Rattle.midi_wire.specs.Messages.{begins, is_status}
 use Rattle.midi_wire.specs.declared.status.StatusClass.TheVariants as wire
-use Rattle.smf_grammar.specs.Outcomes.{◌>>=◌, unless}
+use Rattle.smf_grammar.specs.Outcomes.{◌>>=◌, fault_unless}
 use Rattle.smf_grammar.specs.Quantities.{quantity}
 use Rattle.smf_grammar.specs.declared.fault.QuantityFault.{QuantityFault}
 use Rattle.smf_grammar.specs.declared.fault.QuantityFault.TheVariants.{Short, Long}
@@ -40,11 +40,11 @@ is_end (Escape bytes) = false
 is_end (Meta kind bytes) = kind == 47
 
 -- the running status after an event: that of a message of a channel; all other events leave none
-abbrev pub status_after : TrackEvent → Option ℕ
-status_after (Voice status payload) = Some status
-status_after (Exclusive bytes) = None
-status_after (Escape bytes) = None
-status_after (Meta kind bytes) = None
+abbrev pub running_after : TrackEvent → Option ℕ
+running_after (Voice status payload) = Some status
+running_after (Exclusive bytes) = None
+running_after (Escape bytes) = None
+running_after (Meta kind bytes) = None
 
 -- a quantity that ends before its last byte is cut
 abbrev pub cut_or_long : QuantityFault → PairFault
@@ -94,7 +94,7 @@ running_at (Some status) left = voice_at status left
 unfoldable pub sized_at : List ℕ → Result (List ℕ × List ℕ) PairFault
 sized_at left = do
   size ← quantity_at left
-  unless (nat_le size.0 (length size.1)) Truncated (Ok (take size.0 size.1, drop size.0 size.1))
+  fault_unless (nat_le size.0 (length size.1)) Truncated (Ok (take size.0 size.1, drop size.0 size.1))
 
 -- a type, a quantity and so many bytes
 unfoldable pub meta_at : List ℕ → Result (TrackEvent × List ℕ) PairFault

@@ -2,7 +2,7 @@
 -- computed.
 use Rattle.std.specs.Prelude.{ℕ, zero, suc, ◌+◌, ◌-◌, List, [], ◌∷◌, length, Option, None, Result, Ok, Err, if◌then◌else◌}
 use Rattle.smf_grammar.specs.Outcomes.{◌>>=◌}
-use Rattle.smf_grammar.specs.Pairs.{Pair, is_end, status_after, pair_at}
+use Rattle.smf_grammar.specs.Pairs.{Pair, is_end, running_after, pair_at}
 use Rattle.smf_grammar.specs.Chunks.{header_at, Chunk, chunk_at}
 use Rattle.smf_grammar.specs.Files.{MidiFile, fault_of_pair}
 use Rattle.smf_grammar.specs.declared.fault.PairFault.{PairFault}
@@ -25,7 +25,7 @@ abbrev pub pairs_by : (Option ℕ → List ℕ → Pairs) → List ℕ → Resul
     → Pairs
 pairs_by more left (Ok found) =
     if is_end found.0.event then Ok (found.0 ∷ [])
-    else with_pair found.0 (more (status_after found.0.event) found.1)
+    else with_pair found.0 (more (running_after found.0.event) found.1)
 pairs_by more left (Err fault) = Err (fault, left)
 
 -- the pairs from here on; each takes a byte, so there are fewer than so many
@@ -62,8 +62,8 @@ tracks_from (suc n) size (suc count) track left =
     tracks_by (tracks_from n size) size count track left (chunk_at left)
 
 -- what these bytes are: a file, or a fault
-unfoldable pub reading : List ℕ → Result MidiFile SmfFault
-reading bytes =
+unfoldable pub file_reading : List ℕ → Result MidiFile SmfFault
+file_reading bytes =
     header_at bytes >>= λ head.
     tracks_from (suc (length head.1)) (length bytes) head.0.tracks 0 head.1 >>= λ tracks.
     Ok (record { format = head.0.format; division = head.0.division; tracks = tracks })

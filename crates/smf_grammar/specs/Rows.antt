@@ -9,7 +9,7 @@ use Rattle.smf_grammar.specs.declared.fault.SmfFault.TheVariants.{NotMidi, Short
 use Rattle.smf_grammar.specs.Files.{MidiFile}
 use Rattle.smf_grammar.specs.Contents.{events_of, entries_of, skipped_of}
 use Rattle.smf_grammar.specs.Texts.{file_text}
-use Rattle.smf_grammar.specs.Reading.{reading}
+use Rattle.smf_grammar.specs.Reading.{file_reading}
 
 -- ---- quantities
 
@@ -34,12 +34,12 @@ abbrev pub alien : List ℕ
 alien = 88 ∷ 89 ∷ 90 ∷ 49 ∷ 0 ∷ 0 ∷ 0 ∷ 2 ∷ 170 ∷ 187 ∷ []
 
 -- a tempo, a note that sounds for 480 ticks, and the end
-abbrev pub note : List ℕ
-note =
+abbrev pub note_track : List ℕ
+note_track =
     0 ∷ 255 ∷ 81 ∷ 3 ∷ 7 ∷ 161 ∷ 32 ∷ 0 ∷ 144 ∷ 60 ∷ 64 ∷ 131 ∷ 96 ∷ 60 ∷ 0 ∷ 0 ∷ 255 ∷ 47 ∷ 0 ∷ []
 
 abbrev pub small : List ℕ
-small = header 1 224 ++ alien ++ track_of_length 19 note
+small = header 1 224 ++ alien ++ track_of_length 19 note_track
 
 -- a file that says this
 pub record IsSaid (f : MidiFile) (format tracks division : ℕ) (entries : List TempoEntry)
@@ -60,19 +60,19 @@ IsSaidBy (Err x) format tracks division entries events skipped = ⊥
 -- the bytes are a file that says this
 abbrev pub Says : List ℕ → ℕ → ℕ → ℕ → List TempoEntry → List Event → ℕ → Type 0
 Says bytes format tracks division entries events skipped =
-    IsSaidBy (reading bytes) format tracks division entries events skipped
+    IsSaidBy (file_reading bytes) format tracks division entries events skipped
 
 abbrev pub at : ℕ → List ℕ → Event
 at tick message = record { tick = tick; message = message }
 
-abbrev pub entry : ℕ → ℕ → TempoEntry
-entry tick tempo = record { tick = tick; tempo = tempo }
+abbrev pub tempo_entry : ℕ → ℕ → TempoEntry
+tempo_entry tick tempo = record { tick = tick; tempo = tempo }
 
 abbrev pub Refuses : List ℕ → SmfFault → Type 0
-Refuses bytes x = reading bytes ≡ Err x
+Refuses bytes x = file_reading bytes ≡ Err x
 
 pub record SmallFile : Type 0 where
-  pub whole : Says small 0 1 480 (entry 0 500000 ∷ []) (at 0 (144 ∷ 60 ∷ 64 ∷ [])
+  pub whole : Says small 0 1 480 (tempo_entry 0 500000 ∷ []) (at 0 (144 ∷ 60 ∷ 64 ∷ [])
       ∷ at 480 (144 ∷ 60 ∷ 0 ∷ []) ∷ []) 0
   pub cut : Refuses (take 47 small) (Truncated 24)
   pub no_end : Refuses (slice_set (take 47 small) 31 15) (NoEndOfTrack 0)
@@ -87,11 +87,11 @@ two_tracks count = 77 ∷ 84 ∷ 104 ∷ 100 ∷ 0 ∷ 0 ∷ 0 ∷ 6 ∷ 0 ∷ 1
     ∷ 0 ∷ 255 ∷ 47 ∷ 0 ∷ [])
 
 pub record TwoTracks : Type 0 where
-  pub whole : Says (two_tracks 2) 1 2 96 (entry 0 250000 ∷ entry 96 500000
+  pub whole : Says (two_tracks 2) 1 2 96 (tempo_entry 0 250000 ∷ tempo_entry 96 500000
       ∷ []) (at 96 (144 ∷ 1 ∷ 64 ∷ []) ∷ at 96 (144 ∷ 2 ∷ 64 ∷ []) ∷ at 96 (144 ∷ 3 ∷ 64 ∷ [])
       ∷ []) 0
   pub three : Refuses (two_tracks 3) TrackMissing
-  pub one : Says (two_tracks 1) 1 1 96 (entry 0 250000 ∷ []) (at 96 (144 ∷ 1 ∷ 64 ∷ []) ∷ []) 0
+  pub one : Says (two_tracks 1) 1 1 96 (tempo_entry 0 250000 ∷ []) (at 96 (144 ∷ 1 ∷ 64 ∷ []) ∷ []) 0
 
 -- the first bytes of the small file
 pub record CutFiles : Type 0 where
@@ -110,7 +110,7 @@ pub record CutFiles : Type 0 where
 
 -- 25 frames per second, 40 ticks in each
 abbrev pub framed : ℕ → ℕ → List ℕ
-framed high low = header high low ++ alien ++ track_of_length 19 note
+framed high low = header high low ++ alien ++ track_of_length 19 note_track
 
 pub record FramedFile : Type 0 where
   pub whole : Says (framed 231 40) 0 1 59176 [] (at 0 (144 ∷ 60 ∷ 64 ∷ [])
@@ -132,7 +132,7 @@ status_gone =
     ∷ 255 ∷ 47 ∷ 0 ∷ [])
 
 pub record ExclusiveFiles : Type 0 where
-  pub whole : Says exclusives 0 1 480 (entry 0 500000 ∷ []) (at 0 (240 ∷ 125 ∷ 1 ∷ 247 ∷ []) ∷ []) 2
+  pub whole : Says exclusives 0 1 480 (tempo_entry 0 500000 ∷ []) (at 0 (240 ∷ 125 ∷ 1 ∷ 247 ∷ []) ∷ []) 2
   pub gone : Refuses status_gone (NoStatus 30)
 
 -- one note on, as it is written
@@ -140,5 +140,5 @@ pub record WrittenFile : Type 0 where
   pub text : file_text 480 500000 (at 0 (144 ∷ 60 ∷ 64 ∷ []) ∷ []) ≡ header 1 224
       ++ track_of_length 15 (0 ∷ 255 ∷ 81 ∷ 3 ∷ 7 ∷ 161 ∷ 32 ∷ 0 ∷ 144 ∷ 60 ∷ 64 ∷ 0 ∷ 255 ∷ 47 ∷ 0
       ∷ [])
-  pub back : Says (file_text 480 500000 (at 0 (144 ∷ 60 ∷ 64 ∷ []) ∷ [])) 0 1 480 (entry 0 500000
+  pub back : Says (file_text 480 500000 (at 0 (144 ∷ 60 ∷ 64 ∷ []) ∷ [])) 0 1 480 (tempo_entry 0 500000
       ∷ []) (at 0 (144 ∷ 60 ∷ 64 ∷ []) ∷ []) 0

@@ -2,7 +2,7 @@
 
 ghost use Rattle.std.specs.Prelude.{◌≡◌, ◌≤◌, ◌<◌, ◌^◌, ℕ, length, drop, codes, IfOk, OnOk, ◌+◌};
 ghost use Rattle.byteorder.specs.Endian.{big_number};
-ghost use Rattle.smf_grammar.specs.Chunks.{counts_frames, starts, header_of, is_long_enough, header_at, chunk_at};
+ghost use Rattle.smf_grammar.specs.Chunks.{is_frame_division, starts, header_of, is_long_enough, header_at, chunk_at};
 ghost use Rattle.smf_grammar.specs.Seen.{Gives, header_seen, chunk_seen};
 
 use crate::fault::{ChunkFault, SmfFault};
@@ -30,7 +30,7 @@ pub struct ChunkBytes<'b> {
 /// Whether the division counts frames, and not ticks per quarter note.
 #[inline]
 pub fn counts_frames(division: u16) -> bool
-    ensures { result ≡ counts_frames division }
+    ensures { result ≡ is_frame_division division }
 {
     division >= 0x8000
 }

@@ -1,7 +1,7 @@
 //! What events say.
 
 ghost use Rattle.std.specs.Prelude.{◌≡◌, ℕ, is_some};
-ghost use Rattle.smf_grammar.specs.Pairs.{is_end, status_after};
+ghost use Rattle.smf_grammar.specs.Pairs.{is_end, running_after};
 ghost use Rattle.smf_grammar.specs.Contents.{message_of, tempo_in, tempo_of, is_skipped};
 ghost use Rattle.smf_grammar.specs.Seen.{event_seen};
 ghost use Rattle.smf_grammar.specs.Files.{fault_of_pair};
@@ -40,7 +40,7 @@ impl EventBytes<'_> {
     /// The running status after it.
     #[inline]
     pub fn status_after(&self) -> Option<u8>
-        ensures { result ≡ status_after (event_seen self.now) }
+        ensures { result ≡ running_after (event_seen self.now) }
     {
         match self {
             EventBytes::VoiceOfOne { status, .. } => Some(*status),

@@ -87,11 +87,11 @@ pub enum SmfFault {
 }
 
 impl SmfFault {
-    ghost use Rattle.smf_grammar.specs.Faults.{number_of, name_of, place_of};
+    ghost use Rattle.smf_grammar.specs.Faults.{fault_number, fault_name, fault_place};
 
     /// Its number, 1 to 17.
     pub fn number(&self) -> u8
-        ensures { result ≡ number_of self.now }
+        ensures { result ≡ fault_number self.now }
     {
         match self {
             SmfFault::NotMidi => 1,
@@ -116,7 +116,7 @@ impl SmfFault {
 
     /// Its name, as it is printed.
     pub fn name(&self) -> &'static str
-        ensures { result.now ≡ name_of self.now }
+        ensures { result.now ≡ fault_name self.now }
     {
         match self {
             SmfFault::NotMidi => "NotMidi",
@@ -141,7 +141,7 @@ impl SmfFault {
 
     /// Its place in the file, or the number of the track that has no end.
     pub fn place(&self) -> Option<u64>
-        ensures { result ≡ place_of self.now }
+        ensures { result ≡ fault_place self.now }
     {
         match self {
             SmfFault::Truncated { at }

@@ -6,7 +6,7 @@ ghost use Rattle.smf_grammar.specs.Pairs.{quantity_at, data_byte_at, voice_by, v
 ghost use Rattle.midi_wire.specs.declared.status.Width.TheVariants.{One, Two};
 ghost use Rattle.midi_wire.specs.declared.status.StatusClass.TheVariants.{Channel};
 ghost use Rattle.smf_grammar.specs.Septets.{septets_at};
-ghost use Rattle.smf_grammar.specs.Seen.{Gives, event_seen, pair_seen, is_voice, is_sound, IsRunning};
+ghost use Rattle.smf_grammar.specs.Seen.{Gives, event_seen, pair_seen, is_voice, is_event_sound, IsRunning};
 
 use crate::fault::{PairFault, QuantityFault};
 
@@ -276,7 +276,7 @@ fn event_at(running: Option<u8>, left: &[u8]) -> Result<(EventBytes<'_>, &[u8]),
 pub fn pair_at(running: Option<u8>, left: &[u8]) -> Result<(PairBytes<'_>, &[u8]), PairFault>
     requires { IsRunning running }
     ensures value { Gives (λ x. (pair_seen x.0, x.1.now)) result (pair_at running left.now) }
-    ensures sound { IfOk result (λ x. IsTrue (is_sound (event_seen x.0.event))) }
+    ensures sound { IfOk result (λ x. IsTrue (is_event_sound (event_seen x.0.event))) }
     ensures small { IfOk result (λ x. x.0.delta < 2 ^ 28) }
     ensures shorter { IfOk result (λ x. length x.1.now < length left.now) }
 {

@@ -133,7 +133,8 @@ impl QueueClock {
         requires metrical { self.old.map.division < 32768 }
         ensures ok { OnOk result (self.new ≡ with_tempo self.old moment tempo) }
         ensures err { OnErr result (self.new ≡ self.old) }
-        ensures memory { OnErr result (IsSome (first_tick_from self.old.map (elapsed self.old moment))) }
+        ensures memory { OnErr result
+            (IsSome (first_tick_from self.old.map (elapsed self.old moment))) }
     {
         let nanos = self.elapsed(moment);
         if let Some(tick) = self.map.first_tick_from(nanos) {

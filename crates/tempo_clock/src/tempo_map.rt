@@ -35,7 +35,8 @@ impl Model for TempoMap {
 
     ghost view = { λ m. record { division = m.division; entries = m.entries.items } };
 
-    ghost invariant = { λ m. IsKept (record { division = m.division; entries = m.entries.items }) m.ppq m.starts.items };
+    ghost invariant = { λ m.
+        IsKept (record { division = m.division; entries = m.entries.items }) m.ppq m.starts.items };
 }
 
 /// Ticks that last alike: the first, its numerator, and by how much the numerator grows at each.
@@ -109,7 +110,8 @@ fn are_entries(entries: &[TempoEntry]) -> bool
 /// The numerator of each entry's tick.
 fn starts_of(alloc: Global, entries: &[TempoEntry]) -> Result<Vec<u128>, OutOfMemory>
     requires { AreOrdered entries.now }
-    ensures { IfOk result (λ starts. AreStarts (record { division = 0; entries = entries.now }) starts.items) }
+    ensures { IfOk result
+        (λ starts. AreStarts (record { division = 0; entries = entries.now }) starts.items) }
 {
     let mut starts = Vec::with_capacity(alloc, entries.len())?;
     let mut start = 0u128;
@@ -127,7 +129,8 @@ impl TempoMap {
     /// The first entry stands at tick 0, and the ticks rise.
     pub fn new(alloc: Global, ppq: u32, entries: &[TempoEntry]) -> Result<TempoMap, MapFault>
         ensures ok { IfOk result (λ m. m ≡ record { division = ppq; entries = entries.now }) }
-        ensures bad { IsErrOf result MapFault.BadMap ↔ ((is_ppq ppq && are_entries entries.now) ≡ false) }
+        ensures bad { IsErrOf result MapFault.BadMap
+            ↔ ((is_ppq ppq && are_entries entries.now) ≡ false) }
     {
         if !is_ppq(ppq) || !are_entries(entries) {
             return Err(MapFault::BadMap);
@@ -144,7 +147,8 @@ impl TempoMap {
 
     /// A map of `per_frame` ticks, at least one, in each of 24, 25 or 30 frames per second. It takes no memory.
     pub fn smpte(alloc: Global, frames: u8, per_frame: u8) -> Result<TempoMap, MapFault>
-        ensures ok { IfOk result (λ m. m ≡ record { division = smpte_word frames per_frame; entries = [] }) }
+        ensures ok { IfOk result
+            (λ m. m ≡ record { division = smpte_word frames per_frame; entries = [] }) }
         ensures taken { IsOk result ↔ (is_smpte_rate frames per_frame ≡ true) }
         ensures bad { IsErrOf result MapFault.BadMap ↔ (is_smpte_rate frames per_frame ≡ false) }
     {
@@ -219,8 +223,9 @@ impl TempoMap {
         requires some { after ≡ 0 → length self.now.entries ≡ 0 }
         ensures tick { result.tick ≡ (entry_at self.now.entries (after - 1)).tick }
         ensures start { result.start ≡ numerator self.now result.tick }
-        ensures covers { (t : ℕ) → result.tick ≤ t → (after < length self.now.entries → t ≤ (entry_at self.now.entries after).tick) →
-            numerator self.now t ≡ result.start + (t - result.tick) * result.step }
+        ensures covers { (t : ℕ) → result.tick ≤ t
+            → (after < length self.now.entries → t ≤ (entry_at self.now.entries after).tick)
+            → numerator self.now t ≡ result.start + (t - result.tick) * result.step }
         ensures step { 0 < result.step }
         ensures step_small { result.step ≤ 2 ^ 34 }
         ensures start_small { result.start ≤ result.tick * 2 ^ 34 }
@@ -287,7 +292,8 @@ impl TempoMap {
         requires metrical { self.old.division < 32768 }
         ensures ok { OnOk result (self.new ≡ with_tempo_from self.old from_tick tempo) }
         ensures err { OnErr result (self.new ≡ self.old) }
-        ensures memory { OnErr result (self.old.entries ≡ filter (λ e. nat_lt e.tick from_tick) self.old.entries) }
+        ensures memory { OnErr result
+            (self.old.entries ≡ filter (λ e. nat_lt e.tick from_tick) self.old.entries) }
     {
         let start = self.numerator_at(from_tick);
         let kept = self.entries_before(from_tick);

@@ -1,5 +1,5 @@
 -- Bytes in hexadecimal.
-use Rattle.std.specs.Prelude.{ℕ, ◌+◌, ◌/◌, ◌%◌, nat_lt, if◌then◌else◌, List, [], ◌∷◌}
+use Rattle.std.specs.Prelude.{ℕ, ◌+◌, ◌/◌, ◌%◌, nat_lt, if◌then◌else◌, List, [], ◌∷◌, ◌++◌}
 use Rattle.std.specs.List.{flat_map}
 
 -- 0 to 9 and A to F
@@ -14,3 +14,7 @@ spaced bytes = flat_map (λ b. 32 ∷ digit (b / 16) ∷ digit (b % 16) ∷ []) 
 abbrev pub in_hex : List ℕ → List ℕ
 in_hex [] = []
 in_hex (b ∷ bytes) = digit (b / 16) ∷ digit (b % 16) ∷ spaced bytes
+
+-- the same on a line
+abbrev pub hex_line : List ℕ → List ℕ
+hex_line bytes = in_hex bytes ++ 10 ∷ []

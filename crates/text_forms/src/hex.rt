@@ -1,7 +1,7 @@
 //! Bytes in hexadecimal.
 
 ghost use Rattle.std.specs.Prelude.{◌≡◌, ◌≤◌, ◌<◌, ◌*◌, ◌^◌, ℕ, [], ◌∷◌, ◌++◌, length, take, slice_index, OnOk};
-ghost use Rattle.text_forms.specs.Hex.{digit, spaced, in_hex};
+ghost use Rattle.text_forms.specs.Hex.{digit, spaced, in_hex, hex_line};
 
 use memory::OutOfMemory;
 
@@ -72,45 +72,47 @@ fn spell(bytes: &[u8], digits: &mut [u8])
     }
 }
 
-/// Adds two upper-case digits for each byte, with one space between, as `90 3C 40`. After an error the text ends within
-/// them.
-pub fn push_in_hex(text: &mut Vec<u8>, bytes: &[u8]) -> Result<(), OutOfMemory>
-    ensures { OnOk result (text.new.items ≡ text.old.items ++ in_hex bytes.now) }
+/// Adds a line of two upper-case digits for each byte, with one space between, as `90 3C 40`. After an error the text ends
+/// within it.
+pub fn push_hex_line(text: &mut Vec<u8>, bytes: &[u8]) -> Result<(), OutOfMemory>
+    ensures { OnOk result (text.new.items ≡ text.old.items ++ hex_line bytes.now) }
 {
-    if text.capacity() - text.len() >= 8 {
+    if text.capacity() - text.len() >= 9 {
         match bytes {
             [a] => {
-                text.extend_from_slice(&pair(*a))?;
+                let [s, t] = pair(*a);
+                text.extend_from_slice(&[s, t, b'\n'])?;
                 return Ok(());
             }
             [a, b] => {
                 let [s, t] = pair(*a);
                 let [u, v] = pair(*b);
-                text.extend_from_slice(&[s, t, b' ', u, v])?;
+                text.extend_from_slice(&[s, t, b' ', u, v, b'\n'])?;
                 return Ok(());
             }
             [a, b, c] => {
                 let [s, t] = pair(*a);
                 let [u, v] = pair(*b);
                 let [w, x] = pair(*c);
-                text.extend_from_slice(&[s, t, b' ', u, v, b' ', w, x])?;
+                text.extend_from_slice(&[s, t, b' ', u, v, b' ', w, x, b'\n'])?;
                 return Ok(());
             }
             _ => {}
         }
     }
-    push_any_in_hex(text, bytes)
+    push_any_hex_line(text, bytes)
 }
 
 /// The same for any number of bytes.
 #[inline(never)]
-fn push_any_in_hex(text: &mut Vec<u8>, bytes: &[u8]) -> Result<(), OutOfMemory>
-    ensures { OnOk result (text.new.items ≡ text.old.items ++ in_hex bytes.now) }
+fn push_any_hex_line(text: &mut Vec<u8>, bytes: &[u8]) -> Result<(), OutOfMemory>
+    ensures { OnOk result (text.new.items ≡ text.old.items ++ hex_line bytes.now) }
 {
     if let [first, more @ ..] = bytes {
         text.extend_from_slice(&pair(*first))?;
         push_any_spaced(text, more)?;
     }
+    text.push(b'\n')?;
     Ok(())
 }
 

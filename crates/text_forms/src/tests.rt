@@ -1,6 +1,6 @@
 //! Each form written once, with ample memory.
 
-use crate::{push_decimal, push_in_hex, push_port_addr, push_spaced};
+use crate::{push_decimal, push_hex_line, push_port_addr, push_spaced};
 use node_table::{ClientId, PortAddr, PortNo};
 use std::test::Fail;
 
@@ -22,9 +22,12 @@ fn writes_bytes(rt: HostRuntime) -> Result<(), Fail> {
     let mut text = Vec::from_slice(rt.alloc(), b"written")?;
     push_spaced(&mut text, &[0x90, 0x0C, 0xAF])?;
     text.push(b'\n')?;
-    push_in_hex(&mut text, &[0xF0, 0x7D, 0xF7])?;
-    push_in_hex(&mut text, &[])?;
-    assert_eq!(rt; text.as_slice(), b"written 90 0C AF\nF0 7D F7".as_slice());
+    push_hex_line(&mut text, &[0xF0, 0x7D, 0xF7])?;
+    push_hex_line(&mut text, &[])?;
+    assert_eq!(rt;
+        text.as_slice(),
+        b"written 90 0C AF\nF0 7D F7\n\n".as_slice()
+    );
     Ok(())
 }
 
@@ -32,15 +35,15 @@ fn writes_bytes(rt: HostRuntime) -> Result<(), Fail> {
 #[test]
 fn writes_bytes_of_each_count(rt: HostRuntime) -> Result<(), Fail> {
     let mut text = Vec::new(rt.alloc());
-    push_in_hex(&mut text, &[0xF8])?;
+    push_hex_line(&mut text, &[0xF8])?;
     push_spaced(&mut text, &[0xFE])?;
-    push_in_hex(&mut text, &[0xC5, 0x07])?;
+    push_hex_line(&mut text, &[0xC5, 0x07])?;
     push_spaced(&mut text, &[0xD0, 0x40])?;
-    push_in_hex(&mut text, &[0xF0, 0x01, 0x23, 0x45, 0x67, 0xF7])?;
+    push_hex_line(&mut text, &[0xF0, 0x01, 0x23, 0x45, 0x67, 0xF7])?;
     push_spaced(&mut text, &[0x89, 0xAB, 0xCD, 0xEF, 0xF7])?;
     assert_eq!(rt;
         text.as_slice(),
-        b"F8 FEC5 07 D0 40F0 01 23 45 67 F7 89 AB CD EF F7".as_slice()
+        b"F8\n FEC5 07\n D0 40F0 01 23 45 67 F7\n 89 AB CD EF F7".as_slice()
     );
     Ok(())
 }

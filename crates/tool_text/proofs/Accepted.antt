@@ -6,7 +6,7 @@ use Rattle.std.proofs.lemmas.Bool.Decides.{nat_tests}
 use Rattle.smf_grammar.specs.declared.fault.SmfFault.{SmfFault}
 use Rattle.smf_grammar.specs.declared.fault.SmfFault.TheVariants as smf
 use Rattle.smf_grammar.specs.Chunks.{header_at, most_bytes}
-use Rattle.smf_grammar.specs.Files.{MidiFile, File, Fault}
+use Rattle.smf_grammar.specs.Files.{MidiFile, IsFile, Fault}
 use Rattle.smf_grammar.proofs.Whole.{one-fault, not-both}
 use Rattle.tool_text.specs.declared.fault.ToolFault.{ToolFault}
 use Rattle.tool_text.specs.declared.fault.ToolFault.TheVariants as tool
@@ -49,12 +49,12 @@ read-or-large left bytes e =
     go (inl h) = inr (h, (let n : length bytes ≡ 16777217 = ap (λ (xs : List ℕ). length xs) e ∙ take-long left 16777217 (omega arith) in omega arith))
     go (inr h) = inl (e ∙ take-short left 16777217 (omega arith), h)
 
-pub accepted : (left bytes : List ℕ) (f : MidiFile) → bytes ≡ take 16777217 left → File bytes f → (File left f) × (drop 16777217 left ≡ []) × (length left ≤ 16777216)
+pub accepted : (left bytes : List ℕ) (f : MidiFile) → bytes ≡ take 16777217 left → IsFile bytes f → (IsFile left f) × (drop 16777217 left ≡ []) × (length left ≤ 16777216)
 accepted left bytes f e w =
     go (read-or-large left bytes e)
   where
-    go : ((bytes ≡ left) × (length left ≤ 16777216)) ⊎ ((most_bytes < length left) × (most_bytes < length bytes)) → (File left f) × (drop 16777217 left ≡ []) × (length left ≤ 16777216)
-    go (inl h) = (subst (λ (xs : List ℕ). File xs f) h.0 w, drop-short left 16777217 (omega arith), h.1)
+    go : ((bytes ≡ left) × (length left ≤ 16777216)) ⊎ ((most_bytes < length left) × (most_bytes < length bytes)) → (IsFile left f) × (drop 16777217 left ≡ []) × (length left ≤ 16777216)
+    go (inl h) = (subst (λ (xs : List ℕ). IsFile xs f) h.0 w, drop-short left 16777217 (omega arith), h.1)
     go (inr h) = absurd (not-both bytes f smf.TooLarge w (inl (too-large bytes h.1)))
 
 pub fault-of-all : (left bytes : List ℕ) (x : SmfFault) → bytes ≡ take 16777217 left → Fault bytes x → Fault left x

@@ -7,10 +7,10 @@ use Rattle.midi_wire.specs.Readings.{reading, rest}
 use Rattle.midi_wire.specs.Writings.{written, written_after, status_after, status_after_all, status_in_force}
 use Rattle.midi_wire.proofs.Settled.{reads-in-two, rests-in-two}
 use Rattle.midi_wire.proofs.WrittenInTwo.{writes-in-two, status_after_all-snoc}
-use Rattle.text_forms.specs.Hex.{spaced}
+use Rattle.text_forms.specs.Hex.{spaced, hex_line}
 use Rattle.tool_text.specs.Gathered.{Goes, Stops}
 use Rattle.tool_text.specs.Stream.{message_lines, StopsShort}
-use Rattle.tool_text.specs.Wire.{wire_line, written_line, wire_ending, wire_text, IsCopied}
+use Rattle.tool_text.specs.Wire.{written_line, wire_ending, wire_text, IsCopied}
 use Rattle.tool_text.proofs.Passed.{stops_behind}
 
 -- ---- messages written one by one
@@ -69,8 +69,8 @@ line_begun written old none text e h = record {
 }
 
 -- it stands behind the lines of the messages
-pub all_copied : (bytes back old mid new : List ℕ) → back ≡ written (reading bytes) → mid ≡ old ++ message_lines wire_line bytes → new ≡ mid ++ written_line back → new ≡ old ++ wire_text bytes
-all_copied bytes back old mid new b e k = k ∙ ap (λ xs. mid ++ written_line xs) b ∙ ap (λ xs. xs ++ wire_ending bytes) e ∙ append_assoc old (message_lines wire_line bytes) (wire_ending bytes)
+pub all_copied : (bytes back old mid new : List ℕ) → back ≡ written (reading bytes) → mid ≡ old ++ message_lines hex_line bytes → new ≡ mid ++ written_line back → new ≡ old ++ wire_text bytes
+all_copied bytes back old mid new b e k = k ∙ ap (λ xs. mid ++ written_line xs) b ∙ ap (λ xs. xs ++ wire_ending bytes) e ∙ append_assoc old (message_lines hex_line bytes) (wire_ending bytes)
 
-pub copied_short : (bytes back old mid new : List ℕ) → back ≡ written (reading bytes) → mid ≡ old ++ message_lines wire_line bytes → Stops mid new (mid ++ written_line back) → StopsShort wire_text bytes old new
-copied_short bytes back old mid new b e s = stops_behind (message_lines wire_line) wire_ending bytes old mid new e (subst (λ (xs : List ℕ). Stops mid new (mid ++ written_line xs)) b s)
+pub copied_short : (bytes back old mid new : List ℕ) → back ≡ written (reading bytes) → mid ≡ old ++ message_lines hex_line bytes → Stops mid new (mid ++ written_line back) → StopsShort wire_text bytes old new
+copied_short bytes back old mid new b e s = stops_behind (message_lines hex_line) wire_ending bytes old mid new e (subst (λ (xs : List ℕ). Stops mid new (mid ++ written_line xs)) b s)

@@ -21,7 +21,7 @@ use Rattle.seq_state.specs.Step.{port_addr, upto, settle, Settled, Stepped, unle
 use Rattle.seq_state.proofs.Effects.{get-put, step-connects}
 use Rattle.seq_state.proofs.Done.{done, opens, creates-port}
 use Rattle.seq_engine.specs.Seen.{Seen}
-use Rattle.tool_text.specs.Thru.{input_at_start, fed_stream, joining, after_input, IsJoined}
+use Rattle.tool_text.specs.Thru.{input_at_start, readable, writable, fed_stream, joining, after_input, IsJoined}
 
 -- ---- steps where nothing is pending
 
@@ -58,10 +58,10 @@ abbrev sink : Client
 sink = new_client (0x73 ∷ 0x69 ∷ 0x6E ∷ 0x6B ∷ []) most_waiting 1
 
 abbrev with_out : Client
-with_out = put_port 0 (Some (new_port (0x6F ∷ 0x75 ∷ 0x74 ∷ []) (record { 0 = 33 }))) source
+with_out = put_port 0 (Some (new_port (0x6F ∷ 0x75 ∷ 0x74 ∷ []) readable)) source
 
 abbrev with_in : Client
-with_in = put_port 0 (Some (new_port (0x69 ∷ 0x6E ∷ []) (record { 0 = 66 }))) sink
+with_in = put_port 0 (Some (new_port (0x69 ∷ 0x6E ∷ []) writable)) sink
 
 abbrev after : FinMap nat_cmp Client → FinMap nat_cmp Pool → State
 after clients pools = record { clients = clients; pools = pools; edges = []; pending = [] }
@@ -93,13 +93,13 @@ abbrev open_source : Command
 open_source = Open (0x73 ∷ 0x6F ∷ 0x75 ∷ 0x72 ∷ 0x63 ∷ 0x65 ∷ []) 1 1
 
 abbrev create_out : Command
-create_out = CreatePort 0 (0x6F ∷ 0x75 ∷ 0x74 ∷ []) (record { 0 = 33 })
+create_out = CreatePort 0 (0x6F ∷ 0x75 ∷ 0x74 ∷ []) readable
 
 abbrev open_sink : Command
 open_sink = Open (0x73 ∷ 0x69 ∷ 0x6E ∷ 0x6B ∷ []) most_waiting 1
 
 abbrev create_in : Command
-create_in = CreatePort 0 (0x69 ∷ 0x6E ∷ []) (record { 0 = 66 })
+create_in = CreatePort 0 (0x69 ∷ 0x6E ∷ []) writable
 
 abbrev connect : Command
 connect = Connect (port_addr 128 0) (port_addr 129 0)
@@ -158,7 +158,7 @@ first =
 second : step [] state1 (input_at_start 128 create_out) ≡ done state2 Done
 second =
     let makes : Option Client → Stepped = made state1 128 (0x6F ∷ 0x75 ∷ 0x74 ∷ []) 33 in
-    taken state1 128 create_out (makes (FinMap.get clients1 128)) (done state2 Done) refl (creates-port [] state1 0 128 0 (0x6F ∷ 0x75 ∷ 0x74 ∷ []) (record { 0 = 33 }))
+    taken state1 128 create_out (makes (FinMap.get clients1 128)) (done state2 Done) refl (creates-port [] state1 0 128 0 (0x6F ∷ 0x75 ∷ 0x74 ∷ []) readable)
     second-allowed (ap makes source-there)
 
 third : step [] state2 (input_at_start 129 open_sink) ≡ done state3 Done
@@ -169,7 +169,7 @@ third =
 fourth : step [] state3 (input_at_start 129 create_in) ≡ done state4 Done
 fourth =
     let makes : Option Client → Stepped = made state3 129 (0x69 ∷ 0x6E ∷ []) 66 in
-    taken state3 129 create_in (makes (FinMap.get clients3 129)) (done state4 Done) refl (creates-port [] state3 0 129 0 (0x69 ∷ 0x6E ∷ []) (record { 0 = 66 }))
+    taken state3 129 create_in (makes (FinMap.get clients3 129)) (done state4 Done) refl (creates-port [] state3 0 129 0 (0x69 ∷ 0x6E ∷ []) writable)
     fourth-allowed (ap makes sink-there)
 
 fifth : step [] state4 (input_at_start 129 connect) ≡ done whole Done

@@ -5,7 +5,7 @@ use Rattle.std.specs.List.{flat_map}
 use Rattle.std.proofs.lemmas.List.Concat.{flat_map-append}
 use Rattle.midi_wire.specs.Readings.{reading, rest}
 use Rattle.midi_wire.proofs.Settled.{reads-in-two}
-use Rattle.tool_text.specs.Limits.{most_bytes}
+use Rattle.smf_grammar.specs.Chunks.{most_bytes}
 use Rattle.tool_text.specs.Gathered.{Stops}
 use Rattle.tool_text.specs.Stream.{message_lines, StopsShort}
 use Rattle.tool_text.proofs.Pieces.{stops-split}

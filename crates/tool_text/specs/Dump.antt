@@ -5,7 +5,7 @@ use Rattle.std.specs.Fmt.{decimal}
 use Rattle.tempo_clock.specs.declared.entry.TempoEntry.{TempoEntry}
 use Rattle.smf_grammar.specs.declared.event.Event.{Event}
 use Rattle.smf_grammar.specs.declared.fault.SmfFault.{SmfFault}
-use Rattle.smf_grammar.specs.Files.{MidiFile, File, Fault}
+use Rattle.smf_grammar.specs.Files.{MidiFile, IsFile, Fault}
 use Rattle.smf_grammar.specs.Contents.{entries_of, events_of, skipped_of}
 use Rattle.tool_text.specs.declared.fault.ToolFault.{ToolFault}
 use Rattle.tool_text.specs.declared.fault.ToolFault.TheVariants.{OutOfMemory, Read, Write, Smf}
@@ -43,13 +43,13 @@ dump_of f =
 -- the sink gained what the file of these bytes says
 pub record IsDumped (bytes old new : List ℕ) : Type 0 where
   pub f : MidiFile
-  pub file : File bytes f
+  pub file : IsFile bytes f
   pub taken : new ≡ old ++ dump_of f
 
 -- a sink took nothing; or the bytes are a file, and it took a front of what that says
 abbrev pub StopsWithin : List ℕ → List ℕ → List ℕ → Type 0
 StopsWithin bytes old new =
-    (new ≡ old) ⊎ ((f : MidiFile) × File bytes f × Stops old new (old ++ dump_of f))
+    (new ≡ old) ⊎ ((f : MidiFile) × IsFile bytes f × Stops old new (old ++ dump_of f))
 
 -- ---- what a fault says
 

@@ -1,4 +1,3 @@
-pub mod Limits
 pub mod Gathered
 pub mod Stream
 pub mod Thru

@@ -2,7 +2,7 @@
 use Rattle.std.specs.Prelude.{◌≡◌, ◌+◌, ◌≤◌, ℕ, List, ◌++◌, length}
 use Rattle.std.specs.List.{flat_map}
 use Rattle.midi_wire.specs.Readings.{reading}
-use Rattle.tool_text.specs.Limits.{most_bytes}
+use Rattle.smf_grammar.specs.Chunks.{most_bytes}
 
 -- a line for each message of a stream
 abbrev pub message_lines : (List ℕ → List ℕ) → List ℕ → List ℕ

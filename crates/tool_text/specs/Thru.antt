@@ -7,6 +7,7 @@ use Rattle.std.specs.FinMap
 use Rattle.cell_pools.specs.Pools.{empty_pool, most_waiting}
 use Rattle.midi_wire.specs.Readings.{rest}
 use Rattle.node_table.specs.Text.{addr_text}
+use Rattle.node_table.specs.declared.caps.Caps.{Caps}
 use Rattle.node_table.specs.declared.number.Node.TheVariants.{Port}
 use Rattle.node_table.specs.declared.number.PortAddr.{PortAddr}
 use Rattle.patch_graph.specs.Edges.{edge}
@@ -28,14 +29,22 @@ use Rattle.tool_text.specs.Stream.{message_lines}
 abbrev pub input_at_start : ℕ → Command → Input
 input_at_start client command = record { moment = 0; actor = client; command = command }
 
+-- READ and SUBS_READ, 1 and 32: others may subscribe to the port
+abbrev pub readable : Caps
+readable = record { 0 = 33 }
+
+-- WRITE and SUBS_WRITE, 2 and 64: others may subscribe the port
+abbrev pub writable : Caps
+writable = record { 0 = 66 }
+
 -- clients "source" and "sink" with ports "out" and "in"; the second subscribes its port to the
 -- first's, and as many messages may wait for it as may for any client
 abbrev pub joining : List Input
 joining =
     input_at_start 128 (Open (0x73 ∷ 0x6F ∷ 0x75 ∷ 0x72 ∷ 0x63 ∷ 0x65 ∷ []) 1 1)
-    ∷ input_at_start 128 (CreatePort 0 (0x6F ∷ 0x75 ∷ 0x74 ∷ []) (record { 0 = 33 }))
+    ∷ input_at_start 128 (CreatePort 0 (0x6F ∷ 0x75 ∷ 0x74 ∷ []) readable)
     ∷ input_at_start 129 (Open (0x73 ∷ 0x69 ∷ 0x6E ∷ 0x6B ∷ []) most_waiting 1)
-    ∷ input_at_start 129 (CreatePort 0 (0x69 ∷ 0x6E ∷ []) (record { 0 = 66 }))
+    ∷ input_at_start 129 (CreatePort 0 (0x69 ∷ 0x6E ∷ []) writable)
     ∷ input_at_start 129 (Connect (port_addr 128 0) (port_addr 129 0)) ∷ []
 
 -- how many bytes are passed on at once: a byte completes at most two messages, so that a piece

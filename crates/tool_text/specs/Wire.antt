@@ -3,12 +3,8 @@ use Rattle.std.specs.Prelude.{◌≡◌, ℕ, false, List, [], ◌∷◌, ◌++�
 use Rattle.midi_wire.specs.Parsing.{Parsing}
 use Rattle.midi_wire.specs.Readings.{reading, rest}
 use Rattle.midi_wire.specs.Writings.{written, status_in_force}
-use Rattle.text_forms.specs.Hex.{spaced, in_hex}
+use Rattle.text_forms.specs.Hex.{spaced, hex_line}
 use Rattle.tool_text.specs.Stream.{message_lines}
-
--- a message on a line
-abbrev pub wire_line : List ℕ → List ℕ
-wire_line message = in_hex message ++ 10 ∷ []
 
 -- the last line, with the bytes that were written
 abbrev pub written_line : List ℕ → List ℕ
@@ -20,7 +16,7 @@ wire_ending bytes = written_line (written (reading bytes))
 
 -- a line for each message of the stream, and then the last line
 abbrev pub wire_text : List ℕ → List ℕ
-wire_text bytes = message_lines wire_line bytes ++ wire_ending bytes
+wire_text bytes = message_lines hex_line bytes ++ wire_ending bytes
 
 -- the parser was fed these bytes, and their messages were written back
 pub record IsCopied (parsing : Parsing) (status : Option ℕ) (back read : List ℕ) : Type 0 where

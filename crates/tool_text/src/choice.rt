@@ -1,8 +1,8 @@
 //! What the program is asked to do.
 
 ghost use Rattle.std.specs.Prelude.{◌≡◌, ◌≢◌, ◌≤◌, ◌<◌, ◌⊎◌, [], true, false, length, IfSome, IfNone, OnOk, IsErrOf};
+ghost use Rattle.smf_grammar.specs.Chunks.{most_bytes};
 ghost use Rattle.tool_text.specs.declared.choice.Tool.{Tool};
-ghost use Rattle.tool_text.specs.Limits.{most_bytes};
 ghost use Rattle.tool_text.specs.Program.{tool_name, stream_name, IsNamedBy};
 ghost use Rattle.tool_text.specs.Tools.{IsPrinted};
 

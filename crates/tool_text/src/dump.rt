@@ -4,10 +4,10 @@ ghost use Rattle.std.specs.Prelude.{◌≡◌, ◌≢◌, ◌≤◌, ◌++◌, �
 ghost use Rattle.std.specs.List.{flat_map};
 ghost use Rattle.smf_grammar.specs.declared.fault.SmfFault.{SmfFault};
 ghost use Rattle.smf_grammar.specs.declared.fault.SmfFault.TheVariants as smf;
+ghost use Rattle.smf_grammar.specs.Chunks.{most_bytes};
 ghost use Rattle.smf_grammar.specs.Files.{Fault};
 ghost use Rattle.tool_text.specs.Faults.{IsOutput};
 ghost use Rattle.tool_text.specs.Gathered.{Goes, Stops};
-ghost use Rattle.tool_text.specs.Limits.{most_bytes};
 ghost use Rattle.tool_text.specs.Dump.{head_line, tempo_line, event_line, skipped_line, dump_of, IsDumped, StopsWithin, TellsFault, IsRefusedBy};
 
 use crate::fault::ToolFault;

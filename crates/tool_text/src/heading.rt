@@ -8,7 +8,7 @@ use node_table::PortAddr;
 use std::alloc::Global;
 use text_forms::{push_decimal, push_port_addr};
 
-/// A moment and a port, as the line of a delivery begins with them. Mostly many lines have the same, so that it is made once.
+/// A moment and a port, as the line of a delivery begins. Mostly many lines have the same, so that it is made once.
 #[derive(Drop)]
 pub(crate) struct Heading {
     alloc: Global,

@@ -2,7 +2,7 @@
 
 ghost use Rattle.std.specs.Prelude.{◌≡◌, ◌≤◌, ◌<◌, ◌++◌, ◌⊎◌, ℕ, List, [], true, false, length, IfErr, OnOk, OnErr, IsErrOf};
 ghost use Rattle.byte_io.specs.Moved.{GainsBytes};
-ghost use Rattle.tool_text.specs.Limits.{most_bytes};
+ghost use Rattle.smf_grammar.specs.Chunks.{most_bytes};
 ghost use Rattle.tool_text.specs.Gathered.{Goes, Stops};
 ghost use Rattle.tool_text.specs.Stream.{HasRoom, StopsShort};
 ghost use Rattle.tool_text.specs.Faults.{IsOfStream, IsOutput};

@@ -3,12 +3,13 @@
 ghost use Rattle.std.specs.Prelude.{◌≡◌, ◌≤◌, ◌<◌, ◌+◌, ◌*◌, ◌++◌, ◌⊎◌, ◌^◌, ℕ, List, [], true, false, length, IfOk, IfErr, OnOk, OnErr, IsErrOf};
 ghost use Rattle.std.specs.List.{flat_map};
 ghost use Rattle.midi_wire.specs.Readings.{rest};
+ghost use Rattle.smf_grammar.specs.Chunks.{most_bytes};
 ghost use Rattle.seq_state.specs.State.{start};
 ghost use Rattle.seq_state.specs.Step.{port_addr, step, state_after};
 ghost use Rattle.tool_text.specs.Faults.{IsOfStream};
-ghost use Rattle.tool_text.specs.Limits.{most_bytes};
 ghost use Rattle.tool_text.specs.Stream.{message_lines, HasRoom, StopsShort};
-ghost use Rattle.tool_text.specs.Thru.{passage_line, thru_line, thru_text, fed_stream, input_at_start, joining, most_piece, after_input, IsPassing, IsFed};
+ghost use Rattle.tool_text.specs.Thru.{passage_line, thru_line, thru_text, fed_stream, input_at_start, joining};
+ghost use Rattle.tool_text.specs.Thru.{most_piece, after_input, IsPassing, IsFed};
 
 use crate::fault::ToolFault;
 use crate::heading::Heading;
@@ -25,6 +26,12 @@ use text_forms::push_spaced;
 /// How many bytes are passed on at once. Each completes at most two messages, so that a piece completes no more than
 /// `MOST_WAITING`, for which the second client has room.
 const MOST_PIECE: usize = 1000;
+
+/// READ and SUBS_READ, 1 and 32: others may subscribe to the port.
+const READABLE: u8 = 33;
+
+/// WRITE and SUBS_WRITE, 2 and 64: others may subscribe the port.
+const WRITABLE: u8 = 66;
 
 /// Passes the MIDI stream that `input` gives from the first of two clients of a sequencer to the second, and prints each
 /// message that comes there: its moment, the port that it came to, and its bytes.
@@ -112,10 +119,10 @@ fn joined<'b>(alloc: Global) -> Result<Engine<'b, 'b, HeapAgenda>, ToolFault>
     let port = PortNo::new(0).unwrap();
     let mut engine = Engine::new(alloc, &[], HeapAgenda::new(alloc));
     say(&mut engine, source, opening(alloc, b"source", 1)?)?;
-    let out = Caps::new(33).unwrap();
+    let out = Caps::new(READABLE).unwrap();
     say(&mut engine, source, creation(alloc, port, b"out", out)?)?;
     say(&mut engine, sink, opening(alloc, b"sink", MOST_WAITING)?)?;
-    let into = Caps::new(66).unwrap();
+    let into = Caps::new(WRITABLE).unwrap();
     say(&mut engine, sink, creation(alloc, port, b"in", into)?)?;
     say(&mut engine, sink, connection(source, sink, port))?;
     Ok(engine)
@@ -129,7 +136,8 @@ fn say<'b>(
 ) -> Result<(), ToolFault>
     requires early { engine.old.moment ≡ 0 }
     requires counted { engine.old.steps < 2 ^ 63 }
-    ensures state { OnOk result (engine.new ≡ after_input engine.old (input_at_start actor command)) }
+    ensures state { OnOk result
+        (engine.new ≡ after_input engine.old (input_at_start actor command)) }
     ensures only { IfErr result (λ e. e ≡ ToolFault.OutOfMemory) }
 {
     take(engine, actor, command)?;
@@ -144,7 +152,8 @@ fn take<'b>(
 ) -> Result<Items<Delivery>, ToolFault>
     requires early { engine.old.moment ≡ 0 }
     requires counted { engine.old.steps < 2 ^ 63 }
-    ensures state { OnOk result (engine.new ≡ after_input engine.old (input_at_start actor command)) }
+    ensures state { OnOk result
+        (engine.new ≡ after_input engine.old (input_at_start actor command)) }
     ensures delivered { IfOk result (λ ds.
         ds ≡ (step engine.old.files engine.old.state (input_at_start actor command)).delivered) }
     ensures only { IfErr result (λ e. e ≡ ToolFault.OutOfMemory) }

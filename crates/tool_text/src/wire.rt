@@ -4,12 +4,12 @@ ghost use Rattle.std.specs.Prelude.{◌≡◌, ◌≤◌, ◌<◌, ◌++◌, ◌
 ghost use Rattle.std.specs.List.{flat_map};
 ghost use Rattle.midi_wire.specs.Readings.{reading, rest};
 ghost use Rattle.midi_wire.specs.Writings.{written_after, status_after_all};
-ghost use Rattle.text_forms.specs.Hex.{spaced};
+ghost use Rattle.smf_grammar.specs.Chunks.{most_bytes};
+ghost use Rattle.text_forms.specs.Hex.{spaced, hex_line};
 ghost use Rattle.tool_text.specs.Faults.{IsOfStream, IsOutput};
 ghost use Rattle.tool_text.specs.Gathered.{Goes, Stops};
-ghost use Rattle.tool_text.specs.Limits.{most_bytes};
 ghost use Rattle.tool_text.specs.Stream.{message_lines, HasRoom, StopsShort};
-ghost use Rattle.tool_text.specs.Wire.{wire_line, written_line, wire_text, IsCopied};
+ghost use Rattle.tool_text.specs.Wire.{written_line, wire_text, IsCopied};
 
 use crate::fault::ToolFault;
 use crate::printing::{Printer, flush, print_stream, spill};
@@ -17,7 +17,7 @@ use byte_io::{Sink, Source};
 use memory::OutOfMemory;
 use midi_wire::{Message, StreamParser, StreamWriter};
 use std::alloc::Global;
-use text_forms::{push_in_hex, push_spaced};
+use text_forms::{push_hex_line, push_spaced};
 
 /// How many bytes of the last line are added to the text at once.
 const PART: usize = 4096;
@@ -87,10 +87,15 @@ impl Copier {
     fn copy(&mut self, piece: &[u8], text: &mut Vec<u8>) -> Result<(), ToolFault>
         requires sound { self.old.parser.failed ≡ false }
 
-        ensures text { OnOk result (text.new.items ≡ text.old.items ++ message_lines wire_line (self.old.parser.rest ++ piece.now)) }
-        ensures parser { OnOk result (self.new.parser ≡ record { rest = rest (self.old.parser.rest ++ piece.now); failed = false }) }
-        ensures written { OnOk result (self.new.written.items ≡ self.old.written.items ++ written_after self.old.writer (reading (self.old.parser.rest ++ piece.now))) }
-        ensures writer { OnOk result (self.new.writer ≡ status_after_all self.old.writer (reading (self.old.parser.rest ++ piece.now))) }
+        ensures text { let stream = self.old.parser.rest ++ piece.now in
+            OnOk result (text.new.items ≡ text.old.items ++ message_lines hex_line stream) }
+        ensures parser { let stream = self.old.parser.rest ++ piece.now in
+            OnOk result (self.new.parser ≡ record { rest = rest stream; failed = false }) }
+        ensures written { let read = reading (self.old.parser.rest ++ piece.now) in
+            OnOk result (self.new.written.items
+            ≡ self.old.written.items ++ written_after self.old.writer read) }
+        ensures writer { let read = reading (self.old.parser.rest ++ piece.now) in
+            OnOk result (self.new.writer ≡ status_after_all self.old.writer read) }
         ensures only { IfErr result (λ e. e ≡ ToolFault.OutOfMemory) }
     {
         self.messages.clear();
@@ -104,11 +109,12 @@ impl Copier {
 
 impl Printer for Copier {
     ghost use Rattle.tool_text.specs.Stream.{message_lines};
-    ghost use Rattle.tool_text.specs.Wire.{wire_line, IsCopied};
+    ghost use Rattle.text_forms.specs.Hex.{hex_line};
+    ghost use Rattle.tool_text.specs.Wire.{IsCopied};
 
     ghost HasTaken = { λ c read. IsCopied c.parser c.writer c.written.items read };
 
-    ghost lines = { message_lines wire_line };
+    ghost lines = { message_lines hex_line };
 
     fn take(&mut self, piece: &[u8], text: &mut Vec<u8>) -> Result<(), ToolFault> {
         self.copy(piece, text)
@@ -121,13 +127,12 @@ fn add_lines(
     bytes: &mut Vec<u8>,
     text: &mut Vec<u8>,
 ) -> Result<(), OutOfMemory>
-    ensures { OnOk result (text.new.items ≡ text.old.items ++ flat_map wire_line messages.now) }
+    ensures { OnOk result (text.new.items ≡ text.old.items ++ flat_map hex_line messages.now) }
 {
     for message in messages {
         bytes.clear();
         message.append_to(bytes)?;
-        push_in_hex(text, bytes.as_slice())?;
-        text.push(b'\n')?;
+        push_hex_line(text, bytes.as_slice())?;
     }
     Ok(())
 }
@@ -138,7 +143,8 @@ fn write_on(
     writer: &mut StreamWriter,
     written: &mut Vec<u8>,
 ) -> Result<(), OutOfMemory>
-    ensures bytes { OnOk result (written.new.items ≡ written.old.items ++ written_after writer.old messages.now) }
+    ensures bytes { OnOk result
+        (written.new.items ≡ written.old.items ++ written_after writer.old messages.now) }
     ensures status { OnOk result (writer.new ≡ status_after_all writer.old messages.now) }
 {
     for message in messages {

@@ -1,6 +1,6 @@
 use Rattle.std.proofs.Common.{None, sym, subst, ◌∙◌}
 use Rattle.std.specs.FinMap as map
-use Rattle.seq_settle.specs.Cells.{AreKeys}
+use Rattle.seq_settle.specs.Cells.{AreFirstKeys}
 use Rattle.seq_settle.proofs.Loop.{keys_put}
 use Rattle.seq_settle.proofs.Dropped.{dropped-taken}
 use Rattle.seq_settle.proofs.dropping.drop_one.Goals as goal
@@ -11,6 +11,6 @@ returns-then-chosen-clause-cells g c =
 
 pub returns-then-chosen-clause-keys : goal.returns-then-chosen-clause-keys
 returns-then-chosen-clause-keys g c = λ clients keys.
-    subst (λ x. AreKeys clients x (g.A.Agenda.content c.remove.new.self)) (sym c.drop_cell.ensures.cells)
-    (subst (AreKeys clients (map.remove c.args.cells.now.cells c.args.cell)) (sym c.remove.ensures)
+    subst (λ x. AreFirstKeys clients x (g.A.Agenda.content c.remove.new.self)) (sym c.drop_cell.ensures.cells)
+    (subst (AreFirstKeys clients (map.remove c.args.cells.now.cells c.args.cell)) (sym c.remove.ensures)
     (keys_put clients c.args.cells.now.cells (g.A.Agenda.content c.args.agenda.now) c.args.cell None keys))

@@ -3,7 +3,7 @@ use Rattle.std.specs.Ordering.{nat_cmp}
 use Rattle.std.specs.FinMap.{FinMap, get}
 use Rattle.cell_pools.specs.Cells.{size_of}
 use Rattle.seq_state.specs.State.{Client}
-use Rattle.seq_settle.specs.Cells.{AreKeys}
+use Rattle.seq_settle.specs.Cells.{AreFirstKeys}
 use Rattle.seq_settle.specs.Drops.{kept_cell, stays}
 use Rattle.seq_settle.proofs.Dropped.{is_below}
 use Rattle.seq_settle.proofs.dropping.drop_playbacks.Given as goal
@@ -11,6 +11,6 @@ use Rattle.seq_settle.proofs.dropping.drop_playbacks.Given as goal
 abbrev pub invariant-loop-number : goal.invariant-loop-number
 invariant-loop-number g l = record {
   marked : (q : ℕ) → get l.cells.cells q ≡ cond (is_below l.number (get l.fn.cells.cells q)) (kept_cell (stays l.client l.which) (get l.fn.cells.cells q)) (get l.fn.cells.cells q);
-  keys : (clients : FinMap nat_cmp Client) → AreKeys clients l.fn.cells.cells (g.A.Agenda.content l.fn.agenda) → AreKeys clients l.cells.cells (g.A.Agenda.content l.agenda);
+  keys : (clients : FinMap nat_cmp Client) → AreFirstKeys clients l.fn.cells.cells (g.A.Agenda.content l.fn.agenda) → AreFirstKeys clients l.cells.cells (g.A.Agenda.content l.agenda);
   sizes : (owner : ℕ) → size_of l.cells owner ≡ size_of l.fn.cells owner;
 }

@@ -1,6 +1,6 @@
 use Rattle.std.proofs.Common.{◌+◌, arith, sym, ◌∙◌, subst}
 use Rattle.std.specs.Prelude.{IsTrue}
-use Rattle.smf_grammar.specs.Pairs.{status_after}
+use Rattle.smf_grammar.specs.Pairs.{running_after}
 use Rattle.smf_grammar.specs.Contents.{events_from}
 use Rattle.smf_grammar.specs.Seen.{pair_seen, event_seen}
 use Rattle.smf_files.specs.Playing.{rest_of, is_running, is_whole}
@@ -33,7 +33,7 @@ pub pairs-preserved : goal.pairs-preserved
 pairs-preserved c =
     let more : More c.pairs.running c.pairs.left.now c.in-Ok.found.1.now (pair_seen c.in-Ok.found.0) = whole-more _ _ _ _ c.pairs.invariant.whole c.in-Ok.ensures.value (sym c.is_end.ensures ∙ c.if-is_end.false) in
     record {
-      events = rw c.status_after-running.ensures (sym (silent (c.pairs.tick + c.in-Ok.found.0.delta) _ (events_from (c.pairs.tick + c.in-Ok.found.0.delta) (rest_of (status_after (event_seen c.in-Ok.found.0.event)) c.in-Ok.found.1.now)) (sym c.is_message.ensures ∙ c.if-is_message.false)) ∙ sym (events-more c.pairs.tick c.pairs.running c.pairs.left.now c.in-Ok.found.1.now (pair_seen c.in-Ok.found.0) more) ∙ c.pairs.invariant.events);
+      events = rw c.status_after-running.ensures (sym (silent (c.pairs.tick + c.in-Ok.found.0.delta) _ (events_from (c.pairs.tick + c.in-Ok.found.0.delta) (rest_of (running_after (event_seen c.in-Ok.found.0.event)) c.in-Ok.found.1.now)) (sym c.is_message.ensures ∙ c.if-is_message.false)) ∙ sym (events-more c.pairs.tick c.pairs.running c.pairs.left.now c.in-Ok.found.1.now (pair_seen c.in-Ok.found.0) more) ∙ c.pairs.invariant.events);
       whole = subst (λ o. IsTrue (is_whole o c.in-Ok.found.1.now)) (sym c.status_after-running.ensures) more.whole;
       status = subst (λ o. IsTrue (is_running o)) (sym c.status_after-running.ensures) (sound-status (event_seen c.in-Ok.found.0.event) c.in-Ok.ensures.sound);
       early = omega (arith, c.in-Ok.ensures.shorter, c.in-Ok.ensures.small);

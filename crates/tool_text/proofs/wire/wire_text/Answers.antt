@@ -1,7 +1,8 @@
 use Rattle.std.proofs.Common.{◌∙◌}
 use Rattle.midi_wire.proofs.Outcomes.{on_err}
 use Rattle.tool_text.specs.Stream.{message_lines}
-use Rattle.tool_text.specs.Wire.{wire_line, wire_ending}
+use Rattle.text_forms.specs.Hex.{hex_line}
+use Rattle.tool_text.specs.Wire.{wire_ending}
 use Rattle.tool_text.proofs.Copied.{all_copied, copied_short}
 use Rattle.tool_text.proofs.Dumped.{on-ok, on-err}
 use Rattle.tool_text.proofs.Passed.{stops_before}
@@ -9,10 +10,10 @@ use Rattle.tool_text.proofs.Passing.{no_lines}
 use Rattle.tool_text.proofs.wire.wire_text.Goals as goal
 
 pub print_stream-requires-clause-empty : goal.print_stream-requires-clause-empty
-print_stream-requires-clause-empty g c = no_lines wire_line
+print_stream-requires-clause-empty g c = no_lines hex_line
 
 pub returns-in_err-print_stream-clause-short : goal.returns-in_err-print_stream-clause-short
-returns-in_err-print_stream-clause-short g c = λ t u. on_err c.from_residual.result (stops_before (message_lines wire_line) wire_ending _ _ _ (c.in_err-print_stream.ensures.short t u))
+returns-in_err-print_stream-clause-short g c = λ t u. on_err c.from_residual.result (stops_before (message_lines hex_line) wire_ending _ _ _ (c.in_err-print_stream.ensures.short t u))
 
 pub returns-clause-text : goal.returns-clause-text
 returns-clause-text g c = λ t u. on-ok c.print_written.result

@@ -6,7 +6,7 @@ use Rattle.std.specs.FinMap.{get}
 use Rattle.seq_state.specs.Own.{with_change, put_port}
 use Rattle.seq_clients.specs.Roster.{with_client}
 use Rattle.seq_clients.specs.declared.body.NodeBody.TheVariants.{Stream}
-use Rattle.seq_clients.specs.Kept.{Nodes, roster, IsKept}
+use Rattle.seq_clients.specs.Kept.{Nodes, roster, AreRowsKept}
 use Rattle.seq_clients.proofs.Changing.{is-open, port-free, port-made, made-kept}
 use Rattle.seq_clients.proofs.clients.Clients.create_port.Goals as goal
 
@@ -19,7 +19,7 @@ add_node-requires-clause-fresh c = port-free c.self.inside.nodes c.self.inside.r
 
 pub invariant_of-self-2 : goal.invariant_of-self-2
 invariant_of-self-2 c =
-    subst (λ (n : Nodes). IsKept n c.self.inside.rows) (sym (c.in_ok-add_node.ensures.ok ∙ ap (λ (x : Addr). with_node c.self.inside.nodes x (node_seen c.args.name.now c.args.caps (Stream c.new.result))) c.port_addr.ensures))
+    subst (λ (n : Nodes). AreRowsKept n c.self.inside.rows) (sym (c.in_ok-add_node.ensures.ok ∙ ap (λ (x : Addr). with_node c.self.inside.nodes x (node_seen c.args.name.now c.args.caps (Stream c.new.result))) c.port_addr.ensures))
     (made-kept c.self.inside.nodes c.self.inside.rows _ c.self.invariant c.self.view_is c.args.client (Port c.args.port) (node_seen c.args.name.now c.args.caps (Stream c.new.result)) refl)
 
 pub returns-clause-ok : goal.returns-clause-ok

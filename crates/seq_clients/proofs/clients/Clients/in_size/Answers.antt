@@ -1,10 +1,10 @@
 use Rattle.std.proofs.Common.{ap, refl}
-use Rattle.seq_clients.specs.Roster.{in_size}
+use Rattle.seq_clients.specs.Roster.{input_size}
 use Rattle.seq_clients.proofs.Seeing.{by_row, no_row}
 use Rattle.seq_clients.proofs.clients.Clients.in_size.Goals as goal
 
 pub returns-in-Some : goal.returns-in-Some
-returns-in-Some c = by_row c.self.inside.nodes c.self.inside.rows _ c.self.invariant c.self.view_is in_size (λ r. r.in_size) (λ r n. refl) c.args.client _ c.in-Some.ensures
+returns-in-Some c = by_row c.self.inside.nodes c.self.inside.rows _ c.self.invariant c.self.view_is input_size (λ r. r.in_size) (λ r n. refl) c.args.client _ c.in-Some.ensures
 
 pub returns-in-None : goal.returns-in-None
-returns-in-None c = ap in_size (no_row c.self.inside.nodes c.self.inside.rows _ c.self.invariant c.self.view_is c.args.client c.in-None.ensures)
+returns-in-None c = ap input_size (no_row c.self.inside.nodes c.self.inside.rows _ c.self.invariant c.self.view_is c.args.client c.in-None.ensures)

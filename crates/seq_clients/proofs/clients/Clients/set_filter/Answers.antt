@@ -1,6 +1,6 @@
 use Rattle.std.proofs.Common.{◌∙◌, ap, refl, sym, subst}
 use Rattle.node_table.specs.declared.number.Node.TheVariants.{Filter}
-use Rattle.seq_clients.specs.Kept.{roster, IsKept}
+use Rattle.seq_clients.specs.Kept.{roster, AreRowsKept}
 use Rattle.seq_clients.specs.declared.body.NodeBody.TheVariants as bodies
 use Rattle.seq_clients.specs.declared.clients.Clients.TheInside.{Inside}
 use Rattle.seq_clients.proofs.Bodies.{written-kept, filter-ruled, filter-missed}
@@ -9,7 +9,7 @@ use Rattle.seq_clients.proofs.clients.Clients.set_filter.Goals as goal
 
 pub invariant_of-self : goal.invariant_of-self
 invariant_of-self c =
-    let still : Inside → Type 0 = λ i. IsKept i.nodes i.rows in
+    let still : Inside → Type 0 = λ i. AreRowsKept i.nodes i.rows in
     let written = written-kept c.self.inside.nodes c.self.inside.rows _ c.self.invariant c.self.view_is c.args.client (Filter c.args.filter) _ (bodies.Rule c.args.rule) c.filter_addr.ensures refl in
     elim c.match-body_mut.branch [
       | in-Some+in-Stream-1 w ↦ subst still (sym w.self-inside-is) written

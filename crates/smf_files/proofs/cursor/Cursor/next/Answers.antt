@@ -2,7 +2,7 @@ use Rattle.std.proofs.Common.{◌<◌, ◌+◌, ◌*◌, ◌≤◌, length, rule
 use Rattle.std.specs.Prelude.{IsTrue, is_some}
 use Rattle.midi_wire.proofs.Outcomes.{on_err}
 use Rattle.smf_grammar.specs.Contents.{message_of, events_from}
-use Rattle.smf_grammar.specs.Seen.{is_sound}
+use Rattle.smf_grammar.specs.Seen.{is_event_sound}
 use Rattle.smf_files.specs.Playing.{running_in, is_running, is_whole, rest_of, IsExclusive, IsNextExclusive}
 use Rattle.std.specs.List.{slice_get}
 use Rattle.smf_files.proofs.Merging.{Next, next-exclusive, next-here, track-here, over-here, top-counts}
@@ -47,7 +47,7 @@ message_of-requires-clause-some c =
 pub message_of-requires-clause-sound : goal.message_of-requires-clause-sound
 message_of-requires-clause-sound c =
     let n : Next c.self.inside.places.items c.self.inside.heads.items c.in-Some.head.now c.index.result.now = next-here _ _ _ c.index.result.now c.self.invariant (c.in-Some.ensures.value ∙ ap (λ hs. slice_get hs 0) c.deref.ensures.value) c.index.ensures in
-    subst (λ e. IsTrue (is_sound e)) (sym c.open-opened.ensures.event) n.sound
+    subst (λ e. IsTrue (is_event_sound e)) (sym c.open-opened.ensures.event) n.sound
 
 pub find-next-requires-clause-whole : goal.find-next-requires-clause-whole
 find-next-requires-clause-whole c =
