@@ -1,8 +1,10 @@
 //! One run under both agendas.
 
-ghost use Rattle.std.specs.Prelude.{◌≡◌, map, IfOk};
+ghost use Rattle.std.specs.Prelude.{◌≡◌, map, IfOk, IfErr};
 ghost use Rattle.smf_grammar.specs.Played.{played};
-ghost use Rattle.seq_state.specs.Step.{plain, IsTimed};
+ghost use Rattle.seq_state.specs.State.{start};
+ghost use Rattle.seq_state.specs.Step.{plain, state_after, IsTimed};
+ghost use Rattle.seq_engine.specs.Ending.{listing_of};
 
 use agenda_heap::{HeapAgenda, SortedAgenda};
 use seq_engine::{EngineFault, Input, RunLog, run};
@@ -21,8 +23,11 @@ pub fn run_under_both(
     requires timed { IsTimed inputs.now until }
     ensures plain { IfOk result
         (λ logs. logs.0.entries ≡ plain (map played files.now) inputs.now until) }
-    ensures entries { IfOk result (λ logs. logs.1.entries ≡ logs.0.entries) }
-    ensures listing { IfOk result (λ logs. logs.1.listing ≡ logs.0.listing) }
+    ensures same_entries { IfOk result (λ logs. logs.1.entries ≡ logs.0.entries) }
+    ensures listing { IfOk result (λ logs. logs.0.listing
+        ≡ listing_of (state_after (map played files.now) start inputs.now)) }
+    ensures same_listing { IfOk result (λ logs. logs.1.listing ≡ logs.0.listing) }
+    ensures out_of_memory { IfErr result (λ e. e ≡ EngineFault.OutOfMemory) }
 {
     let log = run(alloc, files, HeapAgenda::new(alloc), inputs, until)?;
     let sorted = run(alloc, files, SortedAgenda::new(alloc), inputs, until)?;

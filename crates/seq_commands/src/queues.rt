@@ -6,7 +6,8 @@ ghost use Rattle.seq_state.specs.declared.input.Command.TheVariants as Command;
 ghost use Rattle.seq_state.specs.declared.log.Reply.TheVariants as Reply;
 ghost use Rattle.seq_state.specs.Own.{queue_is, one_tempo};
 ghost use Rattle.seq_settle.specs.Moments.{queue_at};
-ghost use Rattle.seq_commands.specs.Whole.{clients_of, state_of, IsSound, IsWhole, IsStepTaken, IsStepTakenUnkeyed, refusal_in, step_in};
+ghost use Rattle.seq_commands.specs.Whole.{clients_of, state_of, refusal_in, step_in};
+ghost use Rattle.seq_commands.specs.Whole.{IsSound, IsWhole, IsStepTaken, IsStepTakenUnkeyed};
 
 use crate::sequencer::{Sequencer, Turn};
 use agenda_heap::Agenda;

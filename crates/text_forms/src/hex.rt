@@ -72,8 +72,8 @@ fn spell(bytes: &[u8], digits: &mut [u8])
     }
 }
 
-/// Adds a line of two upper-case digits for each byte, with one space between, as `90 3C 40`. After an error the text ends
-/// within it.
+/// Adds a line of two upper-case digits for each byte, with one space between, as `90 3C 40`. After an error the text
+/// ends within it.
 pub fn push_hex_line(text: &mut Vec<u8>, bytes: &[u8]) -> Result<(), OutOfMemory>
     ensures { OnOk result (text.new.items ≡ text.old.items ++ hex_line bytes.now) }
 {
