@@ -4,3 +4,4 @@ pub mod Laws
 pub mod Worked
 pub mod Codes
 pub mod VoiceBytes
+pub mod Chains

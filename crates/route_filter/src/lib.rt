@@ -3,6 +3,7 @@
 //! `specs/Passing.antt` says what a rule makes of a message, `specs/Laws.antt` what follows for every rule and message.
 #![tactic(auto)]
 
+mod chain;
 mod laws;
 mod rule;
 mod rule_args;

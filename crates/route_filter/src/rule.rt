@@ -1,6 +1,7 @@
 //! Filter rules.
 
-ghost use Rattle.std.specs.Prelude.{◌≡◌, IsTrue, Some, None, if◌then◌else◌};
+ghost use Rattle.std.specs.Prelude.{◌≡◌, ℕ, List, IsTrue, Some, None, option_and_then, if◌then◌else◌};
+ghost use Rattle.midi_wire.specs.Messages.{IsMessage};
 ghost use Rattle.midi_wire.specs.Kinds.{kind_of_status};
 ghost use Rattle.route_filter.specs.Rules.{is_rule};
 ghost use Rattle.route_filter.specs.Passing.{has_note, passed};
@@ -65,6 +66,16 @@ impl Rule {
             return None;
         }
         Some(message)
+    }
+
+    /// The rule that makes of each message what `next` makes of what this one lets through.
+    pub fn then(&self, next: &Rule) -> Rule
+        ensures { (m : List ℕ) → IsMessage m
+            → passed result m ≡ option_and_then (passed next.now) (passed self.now m) }
+    {
+        Rule {
+            args: self.args.then(&next.args),
+        }
     }
 
     /// What it makes of a channel message, as `pass` does.

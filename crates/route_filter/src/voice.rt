@@ -1,6 +1,7 @@
 //! Channel messages taken apart.
 
 ghost use Rattle.std.specs.Prelude.{◌≡◌, ◌≤◌, IfSome, IfNone};
+ghost use Rattle.midi_wire.specs.Messages.{IsMessage};
 ghost use Rattle.midi_wire.specs.Writings.{status_of};
 ghost use Rattle.route_filter.specs.VoiceBytes.{has_one_data};
 
@@ -33,6 +34,7 @@ impl VoiceMessage {
     pub fn of(message: &Message) -> Option<VoiceMessage>
         ensures voice { IfSome result (λ v. v ≡ message.now) }
         ensures system { IfNone result (240 ≤ status_of message.now) }
+        ensures message { IsMessage message.now }
     {
         let status = message.status();
         if status >= 0xF0 {

@@ -6,7 +6,7 @@ use Rattle.node_table.specs.declared.number.Addr.{Addr}
 use Rattle.patch_graph.specs.Chains.{makes_cycle}
 use Rattle.patch_graph.specs.Edges.{edge, has_edge, without_edge, sources_of, most_sources}
 use Rattle.patch_graph.specs.declared.edge.Edge.{Edge}
-use Rattle.seq_patchbay.specs.declared.patchbay.Patchbay.{Patchbay}
+use Rattle.seq_patchbay.specs.Network.{Network}
 use Rattle.seq_state.specs.declared.input.Command.TheVariants.{Connect, Disconnect}
 use Rattle.seq_state.specs.declared.log.Reply.{Reply}
 use Rattle.seq_state.specs.declared.log.Reply.TheVariants.{Done}
@@ -23,7 +23,7 @@ use Rattle.seq_commands.specs.Whole.{clients_of, state_of, refusal_in, step_in, 
 use Rattle.seq_commands.proofs.Accepted.{none-holds, unless-none}
 
 -- a step that changes the pools and the subscriptions alone
-pub kept-gives : (old : Sequencer) (p : Patchbay) (step : Stepped) (reply : Reply) → p.clients.clients ≡ clients_of old → step ≡ done (state_of (record old { patchbay = p })) reply → IsStepTakenUnkeyed old (record old { patchbay = p }) step reply []
+pub kept-gives : (old : Sequencer) (p : Network) (step : Stepped) (reply : Reply) → p.clients.clients ≡ clients_of old → step ≡ done (state_of (record old { patchbay = p })) reply → IsStepTakenUnkeyed old (record old { patchbay = p }) step reply []
 kept-gives old p step reply same is agenda now whole = record {
   state = sym (ap (λ (x : Stepped). x.state) is);
   reply_is = sym (ap (λ (x : Stepped). x.reply) is);

@@ -12,7 +12,7 @@ use Rattle.node_table.specs.declared.number.QueueAddr.{QueueAddr}
 use Rattle.patch_graph.specs.Edges.{touches, touches_client}
 use Rattle.patch_graph.specs.declared.edge.Edge.{Edge}
 use Rattle.seq_clients.specs.Roster.{Roster, NoneShared, with_client, with_pool}
-use Rattle.seq_patchbay.specs.declared.patchbay.Patchbay.{Patchbay}
+use Rattle.seq_patchbay.specs.Network.{Network}
 use Rattle.seq_state.specs.declared.input.Command.TheVariants.{Close, DeletePort, DeleteQueue, DropOutput}
 use Rattle.seq_state.specs.declared.log.Reply.TheVariants.{Done}
 use Rattle.seq_state.specs.State.{Client, Pending, Queue, State, put, queues_of}
@@ -94,7 +94,7 @@ queue-mine old turn queue e =
     (eqb-true queue.client turn.actor (not-false (eqb queue.client turn.actor) (none-at (row_of old.files (state_of old) turn.moment turn.actor (DeleteQueue queue)).conditions e 1)))
 
 -- a step that changes the clients, the subscriptions and what is still to be sent
-pub gone-gives : (old : Sequencer) (p : Patchbay) (cells : Store Left) (agenda : Keys) (step : Stepped) → step ≡ done (state_of (record old { patchbay = p; cells = cells })) Done →
+pub gone-gives : (old : Sequencer) (p : Network) (cells : Store Left) (agenda : Keys) (step : Stepped) → step ≡ done (state_of (record old { patchbay = p; cells = cells })) Done →
     AreCells cells.cells old.steps → AreFirstKeys p.clients.clients cells.cells agenda → IsStepTaken old (record old { patchbay = p; cells = cells }) agenda step Done []
 gone-gives old p cells agenda step is are keys = record {
   state = sym (ap (λ (x : Stepped). x.state) is);

@@ -25,7 +25,7 @@ impl Sequencer<'_, '_> {
         ensures { OnOk result (IsStepTakenUnkeyed self.old self.new
             (step_in self.old turn (Command.Open name.now in_size out_size)) Reply.Done []) }
     {
-        let clients = &mut self.patchbay.clients;
+        let clients = self.patchbay.clients_mut();
         clients.open(turn.actor, name, in_size, out_size)
     }
 
@@ -42,7 +42,7 @@ impl Sequencer<'_, '_> {
         ensures { OnOk result (IsStepTakenUnkeyed self.old self.new
             (step_in self.old turn (Command.CreatePort port name.now caps)) Reply.Done []) }
     {
-        let clients = &mut self.patchbay.clients;
+        let clients = self.patchbay.clients_mut();
         clients.create_port(turn.actor, port, name, caps)
     }
 
@@ -62,7 +62,7 @@ impl Sequencer<'_, '_> {
         let Some(rule) = Rule::new(*rule) else {
             unreachable!()
         };
-        let clients = &mut self.patchbay.clients;
+        let clients = self.patchbay.clients_mut();
         clients.create_filter(turn.actor, filter, caps, rule)
     }
 
@@ -75,7 +75,7 @@ impl Sequencer<'_, '_> {
         let Some(rule) = Rule::new(*rule) else {
             unreachable!()
         };
-        self.patchbay.clients.set_filter(turn.actor, filter, rule);
+        self.patchbay.clients_mut().set_filter(turn.actor, filter, rule);
     }
 
     /// Drops a filter with its subscriptions.
@@ -84,8 +84,8 @@ impl Sequencer<'_, '_> {
         ensures { IsStepTakenUnkeyed self.old self.new
             (step_in self.old turn (Command.DeleteFilter filter)) Reply.Done [] }
     {
-        self.patchbay.clients.delete_filter(turn.actor, filter);
-        self.patchbay.graph.remove_node(&Addr {
+        self.patchbay.clients_mut().delete_filter(turn.actor, filter);
+        self.patchbay.graph_mut().remove_node(&Addr {
             client: turn.actor,
             node: Node::Filter(filter),
         });

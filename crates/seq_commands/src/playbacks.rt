@@ -49,8 +49,8 @@ impl<'f, 'b> Sequencer<'f, 'b> {
             client: turn.actor,
             node: Node::Port(port),
         };
-        self.patchbay.graph.remove_node(&node);
-        self.patchbay.clients.delete_port(turn.actor, port);
+        self.patchbay.graph_mut().remove_node(&node);
+        self.patchbay.clients_mut().delete_port(turn.actor, port);
     }
 
     /// Drops a queue of the actor's, with what is still to be sent by it, whoever's it is. It takes no memory.
@@ -64,7 +64,7 @@ impl<'f, 'b> Sequencer<'f, 'b> {
         let on_queue = Which::OnQueue(queue.queue);
         let cells = &mut self.cells;
         drop_playbacks(cells, agenda, self.steps, turn.actor, &on_queue, shared);
-        self.patchbay.clients.delete_queue(turn.actor, queue.queue);
+        self.patchbay.clients_mut().delete_queue(turn.actor, queue.queue);
     }
 
     /// Closes the actor: all that it has goes, with what others have still to send by its queues. It takes no memory.
@@ -74,12 +74,12 @@ impl<'f, 'b> Sequencer<'f, 'b> {
         ensures { let step = step_in self.old turn Command.Close in
             IsStepTaken self.old self.new (A.content agenda.new) step Reply.Done [] }
     {
-        let shares = self.patchbay.clients.shares_queue(turn.actor);
+        let shares = self.patchbay.clients().shares_queue(turn.actor);
         let its_own = Which::AllAndOnQueues;
         let cells = &mut self.cells;
         drop_playbacks(cells, agenda, self.steps, turn.actor, &its_own, shares);
-        self.patchbay.graph.remove_client(turn.actor);
-        self.patchbay.clients.close(turn.actor);
+        self.patchbay.graph_mut().remove_client(turn.actor);
+        self.patchbay.clients_mut().close(turn.actor);
     }
 
     /// Sends a message from a port when a queue comes to its time. `rank` is the number of the command among all inputs.
@@ -153,7 +153,7 @@ impl<'f, 'b> Sequencer<'f, 'b> {
             OnOk result (IsStepTaken self.old self.new (A.content agenda.new) step Reply.Done []) }
     {
         // Set here, the sizes of the store need not be kept in step with those of the clients.
-        let size = self.patchbay.clients.out_size(turn.actor);
+        let size = self.patchbay.clients().out_size(turn.actor);
         self.cells.set_size(turn.actor, size);
         let accepted = Accepted {
             client: turn.actor,
@@ -173,7 +173,7 @@ impl<'f, 'b> Sequencer<'f, 'b> {
         ensures { (q : state.Queue) → queue_at (clients_of self.now) queue.now ≡ Some q
             → result ≡ due_of moment q due_at }
     {
-        let Some(queue) = self.patchbay.clients.queue(queue) else {
+        let Some(queue) = self.patchbay.clients().queue(queue) else {
             unreachable!()
         };
         due_by(queue, moment, due_at)

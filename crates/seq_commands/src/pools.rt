@@ -18,7 +18,7 @@ impl Sequencer<'_, '_> {
             IfOk result (λ items.
             IsStepTakenUnkeyed self.old self.new step (Reply.Received items) []) }
     {
-        let items = self.patchbay.clients.receive(turn.actor, max)?;
+        let items = self.patchbay.receive(turn.actor, max)?;
         Ok(Items::new(items))
     }
 
@@ -30,8 +30,8 @@ impl Sequencer<'_, '_> {
             IsStepTakenUnkeyed self.now self.now step result [] }
     {
         Reply::Pools {
-            waiting: self.patchbay.clients.waiting(turn.actor),
-            lost: self.patchbay.clients.lost(turn.actor),
+            waiting: self.patchbay.clients().waiting(turn.actor),
+            lost: self.patchbay.clients().lost(turn.actor),
             used: self.cells.used(turn.actor),
         }
     }

@@ -29,13 +29,13 @@ impl Sequencer<'_, '_> {
     ) -> Option<Refusal>
         ensures { result ≡ refusal_in self.now turn (Command.CreateQueue queue ppq tempo) }
     {
-        if !self.patchbay.clients.is_open(turn.actor) {
+        if !self.patchbay.clients().is_open(turn.actor) {
             return Some(Refusal::NotOpen);
         }
         if !is_ppq(ppq) {
             return Some(Refusal::BadSize);
         }
-        if self.patchbay.clients.has_queue(turn.actor, queue) {
+        if self.patchbay.clients().has_queue(turn.actor, queue) {
             return Some(Refusal::QueueExists);
         }
         if !is_tempo(tempo) {
@@ -53,10 +53,10 @@ impl Sequencer<'_, '_> {
     ) -> Option<Refusal>
         ensures { result ≡ refusal_in self.now turn (Command.CreateQueueFrom queue file) }
     {
-        if !self.patchbay.clients.is_open(turn.actor) {
+        if !self.patchbay.clients().is_open(turn.actor) {
             return Some(Refusal::NotOpen);
         }
-        if self.patchbay.clients.has_queue(turn.actor, queue) {
+        if self.patchbay.clients().has_queue(turn.actor, queue) {
             return Some(Refusal::QueueExists);
         }
         if !self.files.has(file) {
@@ -71,13 +71,13 @@ impl Sequencer<'_, '_> {
         ensures delete_queue { result ≡ refusal_in self.now turn (Command.DeleteQueue queue.now) }
         ensures share { result ≡ refusal_in self.now turn (Command.Share queue.now) }
     {
-        if !self.patchbay.clients.is_open(turn.actor) {
+        if !self.patchbay.clients().is_open(turn.actor) {
             return Some(Refusal::NotOpen);
         }
         if queue.client != turn.actor {
             return Some(Refusal::NotYours);
         }
-        if !self.patchbay.clients.has_queue(turn.actor, queue.queue) {
+        if !self.patchbay.clients().has_queue(turn.actor, queue.queue) {
             return Some(Refusal::NoQueue);
         }
         None
@@ -89,13 +89,13 @@ impl Sequencer<'_, '_> {
         ensures start { result ≡ refusal_in self.now turn (Command.Start queue.now) }
         ensures resume { result ≡ refusal_in self.now turn (Command.Continue queue.now) }
     {
-        if !self.patchbay.clients.is_open(turn.actor) {
+        if !self.patchbay.clients().is_open(turn.actor) {
             return Some(Refusal::NotOpen);
         }
         if queue.client != turn.actor {
             return Some(Refusal::NotYours);
         }
-        if !self.patchbay.clients.has_queue(turn.actor, queue.queue) {
+        if !self.patchbay.clients().has_queue(turn.actor, queue.queue) {
             return Some(Refusal::NoQueue);
         }
         if self.runs(turn.actor, queue.queue) {
@@ -108,13 +108,13 @@ impl Sequencer<'_, '_> {
     pub(crate) fn stop_refusal(&self, turn: Turn, queue: &QueueAddr) -> Option<Refusal>
         ensures { result ≡ refusal_in self.now turn (Command.Stop queue.now) }
     {
-        if !self.patchbay.clients.is_open(turn.actor) {
+        if !self.patchbay.clients().is_open(turn.actor) {
             return Some(Refusal::NotOpen);
         }
         if queue.client != turn.actor {
             return Some(Refusal::NotYours);
         }
-        if !self.patchbay.clients.has_queue(turn.actor, queue.queue) {
+        if !self.patchbay.clients().has_queue(turn.actor, queue.queue) {
             return Some(Refusal::NoQueue);
         }
         if !self.runs(turn.actor, queue.queue) {
@@ -127,13 +127,13 @@ impl Sequencer<'_, '_> {
     pub(crate) fn tempo_refusal(&self, turn: Turn, queue: &QueueAddr, tempo: u32) -> Option<Refusal>
         ensures { result ≡ refusal_in self.now turn (Command.Tempo queue.now tempo) }
     {
-        if !self.patchbay.clients.is_open(turn.actor) {
+        if !self.patchbay.clients().is_open(turn.actor) {
             return Some(Refusal::NotOpen);
         }
         if queue.client != turn.actor {
             return Some(Refusal::NotYours);
         }
-        if !self.patchbay.clients.has_queue(turn.actor, queue.queue) {
+        if !self.patchbay.clients().has_queue(turn.actor, queue.queue) {
             return Some(Refusal::NoQueue);
         }
         if !is_tempo(tempo) || self.counts_frames(turn.actor, queue.queue) {
@@ -146,7 +146,7 @@ impl Sequencer<'_, '_> {
     pub(crate) fn queue_status_refusal(&self, turn: Turn, queue: &QueueAddr) -> Option<Refusal>
         ensures { result ≡ refusal_in self.now turn (Command.QueueStatus queue.now) }
     {
-        if !self.patchbay.clients.is_open(turn.actor) {
+        if !self.patchbay.clients().is_open(turn.actor) {
             return Some(Refusal::NotOpen);
         }
         if self.usable_queue(turn.actor, queue).is_none() {
@@ -167,10 +167,10 @@ impl Sequencer<'_, '_> {
         ensures { (message : List ℕ) →
             result ≡ refusal_in self.now turn (Command.Schedule queue.now port due_at message) }
     {
-        if !self.patchbay.clients.is_open(turn.actor) {
+        if !self.patchbay.clients().is_open(turn.actor) {
             return Some(Refusal::NotOpen);
         }
-        if !self.patchbay.clients.has_port(turn.actor, port) {
+        if !self.patchbay.clients().has_port(turn.actor, port) {
             return Some(Refusal::NoNode);
         }
         let Some(usable) = self.usable_queue(turn.actor, queue) else {
@@ -179,7 +179,7 @@ impl Sequencer<'_, '_> {
         if passes_end(usable, turn.moment, due_at) {
             return Some(Refusal::BadTime);
         }
-        if self.used(turn.actor) == self.patchbay.clients.out_size(turn.actor) {
+        if self.used(turn.actor) == self.patchbay.clients().out_size(turn.actor) {
             return Some(Refusal::OutFull);
         }
         None
@@ -196,10 +196,10 @@ impl Sequencer<'_, '_> {
         requires cells { AreCells self.now.cells.cells self.now.steps }
         ensures { result ≡ refusal_in self.now turn (Command.Play queue.now port file) }
     {
-        if !self.patchbay.clients.is_open(turn.actor) {
+        if !self.patchbay.clients().is_open(turn.actor) {
             return Some(Refusal::NotOpen);
         }
-        if !self.patchbay.clients.has_port(turn.actor, port) {
+        if !self.patchbay.clients().has_port(turn.actor, port) {
             return Some(Refusal::NoNode);
         }
         let Some(usable) = self.usable_queue(turn.actor, queue) else {
@@ -211,7 +211,7 @@ impl Sequencer<'_, '_> {
         if !self.files.has_division_of(usable, file) {
             return Some(Refusal::DivisionDiffers);
         }
-        if self.used(turn.actor) == self.patchbay.clients.out_size(turn.actor) {
+        if self.used(turn.actor) == self.patchbay.clients().out_size(turn.actor) {
             return Some(Refusal::OutFull);
         }
         None
@@ -221,7 +221,7 @@ impl Sequencer<'_, '_> {
     pub(crate) fn usable_queue(&self, actor: ClientId, queue: &QueueAddr) -> Option<&Queue>
         ensures { option_copied result ≡ named_queue (clients_of self.now) actor (Some queue.now) }
     {
-        match self.patchbay.clients.queue(queue) {
+        match self.patchbay.clients().queue(queue) {
             Some(found) if queue.client == actor || found.is_shared() => Some(found),
             _ => None,
         }
@@ -231,7 +231,7 @@ impl Sequencer<'_, '_> {
     fn runs(&self, client: ClientId, queue: QueueNo) -> bool
         ensures { result ≡ queue_is runs (queue_of (get (clients_of self.now) client) queue) }
     {
-        match self.patchbay.clients.queue(&QueueAddr { client, queue }) {
+        match self.patchbay.clients().queue(&QueueAddr { client, queue }) {
             Some(found) => found.clock().running(),
             None => false,
         }
@@ -242,7 +242,7 @@ impl Sequencer<'_, '_> {
         ensures { result
             ≡ queue_is counts_frames (queue_of (get (clients_of self.now) client) queue) }
     {
-        match self.patchbay.clients.queue(&QueueAddr { client, queue }) {
+        match self.patchbay.clients().queue(&QueueAddr { client, queue }) {
             Some(found) => found.clock().counts_frames(),
             None => false,
         }

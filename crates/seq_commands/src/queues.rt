@@ -46,7 +46,7 @@ impl Sequencer<'_, '_> {
             (step_in self.old turn (Command.CreateQueue queue ppq tempo)) Reply.Done []) }
     {
         let map = one_tempo(self.alloc, ppq, tempo)?;
-        self.patchbay.clients.create_queue(turn.actor, queue, map);
+        self.patchbay.clients_mut().create_queue(turn.actor, queue, map);
         Ok(())
     }
 
@@ -65,7 +65,7 @@ impl Sequencer<'_, '_> {
             unreachable!()
         };
         let map = file.tempo_map()?;
-        self.patchbay.clients.create_queue(turn.actor, queue, map);
+        self.patchbay.clients_mut().create_queue(turn.actor, queue, map);
         Ok(())
     }
 
@@ -82,7 +82,7 @@ impl Sequencer<'_, '_> {
             (step_in self.old turn (Command.Start queue.now)) Reply.Done []) }
     {
         let foreign = self.is_shared(queue);
-        let clients = &mut self.patchbay.clients;
+        let clients = self.patchbay.clients_mut();
         clients.start(turn.actor, queue.queue, turn.moment);
         rekey_all(
             &self.patchbay,
@@ -107,7 +107,7 @@ impl Sequencer<'_, '_> {
             (step_in self.old turn (Command.Stop queue.now)) Reply.Done []) }
     {
         let foreign = self.is_shared(queue);
-        let clients = &mut self.patchbay.clients;
+        let clients = self.patchbay.clients_mut();
         clients.stop(turn.actor, queue.queue, turn.moment);
         rekey_all(
             &self.patchbay,
@@ -132,7 +132,7 @@ impl Sequencer<'_, '_> {
             (step_in self.old turn (Command.Continue queue.now)) Reply.Done []) }
     {
         let foreign = self.is_shared(queue);
-        let clients = &mut self.patchbay.clients;
+        let clients = self.patchbay.clients_mut();
         clients.resume(turn.actor, queue.queue, turn.moment);
         rekey_all(
             &self.patchbay,
@@ -158,7 +158,7 @@ impl Sequencer<'_, '_> {
             (step_in self.old turn (Command.Tempo queue.now tempo)) Reply.Done []) }
     {
         let foreign = self.is_shared(queue);
-        let clients = &mut self.patchbay.clients;
+        let clients = self.patchbay.clients_mut();
         clients.set_tempo(turn.actor, queue.queue, turn.moment, tempo)?;
         rekey_all(
             &self.patchbay,
@@ -176,7 +176,7 @@ impl Sequencer<'_, '_> {
         ensures { IsStepTakenUnkeyed self.old self.new
             (step_in self.old turn (Command.Share queue.now)) Reply.Done [] }
     {
-        self.patchbay.clients.share(turn.actor, queue.queue);
+        self.patchbay.clients_mut().share(turn.actor, queue.queue);
     }
 
     /// What a queue shows.
@@ -186,7 +186,7 @@ impl Sequencer<'_, '_> {
         ensures { IsStepTakenUnkeyed self.now self.now
             (step_in self.now turn (Command.QueueStatus queue.now)) result [] }
     {
-        let Some(queue) = self.patchbay.clients.queue(queue) else {
+        let Some(queue) = self.patchbay.clients().queue(queue) else {
             unreachable!()
         };
         let clock = queue.clock();
@@ -201,7 +201,7 @@ impl Sequencer<'_, '_> {
     pub(crate) fn is_shared(&self, queue: &QueueAddr) -> bool
         ensures { result ≡ queue_is (λ q. q.shared) (queue_at (clients_of self.now) queue.now) }
     {
-        match self.patchbay.clients.queue(queue) {
+        match self.patchbay.clients().queue(queue) {
             Some(queue) => queue.is_shared(),
             None => false,
         }

@@ -26,7 +26,7 @@ impl Sequencer<'_, '_> {
     ) -> Option<Refusal>
         ensures { result ≡ refusal_in self.now turn (Command.Open name.now in_size out_size) }
     {
-        if self.patchbay.clients.is_open(turn.actor) {
+        if self.patchbay.clients().is_open(turn.actor) {
             return Some(Refusal::AlreadyOpen);
         }
         if !is_name(name) {
@@ -45,7 +45,7 @@ impl Sequencer<'_, '_> {
         ensures drop_output { result ≡ refusal_in self.now turn Command.DropOutput }
         ensures pool_status { result ≡ refusal_in self.now turn Command.PoolStatus }
     {
-        if !self.patchbay.clients.is_open(turn.actor) {
+        if !self.patchbay.clients().is_open(turn.actor) {
             return Some(Refusal::NotOpen);
         }
         None
@@ -61,13 +61,13 @@ impl Sequencer<'_, '_> {
         ensures { (caps : Caps) →
             result ≡ refusal_in self.now turn (Command.CreatePort port name.now caps) }
     {
-        if !self.patchbay.clients.is_open(turn.actor) {
+        if !self.patchbay.clients().is_open(turn.actor) {
             return Some(Refusal::NotOpen);
         }
         if !is_name(name) {
             return Some(Refusal::BadName);
         }
-        if self.patchbay.clients.has_port(turn.actor, port) {
+        if self.patchbay.clients().has_port(turn.actor, port) {
             return Some(Refusal::NodeExists);
         }
         None
@@ -82,10 +82,10 @@ impl Sequencer<'_, '_> {
         ensures send { (message : List ℕ) →
             result ≡ refusal_in self.now turn (Command.Send port message) }
     {
-        if !self.patchbay.clients.is_open(turn.actor) {
+        if !self.patchbay.clients().is_open(turn.actor) {
             return Some(Refusal::NotOpen);
         }
-        if !self.patchbay.clients.has_port(turn.actor, port) {
+        if !self.patchbay.clients().has_port(turn.actor, port) {
             return Some(Refusal::NoNode);
         }
         None
@@ -101,13 +101,13 @@ impl Sequencer<'_, '_> {
         ensures { (caps : Caps) →
             result ≡ refusal_in self.now turn (Command.CreateFilter filter caps rule.now) }
     {
-        if !self.patchbay.clients.is_open(turn.actor) {
+        if !self.patchbay.clients().is_open(turn.actor) {
             return Some(Refusal::NotOpen);
         }
         if !rule.is_rule() {
             return Some(Refusal::BadRule);
         }
-        if self.patchbay.clients.has_filter(turn.actor, filter) {
+        if self.patchbay.clients().has_filter(turn.actor, filter) {
             return Some(Refusal::NodeExists);
         }
         None
@@ -122,13 +122,13 @@ impl Sequencer<'_, '_> {
     ) -> Option<Refusal>
         ensures { result ≡ refusal_in self.now turn (Command.SetFilter filter rule.now) }
     {
-        if !self.patchbay.clients.is_open(turn.actor) {
+        if !self.patchbay.clients().is_open(turn.actor) {
             return Some(Refusal::NotOpen);
         }
         if !rule.is_rule() {
             return Some(Refusal::BadRule);
         }
-        if !self.patchbay.clients.has_filter(turn.actor, filter) {
+        if !self.patchbay.clients().has_filter(turn.actor, filter) {
             return Some(Refusal::NoNode);
         }
         None
@@ -138,10 +138,10 @@ impl Sequencer<'_, '_> {
     pub(crate) fn delete_filter_refusal(&self, turn: Turn, filter: FilterNo) -> Option<Refusal>
         ensures { result ≡ refusal_in self.now turn (Command.DeleteFilter filter) }
     {
-        if !self.patchbay.clients.is_open(turn.actor) {
+        if !self.patchbay.clients().is_open(turn.actor) {
             return Some(Refusal::NotOpen);
         }
-        if !self.patchbay.clients.has_filter(turn.actor, filter) {
+        if !self.patchbay.clients().has_filter(turn.actor, filter) {
             return Some(Refusal::NoNode);
         }
         None
@@ -156,25 +156,25 @@ impl Sequencer<'_, '_> {
     ) -> Option<Refusal>
         ensures { result ≡ refusal_in self.now turn (Command.Connect source.now target.now) }
     {
-        if !self.patchbay.clients.is_open(turn.actor) {
+        if !self.patchbay.clients().is_open(turn.actor) {
             return Some(Refusal::NotOpen);
         }
-        let Some(read) = self.patchbay.clients.caps(source) else {
+        let Some(read) = self.patchbay.clients().caps(source) else {
             return Some(Refusal::NoSender);
         };
-        let Some(write) = self.patchbay.clients.caps(target) else {
+        let Some(write) = self.patchbay.clients().caps(target) else {
             return Some(Refusal::NoDest);
         };
         if !permitted(turn.actor, source, read, target, write) {
             return Some(Refusal::NotPermitted);
         }
-        if self.patchbay.graph.has_edge(source, target) {
+        if self.patchbay.graph().has_edge(source, target) {
             return Some(Refusal::AlreadyConnected);
         }
-        if is_full(&self.patchbay.graph, target) {
+        if is_full(self.patchbay.graph(), target) {
             return Some(Refusal::SourcesFull);
         }
-        if self.patchbay.graph.makes_cycle(source, target) {
+        if self.patchbay.graph().makes_cycle(source, target) {
             return Some(Refusal::Cycle);
         }
         None
@@ -189,19 +189,19 @@ impl Sequencer<'_, '_> {
     ) -> Option<Refusal>
         ensures { result ≡ refusal_in self.now turn (Command.Disconnect source.now target.now) }
     {
-        if !self.patchbay.clients.is_open(turn.actor) {
+        if !self.patchbay.clients().is_open(turn.actor) {
             return Some(Refusal::NotOpen);
         }
-        let Some(read) = self.patchbay.clients.caps(source) else {
+        let Some(read) = self.patchbay.clients().caps(source) else {
             return Some(Refusal::NoSender);
         };
-        let Some(write) = self.patchbay.clients.caps(target) else {
+        let Some(write) = self.patchbay.clients().caps(target) else {
             return Some(Refusal::NoDest);
         };
         if !permitted(turn.actor, source, read, target, write) {
             return Some(Refusal::NotPermitted);
         }
-        if !self.patchbay.graph.has_edge(source, target) {
+        if !self.patchbay.graph().has_edge(source, target) {
             return Some(Refusal::NotConnected);
         }
         None
@@ -211,7 +211,7 @@ impl Sequencer<'_, '_> {
     pub(crate) fn receive_refusal(&self, turn: Turn, max: u32) -> Option<Refusal>
         ensures { result ≡ refusal_in self.now turn (Command.Receive max) }
     {
-        if !self.patchbay.clients.is_open(turn.actor) {
+        if !self.patchbay.clients().is_open(turn.actor) {
             return Some(Refusal::NotOpen);
         }
         if !is_size(max) {

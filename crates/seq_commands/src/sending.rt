@@ -28,10 +28,7 @@ impl Sequencer<'_, '_> {
             OnOk result (out.new.items ≡ out.old.items ++ step.delivered) }
     {
         let mut messages = Vec::new(self.alloc);
-        let count = self
-            .patchbay
-            .clients
-            .feed(turn.actor, port, bytes, &mut messages)?;
+        let count = self.patchbay.feed(turn.actor, port, bytes, &mut messages)?;
         self.patchbay
             .send_all(turn.moment, turn.actor, port, messages.as_slice(), out)?;
         Ok(Reply::Messages(count as u64))

@@ -1,3 +1,5 @@
 pub mod Routes
 pub mod Sent
 pub mod Texts
+pub mod Onward
+pub mod Known

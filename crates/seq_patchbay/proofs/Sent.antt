@@ -99,7 +99,7 @@ module _ (clients : FinMap nat_cmp Client) (edges : List Edge) (moment : ℕ) wh
 -- ---- one after another
 
 -- what is still to be sent comes to what was to be sent, once the copies of the next node were offered
-pub sent-one : (f : Addr → List Delivery) (targets : List Addr) (i : ℕ) (t : Addr) (now : List Delivery) → i < length targets → t ≡ slice_index_or targets i t → f t ≡ now →
+pub sent-one : {X : Type 0} (f : X → List Delivery) (targets : List X) (i : ℕ) (t : X) (now : List Delivery) → i < length targets → t ≡ slice_index_or targets i t → f t ≡ now →
     (pools pools' all : FinMap nat_cmp Pool) (out out' whole : List Delivery) → pools' ≡ offered pools now → out' ≡ out ++ delivered pools now →
     offered pools (flat_map f (drop i targets)) ≡ all → out ++ delivered pools (flat_map f (drop i targets)) ≡ whole →
     (offered pools' (flat_map f (drop (i + 1) targets)) ≡ all) × (out' ++ delivered pools' (flat_map f (drop (i + 1) targets)) ≡ whole)

@@ -1,2 +1,5 @@
 pub mod Carrying
 pub mod Listing
+pub mod Network
+pub mod Ways
+pub mod Lends

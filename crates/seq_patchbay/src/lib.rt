@@ -7,5 +7,6 @@ mod patchbay;
 mod sending;
 #[cfg(test)]
 mod tests;
+mod ways;
 
 pub use patchbay::Patchbay;

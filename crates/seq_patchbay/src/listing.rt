@@ -22,8 +22,8 @@ impl Patchbay {
             text.items ≡ listing self.now.clients.clients self.now.graph) }
     {
         let mut text = Vec::new(alloc);
-        list_clients(alloc, &self.clients, &mut text)?;
-        list_edges(alloc, &self.graph, &mut text)?;
+        list_clients(alloc, self.clients(), &mut text)?;
+        list_edges(alloc, self.graph(), &mut text)?;
         Ok(text)
     }
 }

@@ -1,28 +1,52 @@
 //! The open clients and the subscriptions between their nodes.
 
-ghost use Rattle.std.specs.Prelude.{◌≡◌, [], ◌++◌, OnOk};
+ghost use Rattle.std.specs.Prelude.{◌≡◌, true, [], ◌++◌, length, IsOk, IfOk, OnOk, OnErr};
+ghost use Rattle.std.specs.Borrow.{sem};
+ghost use Rattle.std.specs.FinMap.{get};
+ghost use Rattle.midi_wire.specs.Messages.{IsMessage};
+ghost use Rattle.midi_wire.specs.Readings.{reading};
+ghost use Rattle.seq_state.specs.Own.{has_port, port_of, fed_of, port_fed, put_port, with_change, oldest, without_oldest};
 ghost use Rattle.seq_state.specs.Step.{offered, delivered};
-ghost use Rattle.seq_clients.specs.Roster.{nobody};
+ghost use Rattle.seq_clients.specs.Roster.{nobody, with_client, with_pool};
 ghost use Rattle.seq_patchbay.specs.Carrying.{copies_of_all};
+ghost use Rattle.seq_patchbay.specs.Lends.{LendsClients, LendsGraph};
+ghost use Rattle.seq_patchbay.specs.Ways.{copies_behind};
 
-use crate::sending::spread;
+use crate::carried::Carried;
+use crate::sending::send_along;
+use crate::ways::{WayTable, ways_to};
 use memory::OutOfMemory;
 use midi_wire::Message;
 use node_table::{Addr, ClientId, Node, PortNo, QueueAddr};
-use patch_graph::{HOPS, PatchGraph};
+use patch_graph::PatchGraph;
 use route_filter::VoiceMessage;
 use seq_clients::Clients;
 use seq_settle::Desk;
-use seq_state::Delivery;
+use seq_state::{Arrival, Delivery};
 use std::alloc::Global;
+use std::marker::Model;
 use tempo_clock::Due;
 
 /// The open clients and the subscriptions between their nodes.
 #[derive(Drop)]
 pub struct Patchbay {
-    pub clients: Clients,
-    /// Oldest first.
-    pub graph: PatchGraph,
+    alloc: Global,
+    clients: Clients,
+    graph: PatchGraph,
+    ways: WayTable,
+}
+
+impl Model for Patchbay {
+    ghost use Rattle.seq_patchbay.specs.Network.{Network, coded_network};
+    ghost use Rattle.seq_patchbay.specs.Ways.{AreWaysKept};
+
+    ghost Value = { Network };
+
+    ghost coded = { coded_network };
+
+    ghost view = { λ p. record { clients = p.clients; graph = p.graph } };
+
+    ghost invariant = { λ p. AreWaysKept p.clients.clients p.graph p.ways };
 }
 
 impl Patchbay {
@@ -32,9 +56,83 @@ impl Patchbay {
         ensures graph { result.graph ≡ [] }
     {
         Patchbay {
+            alloc,
             clients: Clients::new(alloc),
             graph: PatchGraph::new(alloc),
+            ways: WayTable::new(alloc),
         }
+    }
+
+    /// The open clients.
+    #[inline]
+    pub fn clients(&self) -> &Clients
+        ensures { result.now ≡ self.now.clients }
+    {
+        &self.clients
+    }
+
+    /// The subscriptions, oldest first.
+    #[inline]
+    pub fn graph(&self) -> &PatchGraph
+        ensures { result.now ≡ self.now.graph }
+    {
+        &self.graph
+    }
+
+    /// The open clients, to be changed. The ways of messages are found again after it.
+    pub fn clients_mut(&mut self) -> &mut Clients
+        ensures* writes_back { sem 𝓛 (LendsClients self.entry result) }
+        ensures value { result.now ≡ self.old.clients }
+    {
+        self.ways.clear();
+        &mut self.clients
+    }
+
+    /// The subscriptions, to be changed. The ways of messages are found again after it.
+    pub fn graph_mut(&mut self) -> &mut PatchGraph
+        ensures* writes_back { sem 𝓛 (LendsGraph self.entry result) }
+        ensures value { result.now ≡ self.old.graph }
+    {
+        self.ways.clear();
+        &mut self.graph
+    }
+
+    /// Feeds the stream of a port, as `Clients::feed` does. It changes no way of a message.
+    pub fn feed(
+        &mut self,
+        client: ClientId,
+        port: PortNo,
+        bytes: &[u8],
+        out: &mut Vec<Message>,
+    ) -> Result<usize, OutOfMemory>
+        requires { has_port (get self.old.clients.clients client) port ≡ true }
+        ensures fed { let c = get self.old.clients.clients client in
+            let fed = put_port port (port_fed bytes.now (port_of c port)) in
+            OnOk result (self.new.clients ≡ with_client self.old.clients client (with_change c fed)) }
+        ensures graph { self.new.graph ≡ self.old.graph }
+        ensures told { let fed = fed_of (port_of (get self.old.clients.clients client) port) in
+            OnOk result (out.new.items ≡ out.old.items ++ reading (fed ++ bytes.now)) }
+        ensures number { let fed = fed_of (port_of (get self.old.clients.clients client) port) in
+            IfOk result (λ n. n ≡ length (reading (fed ++ bytes.now))) }
+        ensures empty { bytes.now ≡ [] → IsOk result }
+    {
+        let fed = self.clients.feed(client, port, bytes, out);
+        if fed.is_err() {
+            self.ways.clear();
+        }
+        fed
+    }
+
+    /// Takes what waits in a client's input pool, as `Clients::receive` does. It changes no way of a message.
+    pub fn receive(&mut self, client: ClientId, max: u32) -> Result<Vec<Arrival>, OutOfMemory>
+        ensures ok { let pool = get self.old.clients.pools client in
+            IfOk result (λ items. items.items ≡ oldest max pool) }
+        ensures left { let pool = without_oldest max (get self.old.clients.pools client) in
+            OnOk result (self.new.clients ≡ with_pool self.old.clients client pool) }
+        ensures graph { self.new.graph ≡ self.old.graph }
+        ensures err { OnErr result (self.new ≡ self.old) }
+    {
+        self.clients.receive(client, max)
     }
 
     /// Sends messages from a port, one after another. Want of memory may leave some copies sent.
@@ -59,6 +157,40 @@ impl Patchbay {
             self.send(moment, client, port, message, out)?;
         }
         Ok(())
+    }
+
+    /// Sends a message on from a port. Want of memory may leave some copies sent.
+    fn send_from<M: Carried + Drop>(
+        &mut self,
+        moment: u64,
+        source: &Addr,
+        message: M,
+        out: &mut Vec<Delivery>,
+    ) -> Result<(), OutOfMemory>
+        requires { IsMessage (M.bytes message) }
+        ensures clients { self.new.clients.clients ≡ self.old.clients.clients }
+        ensures graph { self.new.graph ≡ self.old.graph }
+        ensures pools { let n = self.old in
+            let ds = copies_behind n moment source.now (M.bytes message) in
+            OnOk result (self.new.clients.pools ≡ offered n.clients.pools ds) }
+        ensures sent { let n = self.old in
+            let ds = copies_behind n moment source.now (M.bytes message) in
+            OnOk result (out.new.items ≡ out.old.items ++ delivered n.clients.pools ds) }
+    {
+        if let Some(ways) = self.ways.get(source) {
+            return send_along(&mut self.clients, &self.graph, moment, ways, message, out);
+        }
+        let targets = self.graph.targets(source);
+        let ways = ways_to(self.alloc, &self.clients, &self.graph, targets)?;
+        send_along(
+            &mut self.clients,
+            &self.graph,
+            moment,
+            ways.as_slice(),
+            message,
+            out,
+        )?;
+        self.ways.insert(source, ways)
     }
 }
 
@@ -86,16 +218,11 @@ impl Desk for Patchbay {
             client,
             node: Node::Port(port),
         };
-        let clients = &mut self.clients;
-        let graph = &self.graph;
-        let targets = graph.targets(&source);
-        // Mostly there is one way by each of them.
-        out.reserve(targets.len())?;
         match VoiceMessage::of(message) {
-            Some(voice) => spread(clients, graph, moment, HOPS, targets, voice, out),
+            Some(voice) => self.send_from(moment, &source, voice, out),
             None => {
                 let same = message.duplicate()?;
-                spread(clients, graph, moment, HOPS, targets, same, out)
+                self.send_from(moment, &source, same, out)
             }
         }
     }

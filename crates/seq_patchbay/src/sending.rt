@@ -6,18 +6,79 @@ ghost use Rattle.patch_graph.specs.Cursor.{at_port};
 ghost use Rattle.seq_state.specs.Copies.{copy};
 ghost use Rattle.seq_state.specs.Step.{offered, delivered};
 ghost use Rattle.seq_patchbay.specs.Carrying.{copies_to, spread};
+ghost use Rattle.seq_patchbay.specs.Ways.{copies_on, copies_along};
 
 use crate::carried::Carried;
+use crate::ways::Way;
 use memory::OutOfMemory;
 use node_table::{Addr, Node, PortAddr};
-use patch_graph::PatchGraph;
+use patch_graph::{HOPS, PatchGraph};
 use seq_clients::Clients;
 use seq_state::{Arrival, Delivery};
+
+/// Sends a message along ways, one after another.
+pub(crate) fn send_along<M: Carried + Drop>(
+    clients: &mut Clients,
+    graph: &PatchGraph,
+    moment: u64,
+    ways: &[Way],
+    message: M,
+    out: &mut Vec<Delivery>,
+) -> Result<(), OutOfMemory>
+    ensures clients { clients.new.clients ≡ clients.old.clients }
+    ensures pools { let c = clients.old in
+        let ds = copies_along c.clients graph.now moment ways.now (M.bytes message) in
+        OnOk result (clients.new.pools ≡ offered c.pools ds) }
+    ensures sent { let c = clients.old in
+        let ds = copies_along c.clients graph.now moment ways.now (M.bytes message) in
+        OnOk result (out.new.items ≡ out.old.items ++ delivered c.pools ds) }
+{
+    // Of one way nothing has to be kept for the next.
+    if let [way] = ways {
+        return send_by(clients, graph, moment, way, message, out);
+    }
+    // Mostly one copy comes by each way.
+    out.reserve(ways.len())?;
+    for way in ways {
+        let message = message.once_more()?;
+        send_by(clients, graph, moment, way, message, out)?;
+    }
+    Ok(())
+}
+
+/// Sends a message along a way.
+#[inline(always)]
+fn send_by<M: Carried + Drop>(
+    clients: &mut Clients,
+    graph: &PatchGraph,
+    moment: u64,
+    way: &Way,
+    message: M,
+    out: &mut Vec<Delivery>,
+) -> Result<(), OutOfMemory>
+    ensures clients { clients.new.clients ≡ clients.old.clients }
+    ensures pools { let c = clients.old in
+        let ds = copies_on c.clients graph.now moment (M.bytes message) way.now in
+        OnOk result (clients.new.pools ≡ offered c.pools ds) }
+    ensures sent { let c = clients.old in
+        let ds = copies_on c.clients graph.now moment (M.bytes message) way.now in
+        OnOk result (out.new.items ≡ out.old.items ++ delivered c.pools ds) }
+{
+    match way {
+        Way::Straight(end) => deliver(clients, moment, *end, message, out),
+        Way::Filtered(rule, end) => match message.through(Some(rule)) {
+            Some(passed) => deliver(clients, moment, *end, passed, out),
+            None => Ok(()),
+        },
+        Way::Parting(node) => send_to(clients, graph, moment, HOPS - 1, node, message, out),
+        Way::Blind => Ok(()),
+    }
+}
 
 /// Sends a message on to nodes, along at most `hops` edges: a copy to each port whose client's pool has room, and what each
 /// filter lets through on to the nodes behind it.
 #[cycle(spread)]
-pub(crate) fn spread<M: Carried + Drop>(
+fn spread<M: Carried + Drop>(
     clients: &mut Clients,
     graph: &PatchGraph,
     moment: u64,
@@ -26,7 +87,7 @@ pub(crate) fn spread<M: Carried + Drop>(
     message: M,
     out: &mut Vec<Delivery>,
 ) -> Result<(), OutOfMemory>
-    ensures clients { OnOk result (clients.new.clients ≡ clients.old.clients) }
+    ensures clients { clients.new.clients ≡ clients.old.clients }
     ensures pools { let c = clients.old in
         let ds = spread c.clients graph.now moment hops targets.now (M.bytes message) in
         OnOk result (clients.new.pools ≡ offered c.pools ds) }
@@ -57,7 +118,7 @@ fn send_to<'g, M: Carried + Drop>(
     message: M,
     out: &mut Vec<Delivery>,
 ) -> Result<(), OutOfMemory>
-    ensures clients { OnOk result (clients.new.clients ≡ clients.old.clients) }
+    ensures clients { clients.new.clients ≡ clients.old.clients }
     ensures pools { let c = clients.old in
         let ds = copies_to c.clients graph.now moment hops node.now (M.bytes message) in
         OnOk result (clients.new.pools ≡ offered c.pools ds) }
@@ -93,6 +154,8 @@ fn send_to<'g, M: Carried + Drop>(
 }
 
 /// Offers a copy to the pool of the client that it is for.
+// Inline, since a call would save and load as much as it does.
+#[inline(always)]
 fn deliver<M: Carried + Drop>(
     clients: &mut Clients,
     moment: u64,
@@ -100,7 +163,7 @@ fn deliver<M: Carried + Drop>(
     message: M,
     out: &mut Vec<Delivery>,
 ) -> Result<(), OutOfMemory>
-    ensures clients { OnOk result (clients.new.clients ≡ clients.old.clients) }
+    ensures clients { clients.new.clients ≡ clients.old.clients }
     ensures pools { let c = copy moment (at_port target) (Some (M.bytes message)) in
         OnOk result (clients.new.pools ≡ offered clients.old.pools (option_to_list c)) }
     ensures sent { let c = copy moment (at_port target) (Some (M.bytes message)) in

@@ -144,7 +144,7 @@ fn open_two(clients: &mut Clients) -> Result<(), Fail> {
 #[test]
 fn clients_are_listed_by_number(rt: HostRuntime) -> Result<(), Fail> {
     let mut patchbay = Patchbay::new(rt.alloc());
-    open_two(&mut patchbay.clients)?;
+    open_two(patchbay.clients_mut())?;
     let wanted = "client 128 synth in 2 out 3\nclient 191 drums in 2000 out 1\n";
     assert!(rt; is_listed(&patchbay, rt.alloc(), wanted)?);
     Ok(())
@@ -159,7 +159,7 @@ fn make_two_ports(clients: &mut Clients) -> Result<(), Fail> {
 #[test]
 fn ports_are_listed_by_number(rt: HostRuntime) -> Result<(), Fail> {
     let mut patchbay = Patchbay::new(rt.alloc());
-    make_two_ports(&mut patchbay.clients)?;
+    make_two_ports(patchbay.clients_mut())?;
     let wanted = "client 128 synth in 2 out 3\nport 128:p0 out 1\nport 128:p15 out 1\n";
     assert!(rt; is_listed(&patchbay, rt.alloc(), wanted)?);
     Ok(())
@@ -174,7 +174,7 @@ fn make_two_filters(clients: &mut Clients) -> Result<(), Fail> {
 #[test]
 fn filters_are_listed_with_their_rules(rt: HostRuntime) -> Result<(), Fail> {
     let mut patchbay = Patchbay::new(rt.alloc());
-    make_two_filters(&mut patchbay.clients)?;
+    make_two_filters(patchbay.clients_mut())?;
     let wanted = "client 128 synth in 2 out 3\n\
         filter 128:f0 2 65535 1023 12 127 -12\n\
         filter 128:f3 2 1 3 0 127 0 15\n";
@@ -197,7 +197,7 @@ fn make_queues(clients: &mut Clients, alloc: Global) -> Result<(), Fail> {
 #[test]
 fn queues_are_listed(rt: HostRuntime) -> Result<(), Fail> {
     let mut patchbay = Patchbay::new(rt.alloc());
-    make_queues(&mut patchbay.clients, rt.alloc())?;
+    make_queues(patchbay.clients_mut(), rt.alloc())?;
     let wanted = "client 128 synth in 2 out 3\n\
         queue 128:q0 stopped\nqueue 128:q1 running\nqueue 128:q7 stopped shared\n";
     assert!(rt; is_listed(&patchbay, rt.alloc(), wanted)?);
@@ -215,7 +215,7 @@ fn run_shared_queue(clients: &mut Clients, alloc: Global) -> Result<(), Fail> {
 #[test]
 fn a_shared_queue_may_run(rt: HostRuntime) -> Result<(), Fail> {
     let mut patchbay = Patchbay::new(rt.alloc());
-    run_shared_queue(&mut patchbay.clients, rt.alloc())?;
+    run_shared_queue(patchbay.clients_mut(), rt.alloc())?;
     let wanted = "client 128 synth in 2 out 3\nqueue 128:q6 running shared\n";
     assert!(rt; is_listed(&patchbay, rt.alloc(), wanted)?);
     Ok(())
@@ -240,8 +240,8 @@ fn connect(graph: &mut PatchGraph, one: ClientId, two: ClientId) -> Result<(), F
 
 /// Port 0 of client 128 goes to port 0 of client 129 through filter 3, and straight to its port 1.
 fn make_two_ways(patchbay: &mut Patchbay) -> Result<(), Fail> {
-    make_nodes(&mut patchbay.clients)?;
-    connect(&mut patchbay.graph, client(128)?, client(129)?)
+    make_nodes(patchbay.clients_mut())?;
+    connect(patchbay.graph_mut(), client(128)?, client(129)?)
 }
 
 #[test]
@@ -266,7 +266,7 @@ fn make_one_of_each(clients: &mut Clients, alloc: Global) -> Result<(), Fail> {
 #[test]
 fn ports_come_before_filters_and_queues(rt: HostRuntime) -> Result<(), Fail> {
     let mut patchbay = Patchbay::new(rt.alloc());
-    make_one_of_each(&mut patchbay.clients, rt.alloc())?;
+    make_one_of_each(patchbay.clients_mut(), rt.alloc())?;
     let wanted = "client 128 synth in 2 out 3\nport 128:p7 out 1\n\
         filter 128:f15 2 1 3 0 127 0 15\nqueue 128:q0 stopped\n";
     assert!(rt; is_listed(&patchbay, rt.alloc(), wanted)?);
@@ -311,6 +311,83 @@ fn notes_go_both_ways(rt: HostRuntime) -> Result<(), Fail> {
     Ok(())
 }
 
+/// Sends a note, 60, from port 0 of client 128, and tells where it came first and as which note.
+fn sound(patchbay: &mut Patchbay, alloc: Global) -> Result<Option<(u8, Option<u8>)>, Fail> {
+    let mut out = Vec::new(alloc);
+    let messages = [note(alloc, 60)?];
+    patchbay.send_all(5, client(128)?, port(0)?, &messages, &mut out)?;
+    Ok(heard(out.as_slice(), 0))
+}
+
+/// Gives a filter another rule: the notes 24 to 127, two octaves down.
+fn lower(clients: &mut Clients, one: ClientId, number: FilterNo) -> Result<(), Fail> {
+    if !clients.has_filter(one, number) {
+        return Err("a filter that is there")?;
+    }
+    let two_octaves_down = RuleArgs {
+        low: 24,
+        shift: -24,
+        ..octave_down()
+    };
+    let rule = Rule::new(two_octaves_down).ok_or("a rule")?;
+    clients.set_filter(one, number, rule);
+    Ok(())
+}
+
+#[test]
+fn another_rule_counts_at_once(rt: HostRuntime) -> Result<(), Fail> {
+    let mut patchbay = Patchbay::new(rt.alloc());
+    make_two_ways(&mut patchbay)?;
+    assert_eq!(rt; sound(&mut patchbay, rt.alloc())?, Some((0, Some(48))));
+    lower(patchbay.clients_mut(), client(128)?, filter(3)?)?;
+    assert_eq!(rt; sound(&mut patchbay, rt.alloc())?, Some((0, Some(36))));
+    Ok(())
+}
+
+/// Port 1 of client 129 listens to filter 3 too, so that the ways part there.
+fn listen_to_the_filter(patchbay: &mut Patchbay) -> Result<(), Fail> {
+    let source = filter_at(client(128)?, filter(3)?);
+    let target = port_at(client(129)?, port(1)?);
+    patchbay.graph_mut().connect(source, target)?;
+    Ok(())
+}
+
+#[test]
+fn another_subscription_counts_at_once(rt: HostRuntime) -> Result<(), Fail> {
+    let mut patchbay = Patchbay::new(rt.alloc());
+    let mut out = Vec::new(rt.alloc());
+    send(&mut patchbay, &[note(rt.alloc(), 60)?], &mut out)?;
+    assert_eq!(rt; out.len(), 2);
+    listen_to_the_filter(&mut patchbay)?;
+    let messages = [note(rt.alloc(), 60)?];
+    patchbay.send_all(5, client(128)?, port(0)?, &messages, &mut out)?;
+    assert_eq!(rt; heard(out.as_slice(), 2), Some((0, Some(48))));
+    assert_eq!(rt; heard(out.as_slice(), 3), Some((1, Some(48))));
+    assert_eq!(rt; heard(out.as_slice(), 4), Some((1, Some(60))));
+    Ok(())
+}
+
+/// Puts filter 4 of client 128, an octave down too, between filter 3 and what listens to it.
+fn add_a_filter(patchbay: &mut Patchbay) -> Result<(), Fail> {
+    let (one, two) = (client(128)?, client(129)?);
+    make_filter(patchbay.clients_mut(), one, filter(4)?, octave_down())?;
+    let (first, second) = (filter_at(one, filter(3)?), filter_at(one, filter(4)?));
+    let end = port_at(two, port(0)?);
+    patchbay.graph_mut().disconnect(&first, &end);
+    patchbay.graph_mut().connect(first, second)?;
+    patchbay.graph_mut().connect(second, end)?;
+    Ok(())
+}
+
+#[test]
+fn filters_one_after_another_are_one_rule(rt: HostRuntime) -> Result<(), Fail> {
+    let mut patchbay = Patchbay::new(rt.alloc());
+    make_two_ways(&mut patchbay)?;
+    add_a_filter(&mut patchbay)?;
+    assert_eq!(rt; sound(&mut patchbay, rt.alloc())?, Some((0, Some(36))));
+    Ok(())
+}
+
 /// The moment of an event that is due after 90 ns by a queue.
 fn moment_by(patchbay: &Patchbay, number: u8) -> Result<Option<u64>, Fail> {
     Ok(patchbay.moment_of(&queue_at(128, number)?, 0, Due::Nanos(90)))
@@ -319,7 +396,7 @@ fn moment_by(patchbay: &Patchbay, number: u8) -> Result<Option<u64>, Fail> {
 #[test]
 fn moments_are_of_queues_that_run(rt: HostRuntime) -> Result<(), Fail> {
     let mut patchbay = Patchbay::new(rt.alloc());
-    make_queues(&mut patchbay.clients, rt.alloc())?;
+    make_queues(patchbay.clients_mut(), rt.alloc())?;
     assert_eq!(rt; moment_by(&patchbay, 0)?, None);
     assert_eq!(rt; moment_by(&patchbay, 1)?, Some(100));
     assert_eq!(rt; moment_by(&patchbay, 2)?, None);

@@ -7,7 +7,9 @@ use Rattle.seq_session.specs.declared.source.ScriptSource.{ScriptSource}
 use Rattle.seq_session.specs.Rising.{RiseFrom, AreRising}
 use Rattle.seq_session.specs.declared.source.Script.{Script}
 use Rattle.seq_session.specs.Sessions.{script_clients}
-use Rattle.seq_session.specs.Devices.{clients, script_told, told, AreSound, AreOpen, is_of, IsAmong, ReadersTell, IsTold, LogsTell}
+use Rattle.seq_session.specs.Devices.{clients, script_told, told, unread, behind_script, behind_scripts, AreSound, AreOpen, is_of, is_of_writing, IsAmong, IsReading, ReadersTell, IsTold, LogsTell}
+use Rattle.seq_session.specs.declared.fault.SessionFault.{SessionFault}
+use Rattle.seq_session.specs.declared.fault.SessionFault.TheVariants.{OutOfMemory, Read, Write, WriteListing}
 
 -- a client that is among those that rise from a number is above it
 above : (low k : ℕ) (cs : List ℕ) → RiseFrom low cs → IsAmong k cs → low < k
@@ -113,3 +115,18 @@ told_more left (Ok u) before mid after s x xs sources parts m t h =
     ∙ append_assoc before (s ∷ []) (told left xs)
     ∙ ap (λ y. before ++ y ∷ told left xs) t
     ∙ ap (λ ys. before ++ told left ys) (sym parts)
+
+-- what the readers have left, with one reader more in front
+pub unread_more : {R E : Type 0} (left : R → List ℕ) (r : Result (Unit {0}) E) (x new : ScriptSource R) (xs news sources : List (ScriptSource R)) →
+    sources ≡ x ∷ xs → left new.reader ≡ behind_script (left x.reader) → OnOk r (unread left news ≡ behind_scripts (unread left xs)) →
+    OnOk r (unread left (new ∷ news) ≡ behind_scripts (unread left sources))
+unread_more left (Err e) x new xs news sources parts one rest = tt
+unread_more left (Ok u) x new xs news sources parts one rest =
+    ap (λ y. y ∷ unread left news) one ∙ ap (λ ys. behind_script (left x.reader) ∷ ys) rest ∙ ap (λ ys. behind_scripts (unread left ys)) (sym parts)
+
+-- before all is read no answer says that it is
+pub not_read : (e : SessionFault) → IsReading e → is_of_writing e ≡ false
+not_read OutOfMemory h = refl
+not_read (Read client) h = refl
+not_read (Write client) h = absurd h
+not_read WriteListing h = absurd h

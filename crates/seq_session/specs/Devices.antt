@@ -1,5 +1,5 @@
 -- What a session does to the readers of its scripts, to its logs and to its listing.
-use Rattle.std.specs.Prelude.{◌≡◌, ◌+◌, ◌==◌, ◌⊎◌, ℕ, Bool, true, false, List, [], ◌∷◌, ◌++◌, take, map, Option, Some, None, Result, Ok, Err, IsTrue}
+use Rattle.std.specs.Prelude.{◌≡◌, ◌+◌, ◌==◌, ◌⊎◌, ℕ, Bool, true, false, List, [], ◌∷◌, ◌++◌, take, drop, map, Option, Some, None, Result, Ok, Err, IsTrue}
 use Rattle.std.specs.List.{AllByRecursion, list_any}
 use Rattle.byte_io.specs.Moved.{GainsBytes}
 use Rattle.script_text.specs.declared.script.TheConstants.{MOST_SCRIPT}
@@ -25,6 +25,18 @@ script_told left s = record { client = s.client; text = take (MOST_SCRIPT + 1) (
 -- the scripts as their readers tell them
 abbrev pub told : {R : Type 0} → (R → List ℕ) → List (ScriptSource R) → List Script
 told left sources = map (script_told left) sources
+
+-- what each reader has left
+abbrev pub unread : {R : Type 0} → (R → List ℕ) → List (ScriptSource R) → List (List ℕ)
+unread left sources = map (λ s. left s.reader) sources
+
+-- what is left of these bytes behind those that are asked for
+abbrev pub behind_script : List ℕ → List ℕ
+behind_script text = drop (MOST_SCRIPT + 1) text
+
+-- so of each reader's
+abbrev pub behind_scripts : List (List ℕ) → List (List ℕ)
+behind_scripts texts = map behind_script texts
 
 -- no reader has failed
 abbrev pub AreSound : {R : Type 0} → (R → Bool) → List (ScriptSource R) → Type 0
@@ -117,6 +129,17 @@ abbrev pub IsReading : SessionFault → Type 0
 IsReading OutOfMemory = Unit {0}
 IsReading (Read client) = Unit {0}
 IsReading _ = ⊥
+
+-- a fault of the time after
+abbrev pub is_of_writing : SessionFault → Bool
+is_of_writing (Write client) = true
+is_of_writing WriteListing = true
+is_of_writing _ = false
+
+-- the answer comes after all scripts were read, and their texts made
+abbrev pub has_read : {T : Type 0} → Result T SessionFault → Bool
+has_read (Ok _) = true
+has_read (Err e) = is_of_writing e
 
 -- the client is one of these
 abbrev pub IsAmong : ℕ → List ℕ → Type 0

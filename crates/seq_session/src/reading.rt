@@ -3,7 +3,7 @@
 ghost use Rattle.std.specs.Prelude.{◌≡◌, ◌++◌, true, false, is_some, IfOk, OnOk, IfErr, IfSome};
 ghost use Rattle.seq_session.specs.Rising.{AreRising};
 ghost use Rattle.seq_session.specs.Sessions.{script_clients};
-ghost use Rattle.seq_session.specs.Devices.{clients, script_told, told, AreSound, AllTell, reader_blamed, ReadersTell, IsAmong, IsReading};
+ghost use Rattle.seq_session.specs.Devices.{clients, script_told, told, unread, behind_script, behind_scripts, AreSound, AllTell, reader_blamed, ReadersTell, IsAmong, IsReading};
 
 use crate::fault::SessionFault;
 use crate::source::{Script, ScriptSource};
@@ -17,6 +17,8 @@ fn read_one<R: Source>(alloc: Global, source: &mut ScriptSource<R>) -> Result<Sc
     requires sound { R.failed source.old.reader ≡ false }
     ensures told { R.tells source.old.reader ≡ true
         → IfOk result (λ s. s ≡ script_told R.left source.old) }
+    ensures rest { R.tells source.old.reader ≡ true → OnOk result
+        (R.left source.new.reader ≡ behind_script (R.left source.old.reader)) }
     ensures client { source.new.client ≡ source.old.client }
     ensures of_client { IfOk result (λ s. s.client ≡ source.old.client) }
     ensures mark { R.failed source.new.reader ≡ is_some (reader_blamed result) }
@@ -49,6 +51,8 @@ pub(crate) fn read_all<R: Source>(
     requires sound { AreSound R.failed sources.old }
     ensures told { AllTell R.tells sources.old
         → OnOk result (scripts.new.items ≡ scripts.old.items ++ told R.left sources.old) }
+    ensures rest { AllTell R.tells sources.old
+        → OnOk result (unread R.left sources.new ≡ behind_scripts (unread R.left sources.old)) }
     ensures of_clients { OnOk result
         (script_clients scripts.new.items
         ≡ script_clients scripts.old.items ++ clients sources.old) }

@@ -9,7 +9,8 @@ ghost use Rattle.seq_engine.specs.Ending.{listing_of};
 ghost use Rattle.seq_session.specs.Rising.{AreRising};
 ghost use Rattle.seq_session.specs.Merging.{inputs_of};
 ghost use Rattle.seq_session.specs.Sessions.{happens, all_logs, listing_after, script_clients};
-ghost use Rattle.seq_session.specs.Devices.{clients, told, AreSound, AllTell, AreOpen, TellAll, Wrote, WroteUpTo, AreAlone, reader_blamed, log_blamed, blames_listing, IsAmong, IsReading, ReadersTell, IsTold, LogsTell};
+ghost use Rattle.seq_session.specs.Devices.{clients, told, unread, behind_scripts, AreSound, AllTell, AreOpen, TellAll, Wrote, WroteUpTo, AreAlone};
+ghost use Rattle.seq_session.specs.Devices.{reader_blamed, log_blamed, blames_listing, has_read, IsAmong, IsReading, ReadersTell, IsTold, LogsTell};
 
 use crate::fault::SessionFault;
 use crate::log::log_texts;
@@ -64,6 +65,10 @@ pub fn run_sessions<'f, 'b, R: Source, W: Sink, A: Agenda + Drop>(
     ensures isolated { AllTell R.tells scripts.old → TellAll W.tells logs.old
         → OnOk result (AreAlone files.now until W.taken
         (told R.left scripts.old) (told R.left scripts.old) logs.old logs.new) }
+
+    // Once all is read, each reader has left what is behind the bytes that were asked of it.
+    ensures rest { AllTell R.tells scripts.old → has_read result ≡ true
+        → unread R.left scripts.new ≡ behind_scripts (unread R.left scripts.old) }
 
     // Before all is read, and the texts are made, nothing is written.
     ensures unwritten { IfErr result (λ e. IsReading e

@@ -1,7 +1,7 @@
 use Rattle.std.proofs.Common.{rules, ◌≡◌, false, is_some, IfSome, subst}
 use Rattle.seq_session.specs.Rising.{AreRising}
 use Rattle.seq_session.specs.Devices.{clients, AreSound, AllTell, reader_blamed}
-use Rattle.seq_session.proofs.Blamed.{first_told, rest_told, told_more}
+use Rattle.seq_session.proofs.Blamed.{first_told, rest_told, told_more, unread_more}
 use Rattle.seq_session.proofs.reading.+read_all.Goals as goal
 
 pub returns-in_err-read_one-clause-marks : goal.returns-in_err-read_one-clause-marks
@@ -33,3 +33,9 @@ returns-clause-marks g t c =
     let mark : g.R.Source.failed c.read_one.new.source.reader ≡ false = search rules in
     rest_told g.R.Source.failed c.in-Some.first.now c.read_one.new.source (reader_blamed c.read_all.result) c.in-Some.more.now _ c.read_one.ensures.client mark c.read_all.ensures.blamed
     (subst (λ xs. AreRising (clients xs)) parts c.requires.rising) c.read_all.ensures.marks
+
+pub returns-clause-rest : goal.returns-clause-rest
+returns-clause-rest g t c all =
+    let parts = c.in-Some.ensures.cases.0 in
+    let tell = subst (AllTell g.R.Source.tells) parts all in
+    unread_more g.R.Source.left c.read_all.result c.in-Some.first.now c.read_one.new.source c.in-Some.more.now _ c.args.sources.now parts (c.in_ok-read_one.ensures.rest tell.0) (c.read_all.ensures.rest tell.1)

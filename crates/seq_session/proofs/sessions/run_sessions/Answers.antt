@@ -1,7 +1,9 @@
-use Rattle.std.proofs.Common.{rules, ◌≡◌, None, sym, subst}
+use Rattle.std.proofs.Common.{rules, ◌≡◌, false, None, sym, subst, ◌∙◌}
+use Rattle.std.proofs.lemmas.Bool.{false≢true}
 use Rattle.seq_session.specs.Rising.{AreRising}
 use Rattle.seq_session.specs.Sessions.{all_logs}
-use Rattle.seq_session.specs.Devices.{told, Wrote, log_blamed}
+use Rattle.seq_session.specs.Devices.{told, Wrote, log_blamed, has_read}
+use Rattle.seq_session.proofs.Blamed.{not_read}
 use Rattle.seq_session.proofs.Alone.{none_blamed, no_log, all_alone, told-clients, on_ok}
 use Rattle.seq_session.proofs.sessions.run_sessions.Goals as goal
 
@@ -20,3 +22,8 @@ returns-clause-isolated g c all each =
     let wrote : Wrote g.W.Sink.taken c.args.logs.now c.write_logs.new.logs (all_logs c.args.files.now c.args.until (told g.R.Source.left c.args.scripts.now)) = search rules in
     on_ok c.write_listing.result
     (all_alone c.args.files.now c.args.until g.W.Sink.taken (told g.R.Source.left c.args.scripts.now) (subst AreRising (sym (told-clients g.R.Source.left c.args.scripts.now)) c.requires.rising) c.args.logs.now c.write_logs.new.logs wrote)
+
+pub returns-in_err-read_all-clause-rest : goal.returns-in_err-read_all-clause-rest
+returns-in_err-read_all-clause-rest g c all read =
+    let none : has_read c.from_residual.result ≡ false = search (not_read, rules) in
+    absurd (false≢true (sym none ∙ read))

@@ -1,3 +1,6 @@
+use Rattle.seq_state.specs.Own.{out_size}
+use Rattle.seq_clients.specs.Roster.{Roster}
+use Rattle.std.specs.FinMap.{get}
 use Rattle.std.proofs.Common.{[], ◌∷◌, ◌++◌, ap, ◌∙◌}
 use Rattle.std.specs.List.{filter}
 use Rattle.cell_pools.specs.Cells.{Store}
@@ -9,7 +12,8 @@ use Rattle.seq_commands.proofs.sequencer.Sequencer.add_events.Goals as goal
 
 pub add_playback-requires-clause-room : goal.add_playback-requires-clause-room
 add_playback-requires-clause-room g c =
-    room-left c.args.self.now _ c.args.turn.moment c.args.turn.actor c.out_size-size.result c.set_size.new.self c.requires.whole c.requires.room c.out_size-size.ensures c.set_size.ensures
+    room-left c.args.self.now _ c.args.turn.moment c.args.turn.actor c.out_size-size.result c.set_size.new.self c.requires.whole c.requires.room
+    (c.out_size-size.ensures ∙ ap (λ (r : Roster). out_size (get r.clients c.args.turn.actor)) c.clients.ensures) c.set_size.ensures
 
 pub returns : goal.returns
 returns g c =

@@ -1,3 +1,9 @@
+use Rattle.patch_graph.specs.Edges.{touches_client}
+use Rattle.seq_state.specs.State.{queues_of}
+use Rattle.seq_clients.specs.Roster.{Roster, with_client, with_pool, NoneShared}
+use Rattle.std.specs.FinMap.{get}
+use Rattle.std.specs.List.{filter}
+use Rattle.std.proofs.Common.{not, None, ap, subst, ◌∙◌}
 use Rattle.seq_commands.specs.Whole.{clients_of}
 use Rattle.seq_commands.proofs.PlaybacksGone.{close-alone, close-gives}
 use Rattle.seq_commands.proofs.sequencer.Sequencer.close.Goals as goal
@@ -5,10 +11,13 @@ use Rattle.seq_commands.proofs.sequencer.Sequencer.close.Goals as goal
 pub drop_playbacks-requires-clause-alone : goal.drop_playbacks-requires-clause-alone
 drop_playbacks-requires-clause-alone g c = λ private.
     let s = c.args.self.now in
-    close-alone (clients_of s) s.cells.cells s.steps c.args.turn.actor c.requires.whole.cells c.requires.whole.sound.usable (c.shares_queue-shares.ensures.none private)
+    close-alone (clients_of s) s.cells.cells s.steps c.args.turn.actor c.requires.whole.cells c.requires.whole.sound.usable
+    (subst (λ (r : Roster). NoneShared (queues_of (get r.clients c.args.turn.actor))) c.clients.ensures (c.shares_queue-shares.ensures.none private))
 
 pub returns : goal.returns
 returns g c =
     let d = c.drop_playbacks.ensures in
     close-gives c.args.self.now c.args.turn c.drop_playbacks.new.cells _ d.cells c.close.new.self c.remove_client.new.self c.requires.accepted d.playbacks
-    (d.keys (clients_of c.args.self.now) c.requires.whole.keys) d.left c.remove_client.ensures c.close.ensures
+    (d.keys (clients_of c.args.self.now) c.requires.whole.keys) d.left
+    (c.remove_client.ensures ∙ ap (filter (λ e. not (touches_client c.args.turn.actor e))) c.graph_mut.ensures.value)
+    (c.close.ensures ∙ ap (λ (r : Roster). with_pool (with_client r c.args.turn.actor None) c.args.turn.actor None) c.clients_mut.ensures.value)

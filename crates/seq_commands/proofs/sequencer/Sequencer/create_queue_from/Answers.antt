@@ -8,7 +8,7 @@ use Rattle.seq_state.specs.declared.input.Command.TheVariants.{CreateQueueFrom}
 use Rattle.seq_state.specs.Own.{with_change, put_queue, queue_of, held_queue, file_queue, file_at}
 use Rattle.seq_state.specs.Step.{moment_in}
 use Rattle.seq_state.proofs.Done.{creates-queue-from}
-use Rattle.seq_clients.specs.Roster.{with_client}
+use Rattle.seq_clients.specs.Roster.{with_client, Roster}
 use Rattle.seq_commands.specs.Whole.{clients_of, state_of}
 use Rattle.seq_commands.proofs.ClientsGiven.{client-kept}
 use Rattle.seq_commands.proofs.QueuesAccepted.{accepted-queue-from}
@@ -28,6 +28,8 @@ returns c =
     let is : wanted ≡ Some (held_queue c.in_ok-map.map) = file-queue (option_copied c.get.result) _ c.in-Some.file.now _ (ap option_copied c.in-Some.is) c.get.ensures c.in_ok-map.ensures in
     client-kept c.args.self.now c.args.turn (CreateQueueFrom c.args.queue c.args.file) (with_change its (put_queue c.args.queue wanted)) _ c.requires.accepted
     (creates-queue-from c.args.self.now.files (state_of c.args.self.now) c.args.turn.moment c.args.turn.actor c.args.queue c.args.file)
-    (c.create_queue.ensures ∙ ap (λ x. with_client c.args.self.now.patchbay.clients c.args.turn.actor (with_change its (put_queue c.args.queue x))) (sym is))
+    (c.create_queue.ensures
+    ∙ ap (λ (r : Roster). with_client r c.args.turn.actor (with_change (get r.clients c.args.turn.actor) (put_queue c.args.queue (Some (held_queue c.in_ok-map.map))))) c.clients_mut.ensures.value
+    ∙ ap (λ x. with_client c.args.self.now.patchbay.clients c.args.turn.actor (with_change its (put_queue c.args.queue x))) (sym is))
     (replaced-same (clients_of c.args.self.now) c.args.turn.actor c.args.queue wanted (λ accepted due.
     held-same (queue_of its c.args.queue) c.in_ok-map.map accepted due free ∙ ap (λ o. moment_in o accepted due) (sym is)))

@@ -1,0 +1,17 @@
+use Rattle.std.proofs.Common.{◌≡◌, ◌++◌, drop, List}
+use Rattle.std.specs.List.{flat_map}
+use Rattle.seq_state.specs.declared.log.Delivery.{Delivery}
+use Rattle.seq_state.specs.Step.{offered, delivered}
+use Rattle.seq_patchbay.specs.Ways.{copies_on}
+use Rattle.seq_patchbay.specs.declared.ways.Way.{Way}
+use Rattle.seq_patchbay.proofs.sending.send_along.Given as goal
+
+abbrev pub invariant-loop-way : goal.invariant-loop-way
+invariant-loop-way g l =
+    let c = l.fn.clients in
+    let one : Way → List Delivery = λ way. copies_on c.clients l.graph l.moment (g.M.Carried.bytes l.message) way in
+    record {
+      clients : l.clients.clients ≡ c.clients;
+      pools : offered l.clients.pools (flat_map one (drop l.way-index l.ways)) ≡ offered c.pools (flat_map one l.ways);
+      sent : l.out.items ++ delivered l.clients.pools (flat_map one (drop l.way-index l.ways)) ≡ l.fn.out.items ++ delivered c.pools (flat_map one l.ways);
+    }
