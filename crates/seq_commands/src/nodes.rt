@@ -75,7 +75,8 @@ impl Sequencer<'_, '_> {
         let Some(rule) = Rule::new(*rule) else {
             unreachable!()
         };
-        self.patchbay.clients_mut().set_filter(turn.actor, filter, rule);
+        let clients = self.patchbay.clients_mut();
+        clients.set_filter(turn.actor, filter, rule);
     }
 
     /// Drops a filter with its subscriptions.
@@ -84,7 +85,8 @@ impl Sequencer<'_, '_> {
         ensures { IsStepTakenUnkeyed self.old self.new
             (step_in self.old turn (Command.DeleteFilter filter)) Reply.Done [] }
     {
-        self.patchbay.clients_mut().delete_filter(turn.actor, filter);
+        let clients = self.patchbay.clients_mut();
+        clients.delete_filter(turn.actor, filter);
         self.patchbay.graph_mut().remove_node(&Addr {
             client: turn.actor,
             node: Node::Filter(filter),

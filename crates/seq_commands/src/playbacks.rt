@@ -64,7 +64,8 @@ impl<'f, 'b> Sequencer<'f, 'b> {
         let on_queue = Which::OnQueue(queue.queue);
         let cells = &mut self.cells;
         drop_playbacks(cells, agenda, self.steps, turn.actor, &on_queue, shared);
-        self.patchbay.clients_mut().delete_queue(turn.actor, queue.queue);
+        let clients = self.patchbay.clients_mut();
+        clients.delete_queue(turn.actor, queue.queue);
     }
 
     /// Closes the actor: all that it has goes, with what others have still to send by its queues. It takes no memory.

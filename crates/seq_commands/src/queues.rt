@@ -46,7 +46,8 @@ impl Sequencer<'_, '_> {
             (step_in self.old turn (Command.CreateQueue queue ppq tempo)) Reply.Done []) }
     {
         let map = one_tempo(self.alloc, ppq, tempo)?;
-        self.patchbay.clients_mut().create_queue(turn.actor, queue, map);
+        let clients = self.patchbay.clients_mut();
+        clients.create_queue(turn.actor, queue, map);
         Ok(())
     }
 
@@ -65,7 +66,8 @@ impl Sequencer<'_, '_> {
             unreachable!()
         };
         let map = file.tempo_map()?;
-        self.patchbay.clients_mut().create_queue(turn.actor, queue, map);
+        let clients = self.patchbay.clients_mut();
+        clients.create_queue(turn.actor, queue, map);
         Ok(())
     }
 

@@ -24,6 +24,6 @@ returns c =
     client-kept c.args.self.now c.args.turn (CreateQueue c.args.queue c.args.ppq c.args.tempo) (with_change its (put_queue c.args.queue (Some (held_queue map)))) _ c.requires.accepted
     (creates-queue c.args.self.now.files (state_of c.args.self.now) c.args.turn.moment c.args.turn.actor c.args.queue c.args.ppq c.args.tempo)
     (c.create_queue.ensures
-    ∙ ap (λ (r : Roster). with_client r c.args.turn.actor (with_change (get r.clients c.args.turn.actor) (put_queue c.args.queue (Some (held_queue c.in_ok-map.map))))) c.clients_mut.ensures.value
+    ∙ ap (λ (r : Roster). with_client r c.args.turn.actor (with_change (get r.clients c.args.turn.actor) (put_queue c.args.queue (Some (held_queue c.in_ok-map.map))))) c.clients_mut-clients.ensures.value
     ∙ ap (λ m. with_client c.args.self.now.patchbay.clients c.args.turn.actor (with_change its (put_queue c.args.queue (Some (held_queue m))))) c.in_ok-map.ensures)
     (replaced-same (clients_of c.args.self.now) c.args.turn.actor c.args.queue (Some (held_queue map)) (λ accepted due. held-same (queue_of its c.args.queue) map accepted due free))

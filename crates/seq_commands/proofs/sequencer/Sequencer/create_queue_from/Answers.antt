@@ -29,7 +29,7 @@ returns c =
     client-kept c.args.self.now c.args.turn (CreateQueueFrom c.args.queue c.args.file) (with_change its (put_queue c.args.queue wanted)) _ c.requires.accepted
     (creates-queue-from c.args.self.now.files (state_of c.args.self.now) c.args.turn.moment c.args.turn.actor c.args.queue c.args.file)
     (c.create_queue.ensures
-    ∙ ap (λ (r : Roster). with_client r c.args.turn.actor (with_change (get r.clients c.args.turn.actor) (put_queue c.args.queue (Some (held_queue c.in_ok-map.map))))) c.clients_mut.ensures.value
+    ∙ ap (λ (r : Roster). with_client r c.args.turn.actor (with_change (get r.clients c.args.turn.actor) (put_queue c.args.queue (Some (held_queue c.in_ok-map.map))))) c.clients_mut-clients.ensures.value
     ∙ ap (λ x. with_client c.args.self.now.patchbay.clients c.args.turn.actor (with_change its (put_queue c.args.queue x))) (sym is))
     (replaced-same (clients_of c.args.self.now) c.args.turn.actor c.args.queue wanted (λ accepted due.
     held-same (queue_of its c.args.queue) c.in_ok-map.map accepted due free ∙ ap (λ o. moment_in o accepted due) (sym is)))

@@ -17,4 +17,4 @@ returns g c =
     let d = c.drop_playbacks.ensures in
     queue-gives c.args.self.now c.args.turn c.drop_playbacks.new.cells _ d.cells c.args.queue.now c.delete_queue.new.self c.requires.accepted d.playbacks
     (d.keys (clients_of c.args.self.now) c.requires.whole.keys) d.left
-    (c.delete_queue.ensures ∙ ap (λ (r : Roster). with_client r c.args.turn.actor (with_change (get r.clients c.args.turn.actor) (put_queue c.args.queue.now.queue None))) c.clients_mut.ensures.value)
+    (c.delete_queue.ensures ∙ ap (λ (r : Roster). with_client r c.args.turn.actor (with_change (get r.clients c.args.turn.actor) (put_queue c.args.queue.now.queue None))) c.clients_mut-clients.ensures.value)

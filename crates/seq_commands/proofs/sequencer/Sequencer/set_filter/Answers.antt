@@ -15,7 +15,7 @@ unreachable-requires c =
     (sym c.new.ensures ∙ c.in_default.is)
 
 pub set_filter-requires : goal.set_filter-requires
-set_filter-requires c = subst (λ (r : Roster). has_filter (get r.clients c.args.turn.actor) c.args.filter ≡ true) (sym c.clients_mut.ensures.value) ((accepted-rule c.args.self.now.files (state_of c.args.self.now) c.args.turn.moment c.args.turn.actor c.args.filter c.args.rule.now c.requires.accepted).1)
+set_filter-requires c = subst (λ (r : Roster). has_filter (get r.clients c.args.turn.actor) c.args.filter ≡ true) (sym c.clients_mut-clients.ensures.value) ((accepted-rule c.args.self.now.files (state_of c.args.self.now) c.args.turn.moment c.args.turn.actor c.args.filter c.args.rule.now c.requires.accepted).1)
 
 pub returns : goal.returns
 returns c =
@@ -25,6 +25,6 @@ returns c =
     nodes-kept c.args.self.now c.args.turn (SetFilter c.args.filter c.args.rule.now) (with_change its (put_filter c.args.filter (filter_ruled c.args.rule.now was))) _ c.requires.accepted
     (sets-filter c.args.self.now.files (state_of c.args.self.now) c.args.turn.moment c.args.turn.actor c.args.filter c.args.rule.now)
     (c.set_filter.ensures
-    ∙ ap (λ (r : Roster). with_client r c.args.turn.actor (with_change (get r.clients c.args.turn.actor) (put_filter c.args.filter (filter_ruled c.in-Some.rule (filter_of (get r.clients c.args.turn.actor) c.args.filter))))) c.clients_mut.ensures.value
+    ∙ ap (λ (r : Roster). with_client r c.args.turn.actor (with_change (get r.clients c.args.turn.actor) (put_filter c.args.filter (filter_ruled c.in-Some.rule (filter_of (get r.clients c.args.turn.actor) c.args.filter))))) c.clients_mut-clients.ensures.value
     ∙ ap (λ x. with_client c.args.self.now.patchbay.clients c.args.turn.actor (with_change its (put_filter c.args.filter (filter_ruled x was)))) same)
     (queues-filter c.args.filter (filter_ruled c.args.rule.now was) its)
