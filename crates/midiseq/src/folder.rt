@@ -1,5 +1,8 @@
 //! The files of a folder, for a run to play.
 
+ghost use Rattle.std.specs.Prelude.{◌≡◌, ◌≤◌, [], length, OnOk};
+ghost use Rattle.script_text.specs.declared.script.TheConstants.{MOST_FILES};
+
 use byte_io::{Source, StdSource, read_to};
 use session_tools::{midi_files, taken_files};
 use smf_files::{SmfFault, SmfFile};
@@ -19,6 +22,7 @@ pub(crate) struct Folder {
     names: Vec<String>,
     /// What each of the files that a run takes holds; none for one that cannot be read.
     bytes: Vec<Option<Vec<u8>>>,
+    ghost few: { length bytes.items ≤ MOST_FILES },
 }
 
 impl Folder {
@@ -46,9 +50,18 @@ impl Folder {
         rt: &(impl Eprint + AllocGlobal),
         names: &mut Vec<Vec<u8>>,
         files: &mut Vec<SmfFile<'f>>,
-    ) -> Result<(), ProgramFault<'static>> {
+    ) -> Result<(), ProgramFault<'static>>
+        requires names { names.old.items ≡ [] }
+        requires files { files.old.items ≡ [] }
+        ensures as_many { OnOk result (length names.new.items ≡ length files.new.items) }
+        ensures few { OnOk result (length names.new.items ≤ MOST_FILES) }
+    {
         let alloc = rt.alloc();
-        for (name, bytes) in self.names.iter().zip(self.bytes.iter()) {
+        let mut left = self.names.iter();
+        for bytes in &self.bytes {
+            let Some(name) = left.next() else {
+                break;
+            };
             match file_of(alloc, bytes)? {
                 Some(file) => {
                     names.push(Vec::from_slice(alloc, name.as_bytes())?)?;

@@ -1,5 +1,11 @@
 //! The subcommands that run scripts.
 
+ghost use Rattle.std.specs.Prelude.{◌≡◌, ◌≤◌, false, length, IfOk, IfSome, OnOk};
+ghost use Rattle.script_text.specs.declared.script.TheConstants.{MOST_FILES};
+ghost use Rattle.seq_session.specs.Rising.{AreRising};
+ghost use Rattle.seq_session.specs.Devices.{clients, AreSound, AreOpen, reader_of, IsAmong};
+ghost use Rattle.midiseq.specs.Sessions.{owners, IsToldAs};
+
 use crate::folder::Folder;
 use agenda_heap::HeapAgenda;
 use byte_io::{MemSink, Sink, Source, StdSink, StdSource, write_all};
@@ -7,10 +13,7 @@ use clap::ArgMatches;
 use node_table::PortAddr;
 use port_record::{WriteFault, record_file};
 use seq_engine::RunLog;
-use seq_session::{
-    NamedFiles, ScriptSource, SessionFault, clients_rise, logs_are_open, readers_are_sound,
-    run_scripts, run_sessions,
-};
+use seq_session::{NamedFiles, ScriptSource, SessionFault, run_scripts, run_sessions};
 use session_tools::{ScriptWord, port_named, print_logs, scripts_named, until_named};
 use smf_files::SmfFile;
 use std::alloc::Global;
@@ -27,7 +30,9 @@ struct Session<'a> {
 }
 
 impl<'a> Session<'a> {
-    fn of_words(alloc: Global, found: &ArgMatches<'a>) -> Result<Session<'a>, ProgramFault<'a>> {
+    fn of_words(alloc: Global, found: &ArgMatches<'a>) -> Result<Session<'a>, ProgramFault<'a>>
+        ensures rising { IfOk result (λ s. AreRising (owners s.scripts.items)) }
+    {
         let word = found.get_str("until").unwrap_or("");
         let Some(until) = until_named(word) else {
             return Err(ProgramFault::NotAMoment(word));
@@ -48,7 +53,10 @@ impl<'a> Session<'a> {
         &self,
         rt: &R,
         alloc: Global,
-    ) -> Result<Vec<ScriptSource<StdSource<R::File>>>, ProgramFault<'a>> {
+    ) -> Result<Vec<ScriptSource<StdSource<R::File>>>, ProgramFault<'a>>
+        ensures clients { IfOk result (λ v. clients v.items ≡ owners self.now.scripts.items) }
+        ensures readers { IfOk result (λ v. AreSound (λ s. s.broken) v.items) }
+    {
         let mut sources = Vec::new(alloc);
         for script in &self.scripts {
             let Ok(file) = fs::open(rt, script.path) else {
@@ -63,7 +71,10 @@ impl<'a> Session<'a> {
     }
 
     /// A log in memory for each script.
-    fn logs(&self, alloc: Global) -> Result<Vec<MemSink>, ProgramFault<'a>> {
+    fn logs(&self, alloc: Global) -> Result<Vec<MemSink>, ProgramFault<'a>>
+        ensures as_many { IfOk result (λ v. length v.items ≡ length self.now.scripts.items) }
+        ensures open { IfOk result (λ v. AreOpen (λ l. l.broken) v.items) }
+    {
         let mut logs = Vec::new(alloc);
         for _script in &self.scripts {
             logs.push(MemSink::new(alloc, 0)?)?;
@@ -72,24 +83,31 @@ impl<'a> Session<'a> {
     }
 
     /// A log is kept in memory, so that its fault is want of memory.
-    fn fault_of(&self, fault: SessionFault) -> ProgramFault<'a> {
-        if let SessionFault::Read { client } = fault {
-            for script in &self.scripts {
-                if script.client == client {
-                    return ProgramFault::CannotRead(script.path);
-                }
+    fn fault_of(&self, fault: SessionFault) -> ProgramFault<'a>
+        requires { IfSome (reader_of fault) (λ k. IsAmong k (owners self.now.scripts.items)) }
+        ensures { IsToldAs self.now.scripts.items fault result }
+    {
+        let SessionFault::Read { client } = fault else {
+            return ProgramFault::OutOfMemory;
+        };
+        for script in &self.scripts {
+            if script.client == client {
+                return ProgramFault::CannotRead(script.path);
             }
         }
-        ProgramFault::OutOfMemory
+        unreachable!()
     }
 }
 
-/// The names and their files. There are as many of the one as of the other, so it never fails.
-fn named<'f, 'b>(
-    names: &'f [Vec<u8>],
-    files: &'f [SmfFile<'b>],
-) -> Result<NamedFiles<'f, 'b>, ProgramFault<'static>> {
-    NamedFiles::new(names, files).ok_or(ProgramFault::OutOfMemory)
+/// The names and their files.
+fn named<'f, 'b>(names: &'f [Vec<u8>], files: &'f [SmfFile<'b>]) -> NamedFiles<'f, 'b>
+    requires as_many { length names.now ≡ length files.now }
+    requires few { length names.now ≤ MOST_FILES }
+{
+    match NamedFiles::new(names, files) {
+        Some(files) => files,
+        None => unreachable!(),
+    }
 }
 
 /// Runs the scripts, and prints each client's log and, where asked for, who is there at the end.
@@ -105,7 +123,7 @@ pub(crate) fn run<'a>(
     folder.open(rt, &mut names, &mut files)?;
     let mut logs = session.logs(alloc)?;
     let mut listing = MemSink::new(alloc, 0)?;
-    let files = named(names.as_slice(), files.as_slice())?;
+    let files = named(names.as_slice(), files.as_slice());
     play(rt, &session, &files, logs.as_mut_slice(), &mut listing)?;
     let listed = if found.get_flag("list") {
         Some(listing.bytes())
@@ -122,18 +140,15 @@ fn play<'a>(
     files: &NamedFiles<'_, '_>,
     logs: &mut [MemSink],
     listing: &mut MemSink,
-) -> Result<(), ProgramFault<'a>> {
+) -> Result<(), ProgramFault<'a>>
+    requires rising { AreRising (owners session.now.scripts.items) }
+    requires as_many { length logs.old ≡ length session.now.scripts.items }
+    requires open { AreOpen (λ l. l.broken) logs.old }
+    requires listing { listing.old.broken ≡ false }
+    ensures { OnOk result (length logs.new ≡ length logs.old) }
+{
     let alloc = rt.alloc();
     let mut sources = session.open(rt, alloc)?;
-    // Each client has one script, and no device was used yet: so these always hold.
-    if !clients_rise(sources.as_slice())
-        || !readers_are_sound(sources.as_slice())
-        || logs.len() != sources.len()
-        || !logs_are_open(logs)
-        || listing.has_failed()
-    {
-        return Err(ProgramFault::OutOfMemory);
-    }
     let agenda = HeapAgenda::new(alloc);
     let until = session.until;
     match run_sessions(
@@ -156,12 +171,10 @@ fn print(
     scripts: &[ScriptWord<'_>],
     logs: &[MemSink],
     listing: Option<&[u8]>,
-) -> Result<(), ProgramFault<'static>> {
+) -> Result<(), ProgramFault<'static>>
+    requires { length scripts.now ≡ length logs.now }
+{
     let mut out = StdSink::new(io::writer(rt));
-    // There is a log for each script.
-    if scripts.len() != logs.len() {
-        return Err(ProgramFault::OutOfMemory);
-    }
     match print_logs(rt.alloc(), scripts, logs, listing, &mut out) {
         Ok(()) => Ok(()),
         Err(ToolFault::OutOfMemory) => Err(ProgramFault::OutOfMemory),
@@ -184,7 +197,7 @@ pub(crate) fn record<'a>(
     let mut names = Vec::new(alloc);
     let mut files = Vec::new(alloc);
     folder.open(rt, &mut names, &mut files)?;
-    let files = named(names.as_slice(), files.as_slice())?;
+    let files = named(names.as_slice(), files.as_slice());
     let log = play_unlogged(rt, &session, &files)?;
     let bytes = recorded(alloc, &log, port, found.get_flag("raw"))?;
     write_file(rt, found.get_str("out").unwrap_or(""), bytes.as_slice())
@@ -195,13 +208,11 @@ fn play_unlogged<'a>(
     rt: &(impl Files + AllocGlobal),
     session: &Session<'a>,
     files: &NamedFiles<'_, '_>,
-) -> Result<RunLog, ProgramFault<'a>> {
+) -> Result<RunLog, ProgramFault<'a>>
+    requires rising { AreRising (owners session.now.scripts.items) }
+{
     let alloc = rt.alloc();
     let mut sources = session.open(rt, alloc)?;
-    // Each client has one script, and no reader was used yet: so these always hold.
-    if !clients_rise(sources.as_slice()) || !readers_are_sound(sources.as_slice()) {
-        return Err(ProgramFault::OutOfMemory);
-    }
     let agenda = HeapAgenda::new(alloc);
     match run_scripts(alloc, sources.as_mut_slice(), files, agenda, session.until) {
         Ok(log) => Ok(log),
