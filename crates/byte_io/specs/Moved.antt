@@ -18,6 +18,6 @@ pub record GainsBytes (old new bytes : List ℕ) : Type 0 where
   pub short : 0 < length missing
 
 -- only a fault of the device itself leaves its mark
-abbrev pub marks : WriteFault → Bool
-marks (Device fault) = true
-marks TookNothing = false
+abbrev pub is_device_fault : WriteFault → Bool
+is_device_fault (Device fault) = true
+is_device_fault TookNothing = false

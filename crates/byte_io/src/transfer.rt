@@ -1,7 +1,7 @@
 //! Moving many bytes from a source or to a sink.
 
 ghost use Rattle.std.specs.Prelude.{◌≡◌, ◌≤◌, ◌++◌, [], length, take, drop, true, false, IfOk, IfErr, OnOk, OnErr, IsOk, IsErrOf};
-ghost use Rattle.byte_io.specs.Moved.{GivesBytes, GainsBytes, marks};
+ghost use Rattle.byte_io.specs.Moved.{GivesBytes, GainsBytes, is_device_fault};
 
 use crate::fault::{DeviceFault, WriteFault};
 use crate::sink::Sink;
@@ -52,7 +52,7 @@ pub fn write_all<W: Sink>(out: &mut W, bytes: &[u8]) -> Result<(), WriteFault>
     ensures telling { W.tells out.new ≡ W.tells out.old }
     ensures unmarked { OnOk result (W.failed out.new ≡ false) }
     ensures eager { W.takes_some out.new ≡ W.takes_some out.old }
-    ensures fault { IfErr result (λ e. W.failed out.new ≡ marks e) }
+    ensures fault { IfErr result (λ e. W.failed out.new ≡ is_device_fault e) }
     ensures took_nothing { IsErrOf result WriteFault.TookNothing → W.takes_some out.old ≡ false }
     ensures nothing { bytes.now ≡ [] → IsOk result × (out.new ≡ out.old) }
 {

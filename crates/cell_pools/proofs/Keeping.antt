@@ -12,7 +12,7 @@ use Rattle.std.specs.FinMap.{get, same_map, nat_cmp-IsAntisymmetric}
 use Rattle.node_table.proofs.Numbered.{get-from_zero, get-above, get-insert_same, get-insert_other, get-remove_same, get-remove_other}
 use Rattle.cell_pools.specs.declared.store.Cell.{Cell}
 use Rattle.cell_pools.specs.Cells.{Held, Clients, Cells, held, keys_in, with_its_keys, AreKeys, is_of, cells_of, Store, with_cell, with_value, put_value, keys_of, used_by}
-use Rattle.cell_pools.specs.Kept.{shown, cells_kept, IsKept}
+use Rattle.cell_pools.specs.Kept.{shown, cells_kept, AreCellsKept}
 use Rattle.node_table.proofs.Places.{not_both, some_is}
 use Rattle.cell_pools.proofs.Maps.{held-insert_same, held-insert_other, no_entries, len-keys, get-cells_of}
 
@@ -64,7 +64,7 @@ module _ {T : Type 0} where
 
   -- ---- the keys of a client
 
-  module _ (clients : Clients) (slots : List (Option (Cell T))) (kept : IsKept clients slots) where
+  module _ (clients : Clients) (slots : List (Option (Cell T))) (kept : AreCellsKept clients slots) where
     -- a key stands once in one list
     pub one_spot : (q i p j key : ℕ) → slice_get (keys_in clients q) i ≡ Some key → slice_get (keys_in clients p) j ≡ Some key → (q ≡ p) × (i ≡ j)
     one_spot q i p j key a b =
@@ -116,7 +116,7 @@ module _ {T : Type 0} where
       used_is client = sym (len-keys (keys_of s client) (cells_of s.cells client) (keys_listed client))
 
     -- the same lists keep the same cells
-    pub lists-kept : (clients' : Clients) → ((q : ℕ) → (held clients' q).keys ≡ keys_in clients q) → IsKept clients' slots
+    pub lists-kept : (clients' : Clients) → ((q : ℕ) → (held clients' q).keys ≡ keys_in clients q) → AreCellsKept clients' slots
     lists-kept clients' same =
         record {
           listed = λ client i key e. kept.listed client i key (ap (λ ks. slice_get ks i) (sym (same client)) ∙ e);
@@ -127,7 +127,7 @@ module _ {T : Type 0} where
     -- ---- another value
 
     module _ (slots' : List (Option (Cell T))) (key : ℕ) (c : Cell T) (w : T) (was : get_or slots key None ≡ Some c) (changed : get_or slots' key None ≡ Some (record c { value = w })) (others : (k : ℕ) → k ≢ key → get_or slots' k None ≡ get_or slots k None) where
-      pub written-kept : IsKept clients slots'
+      pub written-kept : AreCellsKept clients slots'
       written-kept =
           record {
             listed = λ client i k e. let cell = kept.listed client i k e in elim (cases_eq k key) [
@@ -200,7 +200,7 @@ module _ {T : Type 0} where
         | inr ne ↦ kept.known k c (sym (others k ne) ∙ e)
       ]
 
-      pub put-kept : IsKept (with_its_keys clients client (keys_in clients client ++ key ∷ [])) slots'
+      pub put-kept : AreCellsKept (with_its_keys clients client (keys_in clients client ++ key ∷ [])) slots'
       put-kept = record { listed = put_listed; placed = put_placed; known = put_known }
 
       pub put-seen : (s : Store T) → ◌≡◌ {A = Store T} (record { cells = cells_kept slots; clients = clients }) s →
@@ -218,13 +218,13 @@ module _ {T : Type 0} where
     | inr within ↦ within.1
   ]
 
-  module _ (clients : Clients) (slots : List (Option (Cell T))) (kept : IsKept clients slots) (s : Store T) (view : ◌≡◌ {A = Store T} (record { cells = cells_kept slots; clients = clients }) s) where
+  module _ (clients : Clients) (slots : List (Option (Cell T))) (kept : AreCellsKept clients slots) (s : Store T) (view : ◌≡◌ {A = Store T} (record { cells = cells_kept slots; clients = clients }) s) where
     -- a write of one value
     module _ (at key : ℕ) (c : Cell T) (same : at ≡ key) (was : get_or slots at None ≡ Some c) (w : T) where
       inside : at < length slots
       inside = within_slots slots at c was
 
-      pub set-kept : IsKept clients (set slots at (Some (record c { value = w })))
+      pub set-kept : AreCellsKept clients (set slots at (Some (record c { value = w })))
       set-kept =
           written-kept clients slots kept (set slots at (Some (record c { value = w }))) at c w was (get_or-set_same slots at (Some (record c { value = w })) None inside)
           (λ k ne. get_or-set_other slots at k (Some (record c { value = w })) None ne)
@@ -249,8 +249,8 @@ module _ {T : Type 0} where
       pub stored-vacant : get s.cells key ≡ None
       stored-vacant = found clients slots kept s view key key None refl was_vacant
 
-      pub stored-kept : IsKept clients' slots'
-      stored-kept = subst (λ m. IsKept m slots') (sym listed) (put-kept clients slots kept slots' client key x was_vacant now_there now_others low high)
+      pub stored-kept : AreCellsKept clients' slots'
+      stored-kept = subst (λ m. AreCellsKept m slots') (sym listed) (put-kept clients slots kept slots' client key x was_vacant now_there now_others low high)
 
       pub stored-seen : ◌≡◌ {A = Store T} (record { cells = cells_kept slots'; clients = clients' }) (with_cell s client key x)
       stored-seen = ap (λ m. record { cells = cells_kept slots'; clients = m }) listed ∙ put-seen clients slots kept slots' client key x was_vacant now_there now_others low high s view

@@ -12,7 +12,7 @@ use Rattle.std.specs.FinMap.{get}
 use Rattle.node_table.proofs.Numbered.{remove_absent}
 use Rattle.cell_pools.specs.declared.store.Cell.{Cell}
 use Rattle.cell_pools.specs.Cells.{Held, Clients, held, keys_in, with_its_keys, is_of, Store, IsTaken}
-use Rattle.cell_pools.specs.Kept.{shown, cells_kept, IsKept}
+use Rattle.cell_pools.specs.Kept.{shown, cells_kept, AreCellsKept}
 use Rattle.node_table.proofs.Places.{some_is}
 use Rattle.cell_pools.proofs.Maps.{held-insert_same, held-insert_other, held-insert_part}
 use Rattle.cell_pools.proofs.Swapped.{swapped-past, swapped-here, swapped-other, take-swapped}
@@ -24,7 +24,7 @@ pub record IsRemoved {T : Type 0} (slots slots' : List (Option (Cell T))) (keys 
   pub moved : (m : ℕ) (d : Cell T) → index + 1 < length keys → slice_get keys (length keys - 1) ≡ Some m → get_or slots m None ≡ Some d → get_or slots' m None ≡ Some (record d { index = index })
   pub others : (k : ℕ) → k ≢ key → (index + 1 < length keys → slice_get keys (length keys - 1) ≢ Some k) → get_or slots' k None ≡ get_or slots k None
 
-module _ {T : Type 0} (clients : Clients) (slots : List (Option (Cell T))) (kept : IsKept clients slots) (key : ℕ) (c : Cell T) (was : get_or slots key None ≡ Some c) where
+module _ {T : Type 0} (clients : Clients) (slots : List (Option (Cell T))) (kept : AreCellsKept clients slots) (key : ℕ) (c : Cell T) (was : get_or slots key None ≡ Some c) where
   abbrev list : List ℕ
   list = keys_in clients c.client
 
@@ -191,8 +191,8 @@ module _ {T : Type 0} (clients : Clients) (slots : List (Option (Cell T))) (kept
       | inr other ↦ kept.known k d (sym (removed.others k (some_key k d e) other) ∙ e)
     ]
 
-    pub take-kept : (clients' : Clients) → clients' ≡ with_its_keys clients c.client (swap_remove (keys_in clients c.client) c.index 0) → IsKept clients' slots'
-    take-kept clients' is = subst (λ m. IsKept m slots') (sym is) (record { listed = take_listed; placed = take_placed; known = take_known })
+    pub take-kept : (clients' : Clients) → clients' ≡ with_its_keys clients c.client (swap_remove (keys_in clients c.client) c.index 0) → AreCellsKept clients' slots'
+    take-kept clients' is = subst (λ m. AreCellsKept m slots') (sym is) (record { listed = take_listed; placed = take_placed; known = take_known })
 
     -- what is seen then
     pub take-seen : (clients' : Clients) → clients' ≡ with_its_keys clients c.client (swap_remove (keys_in clients c.client) c.index 0) →

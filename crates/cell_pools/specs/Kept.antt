@@ -27,7 +27,7 @@ module _ {T : Type 0} where
       (x : T) × (slot slots key ≡ Some (record { client = client; index = i; value = x }))
 
   -- A key stands in the list of a client exactly where its cell says so.
-  pub record IsKept (clients : Clients) (slots : List (Option (Cell T))) : Type 0 where
+  pub record AreCellsKept (clients : Clients) (slots : List (Option (Cell T))) : Type 0 where
     pub listed : (client i key : ℕ) → StandsAt (keys_in clients client) i key →
         HasCell slots key client i
     pub placed : (key : ℕ) (c : Cell T) → slot slots key ≡ Some c →

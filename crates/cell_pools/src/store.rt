@@ -63,11 +63,11 @@ impl<T> Model for CellStore<T> {
 
     ghost coded = { coded_store T.code };
 
-    ghost use Rattle.cell_pools.specs.Kept.{cells_kept, IsKept};
+    ghost use Rattle.cell_pools.specs.Kept.{cells_kept, AreCellsKept};
 
     ghost view = { λ s. record { cells = cells_kept s.cells.slots; clients = s.clients } };
 
-    ghost invariant = { λ s. IsKept s.clients s.cells.slots };
+    ghost invariant = { λ s. AreCellsKept s.clients s.cells.slots };
 }
 
 impl<T> CellStore<T> {

@@ -7,7 +7,8 @@ use std::marker::Model;
 
 /// A vector that contracts see as the list of its elements.
 ///
-/// In a contract a `Vec` also has a capacity and an address; two values of this type are equal where their elements are.
+/// In a contract a `Vec` also has a capacity and an address; two values of this type are equal where their elements
+/// are.
 #[derive(Debug, Drop)]
 pub struct Items<T>(Vec<T>);
 

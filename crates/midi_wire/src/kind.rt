@@ -7,7 +7,8 @@ use crate::status::{EXCLUSIVE, FIRST_STATUS};
 
 /// The kind of a message, by its status (MIDI 1.0 Detailed Specification, "Messages").
 ///
-/// `NoteOff` to `PitchBend` are the channel voice messages, 8n to En; control changes 120 to 127 are the channel mode messages.
+/// `NoteOff` to `PitchBend` are the channel voice messages, 8n to En; control changes 120 to 127 are the channel mode
+/// messages.
 #[derive(Clone, Copy, Debug, PartialEq, Eq)]
 pub enum Kind {
     NoteOff,

@@ -29,7 +29,8 @@ enum Form {
 
 /// One message, seen as its full bytes: its status, its data, and F7 at the end of an exclusive message.
 ///
-/// Each value is a whole message of the MIDI 1.0 Detailed Specification ("Messages"), with no more than 65,536 data bytes.
+/// Each value is a whole message of the MIDI 1.0 Detailed Specification ("Messages"), with no more than 65,536 data
+/// bytes.
 #[derive(Debug, Drop)]
 pub struct Message {
     form: Form,

@@ -181,11 +181,13 @@ impl Pending {
     }
 }
 
-/// Reads a stream of bytes in any pieces, seen as what of the stream so far still matters, and whether memory was refused.
+/// Reads a stream of bytes in any pieces, seen as what of the stream so far still matters, and whether memory was
+/// refused.
 ///
 /// It keeps running status ("Running Status"), gives real time messages where they stand, also inside other messages
 /// ("System Real Time Messages"), and ends an exclusive message at any other status ("System Exclusive Messages"). It
-/// holds the data of one exclusive message at most: data past 65,536 bytes takes no memory, and that message is not given.
+/// holds the data of one exclusive message at most: data past 65,536 bytes takes no memory, and that message is not
+/// given.
 #[derive(Drop)]
 pub struct StreamParser {
     pending: Pending,

@@ -11,8 +11,8 @@ use std::marker::Model;
 
 /// Writes messages as one stream, seen as the channel status that is in force, or none.
 ///
-/// Each channel message leaves out its status where it repeats the last one ("Running Status"). Real time messages leave
-/// the status in force, system common and exclusive messages end it.
+/// Each channel message leaves out its status where it repeats the last one ("Running Status"). Real time messages
+/// leave the status in force, system common and exclusive messages end it.
 #[derive(Drop)]
 pub struct StreamWriter {
     status: Option<u8>,

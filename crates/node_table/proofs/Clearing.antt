@@ -2,7 +2,7 @@
 use Rattle.std.proofs.Common.{◌≡◌, ◌≢◌, ◌<◌, ◌≤◌, ◌+◌, ◌∙◌, ℕ, List, length, get_or, set, Option, Some, None, refl, ap, inl, inr, arith}
 use Rattle.std.proofs.lemmas.Bool.{cases_eq}
 use Rattle.std.proofs.lemmas.List.{get_or-set_same, get_or-set_other}
-use Rattle.node_table.specs.Kept.{at_place, IsKept}
+use Rattle.node_table.specs.Kept.{at_place, AreNodesKept}
 use Rattle.node_table.proofs.Places.{key_within, drop-elsewhere, drop-kept}
 
 pub none_if_not : {A : Type 0} (o : Option A) → ((x : A) → o ≡ Some x → ⊥) → o ≡ None
@@ -13,12 +13,12 @@ module _ {V X : Type 0} (names : List (Option V)) (keys : List (Option ℕ)) (sl
   -- from `first` up to `place` there are no keys any more, and all else is as it was
   pub record IsCleared (place : ℕ) (names' : List (Option V)) (keys' : List (Option ℕ)) (slots' : List (Option X)) : Type 0 where
     pub same : names' ≡ names
-    pub kept : IsKept names' keys' slots'
+    pub kept : AreNodesKept names' keys' slots'
     pub low : (i : ℕ) → i < first → at_place keys' slots' i ≡ at_place keys slots i
     pub high : (i : ℕ) → place ≤ i → at_place keys' slots' i ≡ at_place keys slots i
     pub gone : (i : ℕ) → first ≤ i → i < place → get_or keys' i None ≡ None
 
-  pub cleared-start : IsKept names keys slots → IsCleared first names keys slots
+  pub cleared-start : AreNodesKept names keys slots → IsCleared first names keys slots
   cleared-start kept = record { same = refl; kept = kept; low = λ i l. refl; high = λ i l. refl; gone = λ i l h. absurd (omega arith) }
 
   -- there was nothing at the place

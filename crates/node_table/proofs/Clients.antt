@@ -9,7 +9,7 @@ use Rattle.std.proofs.lemmas.Bool.{cases_eq}
 use Rattle.std.proofs.lemmas.Bool.Decides.{leb_tells}
 use Rattle.node_table.specs.declared.number.Node.{Node}
 use Rattle.node_table.specs.declared.number.Node.TheVariants.{Port, Filter}
-use Rattle.node_table.specs.Nodes.{NodeSeen, ClientNodes, new_client, node_in, put_node, drop_node, put_client, name_of}
+use Rattle.node_table.specs.Nodes.{NodeSeen, ClientNodes, empty_client, node_in, put_node, drop_node, put_client, name_of}
 use Rattle.node_table.specs.Kept.{numbered, place_in, is_small, client_kept, clients_kept}
 use Rattle.node_table.proofs.Numbered.{get-numbered, get-from_zero, insert-from_zero, remove-from_zero, numbered_same, numbered_none, numbered_insert, numbered_remove, remove_absent, get-insert_same, get-insert_other}
 
@@ -134,13 +134,13 @@ module _ {P : Type 0} where
 
   -- a client was opened
   pub open_kept : (name name' : ℕ → Option (List ℕ)) (node : ℕ → Option (NodeSeen P)) (row : ℕ) (nm : List ℕ) → row < 64 → name' row ≡ Some nm → ((r : ℕ) → r ≢ row → name' r ≡ name r) → ((p : ℕ) → p < 32 → node (row * 32 + p) ≡ None) →
-      clients_kept name' node ≡ map.insert (clients_kept name node) (128 + row) (new_client nm)
+      clients_kept name' node ≡ map.insert (clients_kept name node) (128 + row) (empty_client nm)
   open_kept name name' node row nm b is n none =
       let ports : numbered 0 16 (λ k. node (row * 32 + k)) ≡ map.empty = numbered_none 0 16 _ (λ i l. none i (omega arith)) in
       let filters : numbered 0 16 (λ k. node (row * 32 + (16 + k))) ≡ map.empty = numbered_none 0 16 _ (λ i l. none (16 + i) (omega arith)) in
-      let new : client_kept node row nm ≡ new_client nm = ap (λ (m : FinMap nat_cmp (NodeSeen P)). record { name = nm; ports = m; filters = numbered 0 16 (λ k. node (row * 32 + (16 + k))) }) ports
+      let new : client_kept node row nm ≡ empty_client nm = ap (λ (m : FinMap nat_cmp (NodeSeen P)). record { name = nm; ports = m; filters = numbered 0 16 (λ k. node (row * 32 + (16 + k))) }) ports
       ∙ ap (λ (m : FinMap nat_cmp (NodeSeen P)). record { name = nm; ports = map.empty; filters = m }) filters in
-      numbered_insert 128 64 row _ _ (new_client nm) b (ap (option_map (client_kept node row)) is ∙ ap Some new)
+      numbered_insert 128 64 row _ _ (empty_client nm) b (ap (option_map (client_kept node row)) is ∙ ap Some new)
       (λ r l ne. ap (option_map (client_kept node r)) (n r ne))
 
   -- a client was closed

@@ -8,7 +8,7 @@ use Rattle.std.specs.Ordering.{nat_cmp, eq_by_cmp, is_eq}
 use Rattle.std.specs.Cmp.{nat_cmp_total, nat_cmp_is}
 use Rattle.std.specs.FinMap as map
 use Rattle.std.specs.FinMap.{FinMap, get, nat_cmp-IsAntisymmetric, get-insert, get-remove, get-empty, same_map}
-use Rattle.node_table.specs.Kept.{numbered, put_at}
+use Rattle.node_table.specs.Kept.{numbered, put_some}
 
 is_equal : (r : Ordering) → is_eq r ≡ true → r ≡ Equal
 is_equal Less e = cc
@@ -41,43 +41,43 @@ module _ {X : Type 0} where
   pub get-remove_other : (m : FinMap nat_cmp X) (k q : ℕ) → q ≢ k → get (map.remove m k) q ≡ get m q
   get-remove_other m k q ne = get-remove nat_cmp_total m k q ∙ ap (λ b. cond b None (get m q)) (apart_keys q k ne)
 
-  put_at_same : (m : FinMap nat_cmp X) (k : ℕ) (o : Option X) → get m k ≡ None → get (put_at m k o) k ≡ o
-  put_at_same m k None e = e
-  put_at_same m k (Some x) e = get-insert_same m k x
+  put_some_same : (m : FinMap nat_cmp X) (k : ℕ) (o : Option X) → get m k ≡ None → get (put_some m k o) k ≡ o
+  put_some_same m k None e = e
+  put_some_same m k (Some x) e = get-insert_same m k x
 
-  put_at_other : (m : FinMap nat_cmp X) (k : ℕ) (o : Option X) (q : ℕ) → q ≢ k → get (put_at m k o) q ≡ get m q
-  put_at_other m k None q ne = refl
-  put_at_other m k (Some x) q ne = get-insert_other m k x q ne
+  put_some_other : (m : FinMap nat_cmp X) (k : ℕ) (o : Option X) (q : ℕ) → q ≢ k → get (put_some m k o) q ≡ get m q
+  put_some_other m k None q ne = refl
+  put_some_other m k (Some x) q ne = get-insert_other m k x q ne
 
   pub get-below : (base n q : ℕ) (f : ℕ → Option X) → q < base → get (numbered base n f) q ≡ None
   unfolding numbered
   get-below base zero q f h = get-empty nat_cmp q
-  get-below base (suc n) q f h = put_at_other (numbered base n f) (base + n) (f n) q (omega arith) ∙ get-below base n q f h
+  get-below base (suc n) q f h = put_some_other (numbered base n f) (base + n) (f n) q (omega arith) ∙ get-below base n q f h
 
   pub get-above : (base n q : ℕ) (f : ℕ → Option X) → base + n ≤ q → get (numbered base n f) q ≡ None
   unfolding numbered
   get-above base zero q f h = get-empty nat_cmp q
-  get-above base (suc n) q f h = put_at_other (numbered base n f) (base + n) (f n) q (omega arith) ∙ get-above base n q f (omega arith)
+  get-above base (suc n) q f h = put_some_other (numbered base n f) (base + n) (f n) q (omega arith) ∙ get-above base n q f (omega arith)
 
   pub get-numbered : (base n i : ℕ) (f : ℕ → Option X) → i < n → get (numbered base n f) (base + i) ≡ f i
   unfolding numbered
   get-numbered base zero i f h = absurd (omega arith)
   get-numbered base (suc n) i f h = elim (cases_eq i n) [
-    | inl e ↦ rw e (put_at_same (numbered base n f) (base + n) (f n) (get-above base n (base + n) f (omega arith)))
-    | inr ne ↦ put_at_other (numbered base n f) (base + n) (f n) (base + i) (omega arith) ∙ get-numbered base n i f (omega arith)
+    | inl e ↦ rw e (put_some_same (numbered base n f) (base + n) (f n) (get-above base n (base + n) f (omega arith)))
+    | inr ne ↦ put_some_other (numbered base n f) (base + n) (f n) (base + i) (omega arith) ∙ get-numbered base n i f (omega arith)
   ]
 
   pub numbered_same : (base n : ℕ) (f g : ℕ → Option X) → ((i : ℕ) → i < n → g i ≡ f i) → numbered base n g ≡ numbered base n f
   unfolding numbered
   numbered_same base zero f g h = refl
   numbered_same base (suc n) f g h =
-      ap (λ m. put_at m (base + n) (g n)) (numbered_same base n f g (λ i l. h i (omega arith))) ∙ ap (put_at (numbered base n f) (base + n)) (h n (omega arith))
+      ap (λ m. put_some m (base + n) (g n)) (numbered_same base n f g (λ i l. h i (omega arith))) ∙ ap (put_some (numbered base n f) (base + n)) (h n (omega arith))
 
   pub numbered_none : (base n : ℕ) (f : ℕ → Option X) → ((i : ℕ) → i < n → f i ≡ None) → numbered base n f ≡ map.empty
   unfolding numbered
   numbered_none base zero f h = refl
   numbered_none base (suc n) f h =
-      ap (put_at (numbered base n f) (base + n)) (h n (omega arith)) ∙ numbered_none base n f (λ i l. h i (omega arith))
+      ap (put_some (numbered base n f) (base + n)) (h n (omega arith)) ∙ numbered_none base n f (λ i l. h i (omega arith))
 
   -- two maps are one if they agree within the range, and the second has nothing out of it
   same_within : (base n : ℕ) (g : ℕ → Option X) (m : FinMap nat_cmp X) → ((q : ℕ) → q < base → get m q ≡ None) → ((q : ℕ) → base + n ≤ q → get m q ≡ None) → ((i : ℕ) → i < n → g i ≡ get m (base + i)) → numbered base n g ≡ m

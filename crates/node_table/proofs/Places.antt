@@ -5,7 +5,7 @@ use Rattle.std.proofs.lemmas.Bool.{cases_eq}
 use Rattle.std.proofs.lemmas.Bool.Decides.{leb_tells}
 use Rattle.std.proofs.lemmas.List.{get_or-set_same, get_or-set_other, get_or_past, get_or_append_left, get_or-replicate, length-replicate, length-set, take_all}
 use Rattle.std.proofs.Math.Seq.{get_or-append_right}
-use Rattle.node_table.specs.Kept.{under, at_place, IsTable, ReadsAs, IsKept}
+use Rattle.node_table.specs.Kept.{under, at_place, IsTable, ReadsAs, AreNodesKept}
 
 -- within a list the value for what is past it is never taken
 pub get_within : {A : Type 0} (xs : List A) (i : ℕ) (d e : A) → i < length xs → get_or xs i d ≡ get_or xs i e
@@ -61,7 +61,7 @@ key_within keys i k e = elim (leb_tells (length keys) i) [
   | inr within ↦ within.1
 ]
 
-module _ {V X : Type 0} (names : List (Option V)) (keys : List (Option ℕ)) (slots slots' : List (Option X)) (kept : IsKept names keys slots) where
+module _ {V X : Type 0} (names : List (Option V)) (keys : List (Option ℕ)) (slots slots' : List (Option X)) (kept : AreNodesKept names keys slots) where
   -- what the keys of a list find stays, where each of these keys finds what it found
   pub at_place-same : (keys' : List (Option ℕ)) (i : ℕ) → get_or keys' i None ≡ get_or keys i None → ((k : ℕ) → get_or keys i None ≡ Some k → get_or slots' k None ≡ get_or slots k None) → at_place keys' slots' i ≡ at_place keys slots i
   at_place-same keys' i e h = ap (under slots') e ∙ by (get_or keys i None) h
@@ -88,7 +88,7 @@ module _ {V X : Type 0} (names : List (Option V)) (keys : List (Option ℕ)) (sl
       | inr ne ↦ inr (ne, sym (get_or-set_other keys place i (Some key) None ne) ∙ e)
     ]
 
-    pub put-kept : (row p : ℕ) → place ≡ row * 32 + p → p < 32 → get_or names row None ≢ None → get_or keys place None ≡ None → IsKept names (set keys place (Some key)) slots'
+    pub put-kept : (row p : ℕ) → place ≡ row * 32 + p → p < 32 → get_or names row None ≢ None → get_or keys place None ≡ None → AreNodesKept names (set keys place (Some key)) slots'
     put-kept row p is l opens free =
         record {
           rows = kept.rows;
@@ -131,7 +131,7 @@ module _ {V X : Type 0} (names : List (Option V)) (keys : List (Option ℕ)) (sl
       | inr ne ↦ (ne, sym (get_or-set_other keys place i None None ne) ∙ e)
     ]
 
-    pub drop-kept : get_or slots' key None ≡ None → IsKept names (set keys place None) slots'
+    pub drop-kept : get_or slots' key None ≡ None → AreNodesKept names (set keys place None) slots'
     drop-kept gone =
         record {
           rows = kept.rows;
@@ -155,7 +155,7 @@ module _ {V X : Type 0} (names : List (Option V)) (keys : List (Option ℕ)) (sl
     pub write-elsewhere : (i : ℕ) → i ≢ place → at_place keys slots' i ≡ at_place keys slots i
     write-elsewhere i ne = at_place-same _ i refl (λ k e. others k (λ same. ne (kept.apart i place k e (was ∙ ap Some (sym same)))))
 
-    pub write-kept : IsKept names keys slots'
+    pub write-kept : AreNodesKept names keys slots'
     write-kept =
         record {
           rows = kept.rows;
@@ -173,7 +173,7 @@ module _ {V X : Type 0} (names : List (Option V)) (keys : List (Option ℕ)) (sl
         }
 
 -- a table with places reads as one without, and all else is kept
-pub read-kept : {V X : Type 0} (names : List (Option V)) (keys keys' : List (Option ℕ)) (slots : List (Option X)) → IsKept names keys slots → IsTable keys' → ReadsAs None keys' keys → IsKept names keys' slots
+pub read-kept : {V X : Type 0} (names : List (Option V)) (keys keys' : List (Option ℕ)) (slots : List (Option X)) → AreNodesKept names keys slots → IsTable keys' → ReadsAs None keys' keys → AreNodesKept names keys' slots
 read-kept names keys keys' slots kept table same =
     record {
       rows = kept.rows;
@@ -185,8 +185,8 @@ read-kept names keys keys' slots kept table same =
     }
 
 -- a client that was opened keeps no keys, and one that was closed has none left
-module _ {V X : Type 0} (names : List (Option V)) (keys : List (Option ℕ)) (slots : List (Option X)) (kept : IsKept names keys slots) where
-  pub opens-kept : (row : ℕ) (v : V) → row < length names → IsKept (set names row (Some v)) keys slots
+module _ {V X : Type 0} (names : List (Option V)) (keys : List (Option ℕ)) (slots : List (Option X)) (kept : AreNodesKept names keys slots) where
+  pub opens-kept : (row : ℕ) (v : V) → row < length names → AreNodesKept (set names row (Some v)) keys slots
   opens-kept row v l =
       record {
         rows = length-set names row (Some v) ∙ kept.rows;
@@ -201,7 +201,7 @@ module _ {V X : Type 0} (names : List (Option V)) (keys : List (Option ℕ)) (sl
         ];
       }
 
-  pub close-kept : (row : ℕ) → row < length names → ((p : ℕ) → p < 32 → get_or keys (row * 32 + p) None ≡ None) → IsKept (set names row None) keys slots
+  pub close-kept : (row : ℕ) → row < length names → ((p : ℕ) → p < 32 → get_or keys (row * 32 + p) None ≡ None) → AreNodesKept (set names row None) keys slots
   close-kept row l none =
       record {
         rows = length-set names row None ∙ kept.rows;

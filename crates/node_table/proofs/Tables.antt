@@ -12,8 +12,8 @@ use Rattle.node_table.specs.declared.number.Addr.{Addr}
 use Rattle.node_table.specs.declared.number.Node.TheVariants.{Port, Filter}
 use Rattle.node_table.specs.Listing.{IsNext, NoneFrom}
 use Rattle.node_table.proofs.Numbered.{get-above, numbered_none}
-use Rattle.node_table.specs.Nodes.{NodeSeen, ClientNodes, ports_in, filters_in, new_client, name_of, is_open, node_in, node_at, put_node, drop_node, put_client, with_node, without_node, with_body, with_its_body, put_seen}
-use Rattle.node_table.specs.Kept.{under, at_place, place_in, IsPlace, IsTable, ReadsAs, IsKept, client_kept, clients_kept}
+use Rattle.node_table.specs.Nodes.{NodeSeen, ClientNodes, ports_in, filters_in, empty_client, name_of, is_open, node_in, node_at, put_node, drop_node, put_client, with_node, without_node, with_body, with_its_body, put_seen}
+use Rattle.node_table.specs.Kept.{under, at_place, place_in, IsPlace, IsTable, ReadsAs, AreNodesKept, client_kept, clients_kept}
 use Rattle.node_table.proofs.Clients.{get-clients, is_some-client, name_of-client, found, small_place, put_kept, drop_kept, without_none, open_kept, close_kept, same_clients}
 use Rattle.node_table.proofs.Places.{get_within, some_is, no_some, not_both, key_within, put-here, put-elsewhere, put-kept, drop-here, drop-elsewhere, write-here, write-elsewhere}
 use Rattle.node_table.proofs.Clearing.{none_if_not}
@@ -38,7 +38,7 @@ closed_get {P} m client e = by (get m client) e
 abbrev pub shown : {V P : Type 0} → (V → List ℕ) → List (Option V) → List (Option ℕ) → List (Option (NodeSeen P)) → FinMap nat_cmp (ClientNodes P)
 shown items names keys slots = clients_kept (λ row. option_map items (get_or names row None)) (at_place keys slots)
 
-module _ {V P : Type 0} (items : V → List ℕ) (names : List (Option V)) (keys : List (Option ℕ)) (slots : List (Option (NodeSeen P))) (m : FinMap nat_cmp (ClientNodes P)) (kept : IsKept names keys slots) (view : shown items names keys slots ≡ m) where
+module _ {V P : Type 0} (items : V → List ℕ) (names : List (Option V)) (keys : List (Option ℕ)) (slots : List (Option (NodeSeen P))) (m : FinMap nat_cmp (ClientNodes P)) (kept : AreNodesKept names keys slots) (view : shown items names keys slots ≡ m) where
   pub get_is : (client row : ℕ) → client ≡ 128 + row → row < 64 → get m client ≡ option_map (client_kept (at_place keys slots) row) (option_map items (get_or names row None))
   get_is client row at l = ap (get m) at ∙ ap (λ n. get n (128 + row)) (sym view) ∙ get-clients _ (at_place keys slots) row l
 
@@ -98,7 +98,7 @@ module _ {V P : Type 0} (items : V → List ℕ) (names : List (Option V)) (keys
         let inside : place < length keys = place_in_range whole addr row place at in
         put_is x _ slots' open_now (put-here names keys slots slots' kept place key x inside vacant changed others) (put-elsewhere names keys slots slots' kept place key x inside vacant changed others)
 
-    pub created-kept : length keys ≡ 2048 → (key : ℕ) (x : NodeSeen P) (slots' : List (Option (NodeSeen P))) → get_or names row None ≢ None → get_or keys place None ≡ None → get_or slots key None ≡ None → get_or slots' key None ≡ Some x → ((k : ℕ) → k ≢ key → get_or slots' k None ≡ get_or slots k None) → IsKept names (set keys place (Some key)) slots'
+    pub created-kept : length keys ≡ 2048 → (key : ℕ) (x : NodeSeen P) (slots' : List (Option (NodeSeen P))) → get_or names row None ≢ None → get_or keys place None ≡ None → get_or slots key None ≡ None → get_or slots' key None ≡ Some x → ((k : ℕ) → k ≢ key → get_or slots' k None ≡ get_or slots k None) → AreNodesKept names (set keys place (Some key)) slots'
     created-kept whole key x slots' open_now free vacant changed others =
         put-kept names keys slots slots' kept place key x (place_in_range whole addr row place at) vacant changed others row (place_in addr.node) at.is (small_place addr.node at.small) open_now free
 
@@ -150,12 +150,12 @@ module _ {V P : Type 0} (items : V → List ℕ) (names : List (Option V)) (keys
   read_is keys' same = same_clients _ _ (at_place keys slots) (at_place keys' slots) (λ row l. refl) (λ i. ap (under slots) (same i)) ∙ view
 
   -- a client was opened
-  pub opened_is : (client row : ℕ) (v : V) → client ≡ 128 + row → row < 64 → get_or names row None ≡ None → shown items (set names row (Some v)) keys slots ≡ map.insert m client (new_client (items v))
+  pub opened_is : (client row : ℕ) (v : V) → client ≡ 128 + row → row < 64 → get_or names row None ≡ None → shown items (set names row (Some v)) keys slots ≡ map.insert m client (empty_client (items v))
   opened_is client row v at l none =
       let inside : row < length names = omega (arith, kept.rows) in
       open_kept (λ r. option_map items (get_or names r None)) (λ r. option_map items (get_or (set names row (Some v)) r None)) (at_place keys slots) row (items v) l (ap (option_map items) (get_or-set_same names row (Some v) None inside))
       (λ r ne. ap (option_map items) (get_or-set_other names row r (Some v) None ne)) (λ p s. nothing row p s none)
-      ∙ ap (λ n. map.insert n (128 + row) (new_client (items v))) view ∙ ap (λ k. map.insert m k (new_client (items v))) (sym at)
+      ∙ ap (λ n. map.insert n (128 + row) (empty_client (items v))) view ∙ ap (λ k. map.insert m k (empty_client (items v))) (sym at)
 
   -- a client was closed
   pub closed_is : (client row : ℕ) (keys' : List (Option ℕ)) (slots' : List (Option (NodeSeen P))) → client ≡ 128 + row → row < 64 → ((i : ℕ) → i < row * 32 → at_place keys' slots' i ≡ at_place keys slots i) → ((i : ℕ) → row * 32 + 32 ≤ i → at_place keys' slots' i ≡ at_place keys slots i) → shown items (set names row None) keys' slots' ≡ map.remove m client
@@ -218,7 +218,7 @@ module _ {V P : Type 0} (items : V → List ℕ) (names : List (Option V)) (keys
 
 -- a table in which nothing is yet
 module _ {V P : Type 0} (items : V → List ℕ) (names : List (Option V)) (keys : List (Option ℕ)) (slots : List (Option (NodeSeen P))) (no_names : (i : ℕ) → get_or names i None ≡ None) (no_keys : (i : ℕ) → get_or keys i None ≡ None) where
-  pub new-kept : length names ≡ 64 → IsTable keys → ((k : ℕ) → get_or slots k None ≡ None) → IsKept names keys slots
+  pub new-kept : length names ≡ 64 → IsTable keys → ((k : ℕ) → get_or slots k None ≡ None) → AreNodesKept names keys slots
   new-kept l s vacant =
       record {
         rows = l;

@@ -10,14 +10,14 @@ use Rattle.node_table.specs.declared.number.Node.{Node}
 use Rattle.node_table.specs.declared.number.Node.TheVariants.{Port, Filter}
 
 module _ {X : Type 0} where
-  abbrev pub put_at : FinMap nat_cmp X → ℕ → Option X → FinMap nat_cmp X
-  put_at m k None = m
-  put_at m k (Some x) = FinMap.insert m k x
+  abbrev pub put_some : FinMap nat_cmp X → ℕ → Option X → FinMap nat_cmp X
+  put_some m k None = m
+  put_some m k (Some x) = FinMap.insert m k x
 
   -- of the numbers from `base` on, the first n, each with what f has for it
   unfoldable pub numbered : ℕ → ℕ → (ℕ → Option X) → FinMap nat_cmp X
   numbered base zero f = FinMap.empty
-  numbered base (suc n) f = put_at (numbered base n f) (base + n) (f n)
+  numbered base (suc n) f = put_some (numbered base n f) (base + n) (f n)
 
   -- what stands under a key that may be there
   abbrev pub under : List (Option X) → Option ℕ → Option X
@@ -66,7 +66,7 @@ IsSomewhere keys key = (i : ℕ) × (slice_index_or keys i None ≡ Some key)
 
 -- No key stands at two places, and who is not open has none. Something stands under each key that
 -- stands at a place, and nothing under any other.
-pub record IsKept {V X : Type 0} (names : List (Option V)) (keys : List (Option ℕ)) (slots : List (Option X)) : Type 0 where
+pub record AreNodesKept {V X : Type 0} (names : List (Option V)) (keys : List (Option ℕ)) (slots : List (Option X)) : Type 0 where
   pub rows : length names ≡ 64
   pub places : IsTable keys
   pub full : (i key : ℕ) → slice_index_or keys i None ≡ Some key → IsSome (slice_index_or slots key None)

@@ -42,8 +42,8 @@ is_name_for (Filter n) name = length name == 0
 
 module _ {P : Type 0} where
   -- a client as it is opened
-  abbrev pub new_client : List ℕ → ClientNodes P
-  new_client name = record { name = name; ports = FinMap.empty; filters = FinMap.empty }
+  abbrev pub empty_client : List ℕ → ClientNodes P
+  empty_client name = record { name = name; ports = FinMap.empty; filters = FinMap.empty }
 
   abbrev pub name_of : Option (ClientNodes P) → Option (List ℕ)
   name_of client = option_map (λ c. c.name) client

@@ -6,7 +6,7 @@ ghost use Rattle.std.specs.Borrow.{sem};
 ghost use Rattle.std.specs.FinMap as map;
 ghost use Rattle.node_table.specs.Names.{is_name};
 ghost use Rattle.node_table.specs.Capabilities.{permits};
-ghost use Rattle.node_table.specs.Nodes.{new_client, name_of, node_seen, is_name_for, is_open, ports_in, filters_in, node_at, with_node, without_node, bits_of};
+ghost use Rattle.node_table.specs.Nodes.{empty_client, name_of, node_seen, is_name_for, is_open, ports_in, filters_in, node_at, with_node, without_node, bits_of};
 ghost use Rattle.node_table.specs.Listing.{IsNext, NoneFrom};
 ghost use Rattle.node_table.specs.Faults.{body_of};
 
@@ -43,7 +43,7 @@ impl<P> Model for NodeTable<P> {
     ghost use Rattle.std.specs.Coded.{coded_ℕ};
     ghost use Rattle.std.specs.FinMap as map;
     ghost use Rattle.node_table.specs.Nodes.{ClientNodes, coded_client_nodes};
-    ghost use Rattle.node_table.specs.Kept.{clients_kept, at_place, IsKept};
+    ghost use Rattle.node_table.specs.Kept.{clients_kept, at_place, AreNodesKept};
 
     ghost Value = { map.FinMap nat_cmp (ClientNodes P) };
 
@@ -53,7 +53,7 @@ impl<P> Model for NodeTable<P> {
         (λ row. option_map (λ v. v.items) (slice_index_or t.names row None))
         (at_place t.keys.items t.nodes.slots) };
 
-    ghost invariant = { λ t. IsKept t.names t.keys.items t.nodes.slots };
+    ghost invariant = { λ t. AreNodesKept t.names t.keys.items t.nodes.slots };
 }
 
 fn nothing<T, const N: usize>() -> [Option<T>; N]
@@ -94,9 +94,10 @@ impl<P> NodeTable<P> {
         }
     }
 
-    /// Opens a client with no nodes. The refusals are tested in the order of `OpenFault`, and each leaves all as it was.
+    /// Opens a client with no nodes. The refusals are tested in the order of `OpenFault`, and each leaves all as it
+    /// was.
     pub fn open_client(&mut self, client: ClientId, name: &[u8]) -> Result<(), OpenFault>
-        ensures ok { OnOk result (self.new ≡ map.insert self.old client (new_client name.now)) }
+        ensures ok { OnOk result (self.new ≡ map.insert self.old client (empty_client name.now)) }
         ensures err { OnErr result (self.new ≡ self.old) }
         ensures already_open { IsErrOf result OpenFault.AlreadyOpen
             ↔ (is_open self.old client ≡ true) }
@@ -113,12 +114,12 @@ impl<P> NodeTable<P> {
         Ok(())
     }
 
-    /// Opens a client with no nodes, as `open_client` does, for a caller that has made its tests. `Err` leaves all as it
-    /// was.
+    /// Opens a client with no nodes, as `open_client` does, for a caller that has made its tests. `Err` leaves all as
+    /// it was.
     pub fn add_client(&mut self, client: ClientId, name: &[u8]) -> Result<(), OutOfMemory>
         requires fresh { is_open self.old client ≡ false }
         requires named { is_name name.now ≡ true }
-        ensures ok { OnOk result (self.new ≡ map.insert self.old client (new_client name.now)) }
+        ensures ok { OnOk result (self.new ≡ map.insert self.old client (empty_client name.now)) }
         ensures err { OnErr result (self.new ≡ self.old) }
     {
         let name = Vec::from_slice(self.alloc, name)?;
@@ -163,8 +164,8 @@ impl<P> NodeTable<P> {
         }
     }
 
-    /// Makes a node of a client that is open. The refusals are tested in the order of `CreateFault`, and each leaves all
-    /// as it was and gives the body back.
+    /// Makes a node of a client that is open. The refusals are tested in the order of `CreateFault`, and each leaves
+    /// all as it was and gives the body back.
     pub fn create(
         &mut self,
         addr: Addr,
@@ -199,8 +200,8 @@ impl<P> NodeTable<P> {
         }
     }
 
-    /// Makes a node, as `create` does, for a caller that has made its tests. `Err` leaves all as it was and gives the body
-    /// back.
+    /// Makes a node, as `create` does, for a caller that has made its tests. `Err` leaves all as it was and gives the
+    /// body back.
     pub fn add_node(
         &mut self,
         addr: Addr,

@@ -216,8 +216,8 @@ impl PatchGraph {
         source.is_filter() && (target == source || self.reaches(target, source))
     }
 
-    /// Adds an edge, the youngest of all. The refusals are tested in the order of `EdgeFault`, and each leaves all as it
-    /// was.
+    /// Adds an edge, the youngest of all. The refusals are tested in the order of `EdgeFault`, and each leaves all as
+    /// it was.
     #[tactic(auto, unfolding(crate::specs::Edges::most_sources))]
     pub fn connect(&mut self, source: Addr, target: Addr) -> Result<(), EdgeFault>
         ensures ok { OnOk result (self.new ≡ self.old ++ edge source target ∷ []) }
@@ -245,7 +245,8 @@ impl PatchGraph {
         Ok(())
     }
 
-    /// Adds an edge, the youngest of all, for a caller that has made the tests of `connect`. `Err` leaves all as it was.
+    /// Adds an edge, the youngest of all, for a caller that has made the tests of `connect`. `Err` leaves all as it
+    /// was.
     pub fn add(&mut self, source: Addr, target: Addr) -> Result<(), OutOfMemory>
         requires fresh { has_edge self.old source target ≡ false }
         requires room { sources_of self.old target < most_sources }

@@ -21,10 +21,12 @@ const PPQ: u16 = 480;
 /// Microseconds per quarter note.
 const TEMPO: u32 = 500_000;
 
-/// What came to a port in a run, as a Standard MIDI File of format 0 with 480 ticks per quarter note, of half a second each.
+/// What came to a port in a run, as a Standard MIDI File of format 0 with 480 ticks per quarter note, of half a second
+/// each.
 ///
-/// Each message of a channel and each exclusive one stands at the last tick that has come by its moment; system common and
-/// real time messages have no place in a file. `BadEvent` is told where more than 268,435,455 ticks lie between two.
+/// Each message of a channel and each exclusive one stands at the last tick that has come by its moment; system common
+/// and real time messages have no place in a file. `BadEvent` is told where more than 268,435,455 ticks lie between
+/// two.
 pub fn record_file(alloc: Global, log: &RunLog, port: PortAddr) -> Result<Vec<u8>, WriteFault>
     ensures text { IfOk result (λ file. file.items
         ≡ file_text PPQ TEMPO (recorded port log.now.entries)) }

@@ -53,8 +53,8 @@ impl Rule {
 
     /// What it makes of a message: nothing, where the message does not pass.
     ///
-    /// A message is tested by its own channel and note, before it gets others (MIDI 1.0 Detailed Specification, "Channel
-    /// Voice Messages"). A system message has neither.
+    /// A message is tested by its own channel and note, before it gets others (MIDI 1.0 Detailed Specification,
+    /// "Channel Voice Messages"). A system message has neither.
     pub fn pass(&self, message: Message) -> Option<Message>
         ensures { result ≡ passed self.now message }
     {
@@ -118,7 +118,8 @@ impl Rule {
     }
 }
 
-/// Whether the first data byte of such a channel message is a note: note off, note on and polyphonic pressure, 8n to An.
+/// Whether the first data byte of such a channel message is a note: note off, note on and polyphonic pressure, 8n to
+/// An.
 #[inline]
 fn has_note(status: u8) -> bool
     ensures { result ≡ has_note (kind_of_status status) }

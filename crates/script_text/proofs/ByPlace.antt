@@ -5,7 +5,7 @@ use Rattle.std.specs.Str.{bytes_eq}
 use Rattle.seq_state.specs.declared.input.Command.{Command}
 use Rattle.script_text.specs.declared.command.TheConstants.{KEYWORDS}
 use Rattle.script_text.specs.Numbers.{any}
-use Rattle.script_text.specs.Table.{CommandForm, Reads, taken, table, by_word, command}
+use Rattle.script_text.specs.Table.{CommandForm, Reads, word_as, table, by_word, command}
 
 -- what a row says
 abbrev pub says_at : List CommandForm → ℕ → Reads Command
@@ -38,18 +38,18 @@ all_taken : Option (List ℕ × List (List ℕ)) → List (List ℕ)
 all_taken None = []
 all_taken (Some p) = p.0 ∷ p.1
 
-taken_any : (old rest : List (List ℕ)) (w : List ℕ) → taken any old ≡ Some (w, rest) → old ≡ w ∷ rest
+word_as-any : (old rest : List (List ℕ)) (w : List ℕ) → word_as any old ≡ Some (w, rest) → old ≡ w ∷ rest
 unfolding all_taken
-taken_any [] rest w e = ap all_taken e
-taken_any (x ∷ xs) rest w e = ap all_taken e
+word_as-any [] rest w e = ap all_taken e
+word_as-any (x ∷ xs) rest w e = ap all_taken e
 
 same_place : (names : List (List ℕ)) (w : List ℕ) → position_or_len (λ k. bytes_eq k.now w) KEYWORDS ≡ place (table names) w
 unfolding place
 same_place names w = refl
 
-pub at_row : (names old : List (List ℕ)) (w : List ℕ) (rest : List (List ℕ)) (k i : ℕ) → taken any old ≡ Some (w, rest) → k ≡ position_or_len (λ k. bytes_eq k.now w) KEYWORDS → k ≡ i → command names old ≡ says_at (table names) i rest
+pub at_row : (names old : List (List ℕ)) (w : List ℕ) (rest : List (List ℕ)) (k i : ℕ) → word_as any old ≡ Some (w, rest) → k ≡ position_or_len (λ k. bytes_eq k.now w) KEYWORDS → k ≡ i → command names old ≡ says_at (table names) i rest
 at_row names old w rest k i e f g =
-    ap (command names) (taken_any old rest w e) ∙ by_place (table names) w rest ∙ ap (λ n. says_at (table names) n rest) (sym (same_place names w) ∙ sym f ∙ g)
+    ap (command names) (word_as-any old rest w e) ∙ by_place (table names) w rest ∙ ap (λ n. says_at (table names) n rest) (sym (same_place names w) ∙ sym f ∙ g)
 
-pub past_rows : (names old : List (List ℕ)) (w : List ℕ) (rest : List (List ℕ)) (k : ℕ) → taken any old ≡ Some (w, rest) → k ≡ position_or_len (λ k. bytes_eq k.now w) KEYWORDS → 25 ≤ k → command names old ≡ None
+pub past_rows : (names old : List (List ℕ)) (w : List ℕ) (rest : List (List ℕ)) (k : ℕ) → word_as any old ≡ Some (w, rest) → k ≡ position_or_len (λ k. bytes_eq k.now w) KEYWORDS → 25 ≤ k → command names old ≡ None
 past_rows names old w rest k e f l = at_row names old w rest k k e f refl ∙ says_past (table names) k rest l

@@ -20,14 +20,14 @@ abbrev pub done : {A : Type 0} → A → Reads A
 done x words = if no_more words then Some x else None
 
 -- what the next word says, and the words after it
-abbrev pub taken : {A : Type 0} → (List ℕ → Option A) → List (List ℕ) → Option (A × List (List ℕ))
-taken read [] = None
-taken read (w ∷ words) = option_map (λ x. (x, words)) (read w)
+abbrev pub word_as : {A : Type 0} → (List ℕ → Option A) → List (List ℕ) → Option (A × List (List ℕ))
+word_as read [] = None
+word_as read (w ∷ words) = option_map (λ x. (x, words)) (read w)
 
 infixr 10 ◌▸◌
 -- the next word, and then those after it
 abbrev pub ◌▸◌ : {A B : Type 0} → (List ℕ → Option A) → (A → Reads B) → Reads B
-(read ▸ more) words = option_and_then (λ t. more t.0 t.1) (taken read words)
+(read ▸ more) words = option_and_then (λ t. more t.0 t.1) (word_as read words)
 
 -- all words that are left
 abbrev pub all : {A B : Type 0} → Reads A → (A → B) → Reads B

@@ -3,7 +3,7 @@
 ghost use Rattle.std.specs.Prelude.{◌≡◌, ◌≤◌, ◌∷◌, length, [], Some, None, IfSome, IfNone, IfOk, IfErr, IsErrOf, map, OnOk, OnErr, true, false};
 ghost use Rattle.script_text.specs.Words.{is_blank, words};
 ghost use Rattle.std.specs.List.{position, position_or_len, prefix_len};
-ghost use Rattle.script_text.specs.Table.{taken, no_more, maybe, file};
+ghost use Rattle.script_text.specs.Table.{word_as, no_more, maybe, file};
 ghost use Rattle.script_text.specs.Numbers.{some_bytes};
 ghost use Rattle.script_text.specs.Numbers as says;
 ghost use Rattle.script_text.specs.declared.script.TheConstants.{MOST_FILES};
@@ -92,8 +92,8 @@ impl<'b> Words<'b> {
 
     /// The next word, whatever it is.
     pub(crate) fn any(&mut self) -> Result<&'b [u8], Unread>
-        ensures ok { IfOk result (λ w. taken says.any self.old ≡ Some (w.now, self.new)) }
-        ensures err { OnErr result (taken says.any self.old ≡ None) }
+        ensures ok { IfOk result (λ w. word_as says.any self.old ≡ Some (w.now, self.new)) }
+        ensures err { OnErr result (word_as says.any self.old ≡ None) }
         ensures only { IfErr result (λ e. e ≡ Unread.Unreadable) }
     {
         let word = self.word().ok_or(Unread::Unreadable)?;
@@ -114,8 +114,8 @@ impl<'b> Words<'b> {
 
     /// A number of 64 bits.
     pub(crate) fn u64(&mut self) -> Result<u64, Unread>
-        ensures ok { IfOk result (λ x. taken says.u64 self.old ≡ Some (x, self.new)) }
-        ensures err { OnErr result (taken says.u64 self.old ≡ None) }
+        ensures ok { IfOk result (λ x. word_as says.u64 self.old ≡ Some (x, self.new)) }
+        ensures err { OnErr result (word_as says.u64 self.old ≡ None) }
         ensures only { IfErr result (λ e. e ≡ Unread.Unreadable) }
     {
         let word = self.word().ok_or(Unread::Unreadable)?;
@@ -125,8 +125,8 @@ impl<'b> Words<'b> {
 
     /// A number of 32 bits.
     pub(crate) fn u32(&mut self) -> Result<u32, Unread>
-        ensures ok { IfOk result (λ x. taken says.u32 self.old ≡ Some (x, self.new)) }
-        ensures err { OnErr result (taken says.u32 self.old ≡ None) }
+        ensures ok { IfOk result (λ x. word_as says.u32 self.old ≡ Some (x, self.new)) }
+        ensures err { OnErr result (word_as says.u32 self.old ≡ None) }
         ensures only { IfErr result (λ e. e ≡ Unread.Unreadable) }
     {
         let word = self.word().ok_or(Unread::Unreadable)?;
@@ -136,8 +136,8 @@ impl<'b> Words<'b> {
 
     /// A number of 16 bits.
     pub(crate) fn u16(&mut self) -> Result<u16, Unread>
-        ensures ok { IfOk result (λ x. taken says.u16 self.old ≡ Some (x, self.new)) }
-        ensures err { OnErr result (taken says.u16 self.old ≡ None) }
+        ensures ok { IfOk result (λ x. word_as says.u16 self.old ≡ Some (x, self.new)) }
+        ensures err { OnErr result (word_as says.u16 self.old ≡ None) }
         ensures only { IfErr result (λ e. e ≡ Unread.Unreadable) }
     {
         let word = self.word().ok_or(Unread::Unreadable)?;
@@ -147,8 +147,8 @@ impl<'b> Words<'b> {
 
     /// A number of 8 bits.
     pub(crate) fn u8(&mut self) -> Result<u8, Unread>
-        ensures ok { IfOk result (λ x. taken says.u8 self.old ≡ Some (x, self.new)) }
-        ensures err { OnErr result (taken says.u8 self.old ≡ None) }
+        ensures ok { IfOk result (λ x. word_as says.u8 self.old ≡ Some (x, self.new)) }
+        ensures err { OnErr result (word_as says.u8 self.old ≡ None) }
         ensures only { IfErr result (λ e. e ≡ Unread.Unreadable) }
     {
         let word = self.word().ok_or(Unread::Unreadable)?;
@@ -158,8 +158,8 @@ impl<'b> Words<'b> {
 
     /// A number of semitones.
     pub(crate) fn shift(&mut self) -> Result<i16, Unread>
-        ensures ok { IfOk result (λ x. taken says.shift self.old ≡ Some (x, self.new)) }
-        ensures err { OnErr result (taken says.shift self.old ≡ None) }
+        ensures ok { IfOk result (λ x. word_as says.shift self.old ≡ Some (x, self.new)) }
+        ensures err { OnErr result (word_as says.shift self.old ≡ None) }
         ensures only { IfErr result (λ e. e ≡ Unread.Unreadable) }
     {
         let word = self.word().ok_or(Unread::Unreadable)?;
@@ -169,8 +169,8 @@ impl<'b> Words<'b> {
 
     /// The number of a port.
     pub(crate) fn port(&mut self) -> Result<PortNo, Unread>
-        ensures ok { IfOk result (λ x. taken says.node_number self.old ≡ Some (x, self.new)) }
-        ensures err { OnErr result (taken says.node_number self.old ≡ None) }
+        ensures ok { IfOk result (λ x. word_as says.node_number self.old ≡ Some (x, self.new)) }
+        ensures err { OnErr result (word_as says.node_number self.old ≡ None) }
         ensures only { IfErr result (λ e. e ≡ Unread.Unreadable) }
     {
         let word = self.word().ok_or(Unread::Unreadable)?;
@@ -180,8 +180,8 @@ impl<'b> Words<'b> {
 
     /// The number of a filter.
     pub(crate) fn filter(&mut self) -> Result<FilterNo, Unread>
-        ensures ok { IfOk result (λ x. taken says.node_number self.old ≡ Some (x, self.new)) }
-        ensures err { OnErr result (taken says.node_number self.old ≡ None) }
+        ensures ok { IfOk result (λ x. word_as says.node_number self.old ≡ Some (x, self.new)) }
+        ensures err { OnErr result (word_as says.node_number self.old ≡ None) }
         ensures only { IfErr result (λ e. e ≡ Unread.Unreadable) }
     {
         let word = self.word().ok_or(Unread::Unreadable)?;
@@ -191,8 +191,8 @@ impl<'b> Words<'b> {
 
     /// The number of a queue.
     pub(crate) fn queue_no(&mut self) -> Result<QueueNo, Unread>
-        ensures ok { IfOk result (λ x. taken says.queue_number self.old ≡ Some (x, self.new)) }
-        ensures err { OnErr result (taken says.queue_number self.old ≡ None) }
+        ensures ok { IfOk result (λ x. word_as says.queue_number self.old ≡ Some (x, self.new)) }
+        ensures err { OnErr result (word_as says.queue_number self.old ≡ None) }
         ensures only { IfErr result (λ e. e ≡ Unread.Unreadable) }
     {
         let word = self.word().ok_or(Unread::Unreadable)?;
@@ -202,8 +202,8 @@ impl<'b> Words<'b> {
 
     /// Capabilities.
     pub(crate) fn caps(&mut self) -> Result<Caps, Unread>
-        ensures ok { IfOk result (λ x. taken says.caps self.old ≡ Some (x, self.new)) }
-        ensures err { OnErr result (taken says.caps self.old ≡ None) }
+        ensures ok { IfOk result (λ x. word_as says.caps self.old ≡ Some (x, self.new)) }
+        ensures err { OnErr result (word_as says.caps self.old ≡ None) }
         ensures only { IfErr result (λ e. e ≡ Unread.Unreadable) }
     {
         let word = self.word().ok_or(Unread::Unreadable)?;
@@ -213,8 +213,8 @@ impl<'b> Words<'b> {
 
     /// The address of a node.
     pub(crate) fn addr(&mut self) -> Result<Addr, Unread>
-        ensures ok { IfOk result (λ x. taken says.addr self.old ≡ Some (x, self.new)) }
-        ensures err { OnErr result (taken says.addr self.old ≡ None) }
+        ensures ok { IfOk result (λ x. word_as says.addr self.old ≡ Some (x, self.new)) }
+        ensures err { OnErr result (word_as says.addr self.old ≡ None) }
         ensures only { IfErr result (λ e. e ≡ Unread.Unreadable) }
     {
         let word = self.word().ok_or(Unread::Unreadable)?;
@@ -224,8 +224,8 @@ impl<'b> Words<'b> {
 
     /// The address of a queue.
     pub(crate) fn queue(&mut self) -> Result<QueueAddr, Unread>
-        ensures ok { IfOk result (λ x. taken says.queue self.old ≡ Some (x, self.new)) }
-        ensures err { OnErr result (taken says.queue self.old ≡ None) }
+        ensures ok { IfOk result (λ x. word_as says.queue self.old ≡ Some (x, self.new)) }
+        ensures err { OnErr result (word_as says.queue self.old ≡ None) }
         ensures only { IfErr result (λ e. e ≡ Unread.Unreadable) }
     {
         let word = self.word().ok_or(Unread::Unreadable)?;
@@ -235,8 +235,8 @@ impl<'b> Words<'b> {
 
     /// A due time.
     pub(crate) fn due(&mut self) -> Result<DueAt, Unread>
-        ensures ok { IfOk result (λ x. taken says.due_word self.old ≡ Some (x, self.new)) }
-        ensures err { OnErr result (taken says.due_word self.old ≡ None) }
+        ensures ok { IfOk result (λ x. word_as says.due_word self.old ≡ Some (x, self.new)) }
+        ensures err { OnErr result (word_as says.due_word self.old ≡ None) }
         ensures only { IfErr result (λ e. e ≡ Unread.Unreadable) }
     {
         let word = self.word().ok_or(Unread::Unreadable)?;
@@ -248,8 +248,8 @@ impl<'b> Words<'b> {
     pub(crate) fn file(&mut self, names: &[Vec<u8>]) -> Result<u32, Unread>
         requires { length names.now ≤ MOST_FILES }
         ensures ok { IfOk result (λ x.
-            taken (file (map (λ n. n.items) names.now)) self.old ≡ Some (x, self.new)) }
-        ensures err { OnErr result (taken (file (map (λ n. n.items) names.now)) self.old ≡ None) }
+            word_as (file (map (λ n. n.items) names.now)) self.old ≡ Some (x, self.new)) }
+        ensures err { OnErr result (word_as (file (map (λ n. n.items) names.now)) self.old ≡ None) }
         ensures only { IfErr result (λ e. e ≡ Unread.Unreadable) }
     {
         let word = self.word().ok_or(Unread::Unreadable)?;

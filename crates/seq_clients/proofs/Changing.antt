@@ -14,7 +14,7 @@ use Rattle.node_table.specs.declared.number.Node.{Node}
 use Rattle.node_table.specs.declared.number.Node.TheVariants.{Port, Filter}
 use Rattle.node_table.proofs.Numbered.{get-insert_same, get-insert_other, get-remove_same, get-remove_other, remove_absent}
 use Rattle.seq_state.specs.declared.log.Arrival.{Arrival}
-use Rattle.seq_state.specs.State.{Client, Pool, PortInfo, FilterInfo, put}
+use Rattle.seq_state.specs.State.{Client, ClientPool, PortInfo, FilterInfo, put}
 use Rattle.seq_state.specs.Own.{has_port, has_filter, queue_of, with_change, put_port, put_filter, new_client, without_oldest}
 use Rattle.seq_state.specs.Step.{port_addr, filter_addr}
 use Rattle.seq_clients.specs.Bodies.{is_body_for}
@@ -64,10 +64,10 @@ Fits o = (nd : Node) (n : NodeSeen NodeBody) → node_in o nd ≡ Some n → is_
 pub fits-none : Fits None
 fits-none nd n e = let none : None ≡ Some n = sym (none_in nd) ∙ e in cc
 
-pub fits-opened : (name : List ℕ) → Fits (Some (nodes.new_client name))
+pub fits-opened : (name : List ℕ) → Fits (Some (nodes.empty_client name))
 fits-opened name nd n e = let none : None ≡ Some n = sym (at nd) ∙ e in cc
   where
-    at : (nd : Node) → node_in (Some (nodes.new_client {P = NodeBody} name)) nd ≡ None
+    at : (nd : Node) → node_in (Some (nodes.empty_client {P = NodeBody} name)) nd ≡ None
     at (Port i) = get-empty nat_cmp i
     at (Filter i) = get-empty nat_cmp i
 
@@ -111,7 +111,7 @@ fits-map f h None was = was
 fits-map f h (Some c) was = h c was
 
 -- what is left of a pool that may be there
-pub left-oldest : (max : ℕ) (o : Option Pool) → option_map (after_take max) o ≡ without_oldest max o
+pub left-oldest : (max : ℕ) (o : Option ClientPool) → option_map (after_take max) o ≡ without_oldest max o
 left-oldest max None = refl
 left-oldest max (Some p) = refl
 
@@ -132,23 +132,23 @@ module _ (table : Nodes) (rows : Rows) (s : Roster) (kept : AreRowsKept table ro
       ∙ ap (λ (r : Option ClientRow). option_map (client_seen (unwrap_or r (new_row 0 0))) (get ns q)) (row_others q ne)
       ∙ ap (option_map (client_seen (row_at rows q))) (others q ne) ∙ sym (get-client table rows s kept view q))
 
-  pools-put : (rs : Rows) (client : ℕ) (o : Option Pool) → SameApart client rows rs → option_map (λ r. r.pool) (get rs client) ≡ o → mapped (λ k r. r.pool) rs ≡ put s.pools client o
+  pools-put : (rs : Rows) (client : ℕ) (o : Option ClientPool) → SameApart client rows rs → option_map (λ r. r.pool) (get rs client) ≡ o → mapped (λ k r. r.pool) rs ≡ put s.pools client o
   pools-put rs client o row_others e =
       is_put s.pools (mapped (λ k r. r.pool) rs) client o (get-mapped (λ k r. r.pool) rs client ∙ e)
       (λ q ne. get-mapped (λ k r. r.pool) rs q ∙ ap (option_map (λ r. r.pool)) (row_others q ne) ∙ sym (get-pool table rows s kept view q))
 
-  pub both-put : (ns : Nodes) (rs : Rows) (client : ℕ) (o : Option Client) (p : Option Pool) → SameApart client table ns → SameApart client rows rs → seen_in ns rs client ≡ o → option_map (λ r. r.pool) (get rs client) ≡ p →
+  pub both-put : (ns : Nodes) (rs : Rows) (client : ℕ) (o : Option Client) (p : Option ClientPool) → SameApart client table ns → SameApart client rows rs → seen_in ns rs client ≡ o → option_map (λ r. r.pool) (get rs client) ≡ p →
       roster ns rs ≡ with_pool (with_client s client o) client p
   both-put ns rs client o p others row_others e h =
       ap (λ (m : FinMap nat_cmp Client). record { clients = m; pools = mapped (λ k r. r.pool) rs }) (clients-put ns rs client o others row_others e)
-      ∙ ap (λ (m : FinMap nat_cmp Pool). record { clients = put s.clients client o; pools = m }) (pools-put rs client p row_others h)
+      ∙ ap (λ (m : FinMap nat_cmp ClientPool). record { clients = put s.clients client o; pools = m }) (pools-put rs client p row_others h)
 
   pub client-put : (ns : Nodes) (client : ℕ) (o : Option Client) → SameApart client table ns → seen_in ns rows client ≡ o → roster ns rows ≡ with_client s client o
   client-put ns client o others e =
       ap (λ (m : FinMap nat_cmp Client). record { clients = m; pools = mapped (λ k r. r.pool) rows }) (clients-put ns rows client o others (λ q ne. refl) e)
       ∙ ap (λ (r : Roster). record { clients = put s.clients client o; pools = r.pools }) view
 
-  pub pool-put : (rs : Rows) (client : ℕ) (p : Option Pool) → SameApart client rows rs → seen_in table rs client ≡ get s.clients client → option_map (λ r. r.pool) (get rs client) ≡ p → roster table rs ≡ with_pool s client p
+  pub pool-put : (rs : Rows) (client : ℕ) (p : Option ClientPool) → SameApart client rows rs → seen_in table rs client ≡ get s.clients client → option_map (λ r. r.pool) (get rs client) ≡ p → roster table rs ≡ with_pool s client p
   pool-put rs client p row_others e h =
       both-put table rs client (get s.clients client) p (λ q ne. refl) row_others e h
       ∙ ap (λ (m : FinMap nat_cmp Client). record { clients = m; pools = put s.pools client p }) (sym (put_again s.clients client (get s.clients client) refl))
@@ -258,12 +258,12 @@ module _ (table : Nodes) (rows : Rows) (s : Roster) (kept : AreRowsKept table ro
 
   module _ (client : ℕ) (name : List ℕ) (in_size out_size : ℕ) where
     opened_nodes : Nodes
-    opened_nodes = FinMap.insert table client (nodes.new_client name)
+    opened_nodes = FinMap.insert table client (nodes.empty_client name)
 
     opened_rows : Rows
     opened_rows = FinMap.insert rows client (new_row in_size out_size)
 
-    opened-seen : client_seen (new_row in_size out_size) (nodes.new_client name) ≡ new_client name in_size out_size
+    opened-seen : client_seen (new_row in_size out_size) (nodes.empty_client name) ≡ new_client name in_size out_size
     opened-seen =
         ap (λ (ps : FinMap nat_cmp PortInfo). record { name = name; in_size = in_size; out_size = out_size; ports = ps; filters = mapped (λ n y. filter_seen y) FinMap.empty; queues = FinMap.empty }) (mapped-empty (λ n y. port_seen y))
         ∙ ap (λ (fs : FinMap nat_cmp FilterInfo). record { name = name; in_size = in_size; out_size = out_size; ports = FinMap.empty; filters = fs; queues = FinMap.empty }) (mapped-empty (λ n y. filter_seen y))
@@ -272,19 +272,19 @@ module _ (table : Nodes) (rows : Rows) (s : Roster) (kept : AreRowsKept table ro
     unfolding opened_nodes opened_rows
     opened-roster =
         both-put opened_nodes opened_rows client (Some (new_client name in_size out_size)) (Some (empty_pool in_size))
-        (λ q ne. get-insert_other table client (nodes.new_client name) q ne) (λ q ne. get-insert_other rows client (new_row in_size out_size) q ne)
+        (λ q ne. get-insert_other table client (nodes.empty_client name) q ne) (λ q ne. get-insert_other rows client (new_row in_size out_size) q ne)
         (ap (λ (r : Option ClientRow). option_map (client_seen (unwrap_or r (new_row 0 0))) (get opened_nodes client)) (get-insert_same rows client (new_row in_size out_size))
-        ∙ ap (option_map (client_seen (new_row in_size out_size))) (get-insert_same table client (nodes.new_client name)) ∙ ap Some opened-seen)
+        ∙ ap (option_map (client_seen (new_row in_size out_size))) (get-insert_same table client (nodes.empty_client name)) ∙ ap Some opened-seen)
         (ap (option_map (λ r. r.pool)) (get-insert_same rows client (new_row in_size out_size)))
 
     opened-kept : AreRowsKept opened_nodes opened_rows
     unfolding opened_nodes opened_rows
     opened-kept =
-        kept-both opened_nodes opened_rows client (λ q ne. get-insert_other table client (nodes.new_client name) q ne) (λ q ne. get-insert_other rows client (new_row in_size out_size) q ne)
-        (ap is_some (get-insert_same rows client (new_row in_size out_size)) ∙ sym (ap is_some (get-insert_same table client (nodes.new_client name))))
-        (subst (λ (o : Option (ClientNodes NodeBody)). Fits o) (sym (get-insert_same table client (nodes.new_client name))) (fits-opened name))
+        kept-both opened_nodes opened_rows client (λ q ne. get-insert_other table client (nodes.empty_client name) q ne) (λ q ne. get-insert_other rows client (new_row in_size out_size) q ne)
+        (ap is_some (get-insert_same rows client (new_row in_size out_size)) ∙ sym (ap is_some (get-insert_same table client (nodes.empty_client name))))
+        (subst (λ (o : Option (ClientNodes NodeBody)). Fits o) (sym (get-insert_same table client (nodes.empty_client name))) (fits-opened name))
 
-    module _ (ns : Nodes) (rs : Rows) (r : ClientRow) (e : ns ≡ FinMap.insert table client (nodes.new_client name)) (h : rs ≡ FinMap.insert rows client r) (is : r ≡ new_row in_size out_size) where
+    module _ (ns : Nodes) (rs : Rows) (r : ClientRow) (e : ns ≡ FinMap.insert table client (nodes.empty_client name)) (h : rs ≡ FinMap.insert rows client r) (is : r ≡ new_row in_size out_size) where
       with_new : rs ≡ FinMap.insert rows client (new_row in_size out_size)
       with_new = h ∙ ap (FinMap.insert rows client) is
 
@@ -342,10 +342,10 @@ module _ (table : Nodes) (rows : Rows) (s : Roster) (kept : AreRowsKept table ro
     row-seen g alike same =
         both-put table rs client (with_change (get s.clients client) g) (get s.pools client) (λ q ne. refl) back_apart (seen-with g alike)
         (ap (option_map (λ q. q.pool)) back_here ∙ ap Some same ∙ ap (option_map (λ q. q.pool)) was ∙ sym (get-pool table rows s kept view client))
-        ∙ ap (λ (m : FinMap nat_cmp Pool). record { clients = put s.clients client (with_change (get s.clients client) g); pools = m }) (sym (put_again s.pools client (get s.pools client) refl))
+        ∙ ap (λ (m : FinMap nat_cmp ClientPool). record { clients = put s.clients client (with_change (get s.clients client) g); pools = m }) (sym (put_again s.pools client (get s.pools client) refl))
 
     -- the client is seen as it was, with another pool
-    pub pool-seen : (f : Pool → Pool) → ((c : ClientNodes NodeBody) → client_seen with c ≡ client_seen r c) → with.pool ≡ f r.pool → roster table rs ≡ with_pool s client (option_map f (get s.pools client))
+    pub pool-seen : (f : ClientPool → ClientPool) → ((c : ClientNodes NodeBody) → client_seen with c ≡ client_seen r c) → with.pool ≡ f r.pool → roster table rs ≡ with_pool s client (option_map f (get s.pools client))
     pool-seen f alike is =
         pool-put rs client (option_map f (get s.pools client)) back_apart (seen-with (λ c. c) alike ∙ same (get s.clients client))
         (ap (option_map (λ q. q.pool)) back_here ∙ ap Some is ∙ ap (λ (o : Option ClientRow). option_map f (option_map (λ q. q.pool) o)) was ∙ ap (option_map f) (sym (get-pool table rows s kept view client)))
@@ -358,9 +358,9 @@ module _ (table : Nodes) (rows : Rows) (s : Roster) (kept : AreRowsKept table ro
     pub pool-same : ((c : ClientNodes NodeBody) → client_seen with c ≡ client_seen r c) → with.pool ≡ r.pool → roster table rs ≡ s
     pool-same alike is =
         pool-seen (λ p. p) alike is
-        ∙ ap (λ (m : FinMap nat_cmp Pool). record s { pools = m }) (sym (put_again s.pools client (option_map (λ p. p) (get s.pools client)) (same (get s.pools client))))
+        ∙ ap (λ (m : FinMap nat_cmp ClientPool). record s { pools = m }) (sym (put_again s.pools client (option_map (λ p. p) (get s.pools client)) (same (get s.pools client))))
       where
-        same : (o : Option Pool) → o ≡ option_map (λ p. p) o
+        same : (o : Option ClientPool) → o ≡ option_map (λ p. p) o
         same None = refl
         same (Some p) = refl
 
@@ -392,9 +392,9 @@ module _ (table : Nodes) (rows : Rows) (s : Roster) (kept : AreRowsKept table ro
         ap (roster table) as_were ∙ view ∙ ap (λ (m : FinMap nat_cmp Client). record s { clients = m }) (put_again s.clients client None (sym closed))
         ∙ ap (λ (o : Option Client). with_client s client (with_change o g)) closed
 
-    pub absent-left : (f : Option Pool → Option Pool) → f None ≡ None → roster table rs ≡ with_pool s client (f (get s.pools client))
+    pub absent-left : (f : Option ClientPool → Option ClientPool) → f None ≡ None → roster table rs ≡ with_pool s client (f (get s.pools client))
     absent-left f e =
-        ap (roster table) as_were ∙ view ∙ ap (λ (m : FinMap nat_cmp Pool). record s { pools = m }) (put_again s.pools client None (sym absent-pool))
+        ap (roster table) as_were ∙ view ∙ ap (λ (m : FinMap nat_cmp ClientPool). record s { pools = m }) (put_again s.pools client None (sym absent-pool))
         ∙ ap (with_pool s client) (sym e ∙ ap f absent-pool)
 
   -- a message is offered to the pool of a row, if it is there

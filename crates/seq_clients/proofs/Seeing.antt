@@ -10,7 +10,7 @@ use Rattle.node_table.specs.Nodes.{NodeSeen, ClientNodes, node_at, node_in, port
 use Rattle.node_table.specs.declared.number.Addr.{Addr}
 use Rattle.node_table.specs.declared.number.Node.{Node}
 use Rattle.node_table.specs.declared.number.Node.TheVariants.{Port, Filter}
-use Rattle.seq_state.specs.State.{Client, Pool}
+use Rattle.seq_state.specs.State.{Client, ClientPool}
 use Rattle.seq_state.specs.Own.{port_of, filter_of, node_caps, port_caps, filter_caps}
 use Rattle.seq_state.specs.Step.{port_addr, filter_addr}
 use Rattle.seq_clients.specs.Bodies.{rule_in, rule_of, is_body_for}
@@ -36,7 +36,7 @@ pub empty-roster : (nodes : Nodes) (rows : Rows) → nodes ≡ FinMap.empty → 
 empty-roster nodes rows e h =
     ap (λ (n : Nodes). roster n rows) e ∙ ap (roster FinMap.empty) h
     ∙ ap (λ (m : FinMap nat_cmp Client). record { clients = m; pools = (roster FinMap.empty FinMap.empty).pools }) (mapped-empty (λ client c. client_seen (row_at FinMap.empty client) c))
-    ∙ ap (λ (m : FinMap nat_cmp Pool). record { clients = FinMap.empty; pools = m }) (mapped-empty (λ client r. r.pool))
+    ∙ ap (λ (m : FinMap nat_cmp ClientPool). record { clients = FinMap.empty; pools = m }) (mapped-empty (λ client r. r.pool))
 
 pub none_in : (nd : Node) → node_in {P = NodeBody} None nd ≡ None
 none_in (Port n) = get-empty nat_cmp n

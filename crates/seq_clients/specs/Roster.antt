@@ -5,12 +5,12 @@ use Rattle.std.specs.Coded.{Coded, code_by, coded×, coded_ℕ}
 use Rattle.std.specs.FinMap
 use Rattle.std.specs.FinMap.{FinMap}
 use Rattle.cell_pools.specs.Pools.{coded_pool}
-use Rattle.seq_state.specs.State.{Client, Pool, Queue, coded_client, coded_arrival, put}
+use Rattle.seq_state.specs.State.{Client, ClientPool, Queue, coded_client, coded_arrival, put}
 
 -- the open clients, and their input pools
 pub record Roster : Type 0 where
   pub clients : FinMap nat_cmp Client
-  pub pools : FinMap nat_cmp Pool
+  pub pools : FinMap nat_cmp ClientPool
 
 -- nobody is open
 abbrev pub nobody : Roster
@@ -21,12 +21,12 @@ abbrev pub with_client : Roster → ℕ → Option Client → Roster
 with_client r n c = record r { clients = put r.clients n c }
 
 -- the same of its input pool
-abbrev pub with_pool : Roster → ℕ → Option Pool → Roster
+abbrev pub with_pool : Roster → ℕ → Option ClientPool → Roster
 with_pool r n p = record r { pools = put r.pools n p }
 
 abbrev pub coded_roster : Coded Roster
 coded_roster =
-    code_by (FinMap nat_cmp Client × FinMap nat_cmp Pool)
+    code_by (FinMap nat_cmp Client × FinMap nat_cmp ClientPool)
     (coded× (FinMap.code coded_ℕ coded_client) (FinMap.code coded_ℕ (coded_pool coded_arrival)))
     (λ r. (r.clients, r.pools)) (λ p. record { clients = p.0; pools = p.1 }) (λ _. refl)
 
@@ -37,12 +37,12 @@ input_size None = 0
 input_size (Some c) = c.in_size
 
 -- how many messages wait in its input pool
-abbrev pub waiting : Option Pool → ℕ
+abbrev pub waiting : Option ClientPool → ℕ
 waiting None = 0
 waiting (Some p) = length p.waiting
 
 -- how many found no room there
-abbrev pub lost : Option Pool → ℕ
+abbrev pub lost : Option ClientPool → ℕ
 lost None = 0
 lost (Some p) = p.lost
 

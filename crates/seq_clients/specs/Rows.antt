@@ -5,13 +5,13 @@ use Rattle.std.specs.Coded.{Coded, code_by, coded×, coded_ℕ}
 use Rattle.std.specs.FinMap
 use Rattle.std.specs.FinMap.{FinMap}
 use Rattle.cell_pools.specs.Pools.{coded_pool, empty_pool, after_offer}
-use Rattle.seq_state.specs.State.{Queue, Pool, coded_queue, coded_arrival}
+use Rattle.seq_state.specs.State.{Queue, ClientPool, coded_queue, coded_arrival}
 use Rattle.seq_state.specs.declared.log.Arrival.{Arrival}
 use Rattle.seq_clients.specs.declared.row.ClientRow.{ClientRow}
 
 abbrev pub coded_row : Coded ClientRow
 coded_row =
-    code_by (ℕ × (ℕ × (FinMap nat_cmp Queue × Pool)))
+    code_by (ℕ × (ℕ × (FinMap nat_cmp Queue × ClientPool)))
     (coded× coded_ℕ (coded× coded_ℕ
     (coded× (FinMap.code coded_ℕ coded_queue) (coded_pool coded_arrival))))
     (λ r. (r.in_size, (r.out_size, (r.queues, r.pool))))

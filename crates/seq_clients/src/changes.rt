@@ -10,7 +10,7 @@ ghost use Rattle.tempo_clock.specs.Clocks.{started, stopped, resumed, with_tempo
 ghost use Rattle.tempo_clock.specs.Entries.{is_tempo};
 ghost use Rattle.seq_state.specs.Own.{has_port, has_filter, port_of, filter_of, queue_of, with_change, put_port, put_filter, put_queue, new_client, new_port, new_filter, filter_ruled, fed_of, port_fed, held_queue, clocked, public, queue_changed, oldest, without_oldest};
 ghost use Rattle.seq_state.specs.State as state;
-ghost use Rattle.seq_state.specs.Step.{has_room};
+ghost use Rattle.seq_state.specs.Step.{pool_has_room};
 ghost use Rattle.seq_clients.specs.Roster.{with_client, with_pool};
 
 use crate::body::NodeBody;
@@ -26,8 +26,8 @@ use seq_state::Arrival;
 use tempo_clock::TempoMap;
 
 impl Clients {
-    /// Opens a client with a name, 1 to 32 visible characters of ASCII, and pools of these sizes, the input pool for 1 to
-    /// 2,000 messages. `Err` leaves all as it was.
+    /// Opens a client with a name, 1 to 32 visible characters of ASCII, and pools of these sizes, the input pool for 1
+    /// to 2,000 messages. `Err` leaves all as it was.
     pub fn open(
         &mut self,
         client: ClientId,
@@ -128,7 +128,8 @@ impl Clients {
         }
     }
 
-    /// Feeds the stream of a port that is there: adds each message that is whole now to `out`, and answers their number.
+    /// Feeds the stream of a port that is there: adds each message that is whole now to `out`, and answers their
+    /// number.
     ///
     /// Memory is for the messages and for exclusive data. `Err` loses the stream's place and changes nothing else here;
     /// `out` may have gained the first of the messages.
@@ -216,8 +217,8 @@ impl Clients {
         }
     }
 
-    /// Sets one tempo, 1 to 16,777,215 microseconds per quarter note, from what a queue shows at a moment in nanoseconds on.
-    /// `Err` leaves all as it was.
+    /// Sets one tempo, 1 to 16,777,215 microseconds per quarter note, from what a queue shows at a moment in
+    /// nanoseconds on. `Err` leaves all as it was.
     pub fn set_tempo(
         &mut self,
         client: ClientId,
@@ -274,11 +275,11 @@ impl Clients {
         held
     }
 
-    /// Adds a message to what waits in the client's input pool where there is room, and else drops and counts it. It takes
-    /// no memory.
+    /// Adds a message to what waits in the client's input pool where there is room, and else drops and counts it. It
+    /// takes no memory.
     #[inline]
     pub fn offer(&mut self, client: ClientId, arrival: Arrival) -> bool
-        ensures kept { result ≡ has_room (get self.old.pools client) }
+        ensures kept { result ≡ pool_has_room (get self.old.pools client) }
         ensures after { let offered = option_map (λ p. after_offer p arrival) in
             self.new ≡ with_pool self.old client (offered (get self.old.pools client)) }
     {

@@ -18,8 +18,8 @@ use std::marker::Model;
 
 /// The open clients, each with its ports, filters and queues, the sizes of its pools, and its input pool.
 ///
-/// What a call asks for is found in constant time. What a call needs of its arguments stands in its contract, so no call
-/// refuses: `Err` is want of memory.
+/// What a call asks for is found in constant time. What a call needs of its arguments stands in its contract, so no
+/// call refuses: `Err` is want of memory.
 #[derive(Drop)]
 pub struct Clients {
     pub(crate) alloc: Global,

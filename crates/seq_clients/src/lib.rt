@@ -1,5 +1,5 @@
-//! The open clients: their ports with streams, their filters with rules, their queues with clocks, and the pools of what
-//! waits to be read.
+//! The open clients: their ports with streams, their filters with rules, their queues with clocks, and the pools of
+//! what waits to be read.
 //!
 //! Every contract of `Clients` is an equation with the definitions of `seq_state`.
 #![tactic(auto)]

@@ -37,8 +37,8 @@ impl PortStream {
         }
     }
 
-    /// Takes the next piece of the stream, adds each message that is whole now to `out`, and answers their number. Want of
-    /// memory loses the stream's place.
+    /// Takes the next piece of the stream, adds each message that is whole now to `out`, and answers their number. Want
+    /// of memory loses the stream's place.
     pub(crate) fn feed(
         &mut self,
         bytes: &[u8],

@@ -4,7 +4,7 @@ ghost use Rattle.std.specs.Prelude.{◌≡◌, ◌+◌, ◌<◌, OnOk, OnErr};
 ghost use Rattle.std.specs.Option.{option_copied, option_map};
 ghost use Rattle.std.specs.FinMap as map;
 ghost use Rattle.seq_state.specs.State.{put};
-ghost use Rattle.seq_state.specs.Step.{has_room};
+ghost use Rattle.seq_state.specs.Step.{pool_has_room};
 ghost use Rattle.seq_clients.specs.Rows.{row_offered};
 
 use crate::row::ClientRow;
@@ -81,7 +81,7 @@ impl RowTable {
     /// Offers a message to the input pool of a client that may be there.
     pub(crate) fn offer(&mut self, client: ClientId, arrival: Arrival) -> bool
         ensures kept { let pool = option_map (λ r. r.pool) (map.get self.old client) in
-            result ≡ has_room pool }
+            result ≡ pool_has_room pool }
         ensures after { let row = option_map (row_offered arrival) (map.get self.old client) in
             self.new ≡ put self.old client row }
     {

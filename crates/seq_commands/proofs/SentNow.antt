@@ -1,5 +1,6 @@
 -- What is sent at once, and what is left of the state.
 use Rattle.std.proofs.Common.{◌≡◌, ℕ, Bool, true, false, not, cond, eqb, List, [], ◌∷◌, ◌++◌, map, length, Option, Some, None, refl, sym, ap, ◌∙◌, append-nil}
+use Rattle.std.specs.Option.{option_and_then}
 use Rattle.std.specs.Prelude.{is_some}
 use Rattle.std.specs.List.{filter_map}
 use Rattle.std.specs.Ordering.{nat_cmp}
@@ -17,9 +18,9 @@ use Rattle.seq_state.specs.declared.log.Delivery.{Delivery}
 use Rattle.seq_state.specs.declared.log.Reply.{Reply}
 use Rattle.seq_state.specs.declared.log.Reply.TheVariants.{Done, Messages}
 use Rattle.seq_state.specs.declared.refusal.Refusal.TheVariants.{NotOpen, NoNode}
-use Rattle.seq_state.specs.State.{PortInfo, Client, Pool, State, filters_of, put}
+use Rattle.seq_state.specs.State.{PortInfo, Client, ClientPool, State, filters_of, put}
 use Rattle.seq_state.specs.Own.{with_change, has_port, put_port, port_fed, port_of, fed_of}
-use Rattle.seq_state.specs.Copies.{filter_at, passed_by, and_then, carried, copy}
+use Rattle.seq_state.specs.Copies.{filter_at, passed_by, carried, copy}
 use Rattle.seq_state.specs.Table.{from_port, command_row, first_refusal}
 use Rattle.seq_state.specs.Step.{Stepped, port_addr, offered, delivered, sent, stepped, send_copies}
 use Rattle.seq_state.proofs.Effects.{get-put}
@@ -47,14 +48,14 @@ module _ (a b : FinMap nat_cmp Client) (same : SameFilters a b) where
   filter-same c (Port n) = refl
   filter-same c (Filter n) = ap (λ fs. FinMap.get fs n) (same c)
 
-  and-then : (o : Option (List ℕ)) (f g : List ℕ → Option (List ℕ)) → ((m : List ℕ) → f m ≡ g m) → and_then o f ≡ and_then o g
+  and-then : (o : Option (List ℕ)) (f g : List ℕ → Option (List ℕ)) → ((m : List ℕ) → f m ≡ g m) → option_and_then f o ≡ option_and_then g o
   and-then None f g e = refl
   and-then (Some m) f g e = e m
 
   carried-same : (es : List Edge) (message : List ℕ) → carried a es message ≡ carried b es message
   carried-same [] message = refl
   carried-same (e ∷ es) message =
-      ap (λ o. and_then (passed_by o message) (carried a es)) (filter-same e.target.client e.target.node)
+      ap (λ o. option_and_then (carried a es) (passed_by o message)) (filter-same e.target.client e.target.node)
       ∙ and-then (passed_by (filter_at b e.target.client e.target.node) message) (carried a es) (carried b es) (carried-same es)
 
   filter_map-agree : {X Y : Type 0} (f g : X → Option Y) → ((x : X) → f x ≡ g x) → (xs : List X) → filter_map f xs ≡ filter_map g xs
@@ -161,7 +162,7 @@ bytes-kept old turn port bytes fed r edges messages count accepted is told numbe
     let its : Option Client = FinMap.get (clients_of old) turn.actor in
     let after : Option Client = with_change its (put_port port (port_fed bytes (port_of its port))) in
     let cs : FinMap nat_cmp Client = put (clients_of old) turn.actor after in
-    let old_pools : FinMap nat_cmp Pool = old.patchbay.clients.pools in
+    let old_pools : FinMap nat_cmp ClientPool = old.patchbay.clients.pools in
     let all : FinMap nat_cmp Client → List (List ℕ) → List Delivery = λ x ms. copies_of_all x old.patchbay.graph turn.moment turn.actor port ms in
     sent-kept old r edges (step_in old turn (Bytes port bytes)) cs (fed_copies old turn port bytes) (Messages count)
     (bytes-step old turn port bytes accepted ∙ ap (λ n. stepped (sent (fed_state old turn port bytes) (fed_copies old turn port bytes)) (Messages n)) (sym number))

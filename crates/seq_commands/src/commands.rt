@@ -13,8 +13,8 @@ use memory::OutOfMemory;
 use seq_state::{Command, Delivery, Input, Refusal, Reply};
 
 impl Sequencer<'_, '_> {
-    /// Takes one input: sends all that is due by its moment, and then carries its command out or refuses it. What came to
-    /// ports is added to `out`.
+    /// Takes one input: sends all that is due by its moment, and then carries its command out or refuses it. What came
+    /// to ports is added to `out`.
     ///
     /// Want of memory leaves the sequencer in parts as it was and in parts not, and so of no use.
     pub fn step<A: Agenda>(

@@ -1,5 +1,5 @@
-//! What a sequencer does with each command: the clients with their subscriptions, what is still to be sent, and the files
-//! that may be played.
+//! What a sequencer does with each command: the clients with their subscriptions, what is still to be sent, and the
+//! files that may be played.
 //!
 //! Every contract here is an equation with the definitions of `seq_state`.
 #![tactic(auto)]

@@ -1,5 +1,5 @@
-//! What accepted commands on clients, ports and filters do. After an `Err`, which is want of memory, the sequencer is of
-//! no more use.
+//! What accepted commands on clients, ports and filters do. After an `Err`, which is want of memory, the sequencer is
+//! of no more use.
 
 ghost use Rattle.std.specs.Prelude.{◌≡◌, [], None, OnOk};
 ghost use Rattle.seq_state.specs.declared.input.Command.TheVariants as Command;

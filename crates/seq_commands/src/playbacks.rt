@@ -83,7 +83,8 @@ impl<'f, 'b> Sequencer<'f, 'b> {
         self.patchbay.clients_mut().close(turn.actor);
     }
 
-    /// Sends a message from a port when a queue comes to its time. `rank` is the number of the command among all inputs.
+    /// Sends a message from a port when a queue comes to its time. `rank` is the number of the command among all
+    /// inputs.
     pub(crate) fn schedule<A: Agenda>(
         &mut self,
         agenda: &mut A,
@@ -108,8 +109,8 @@ impl<'f, 'b> Sequencer<'f, 'b> {
         self.add_events(agenda, turn, rank, queue, port, event)
     }
 
-    /// Sends the messages of a file from a port, each when a queue comes to its tick. `rank` is the number of the command
-    /// among all inputs.
+    /// Sends the messages of a file from a port, each when a queue comes to its tick. `rank` is the number of the
+    /// command among all inputs.
     pub(crate) fn play<A: Agenda>(
         &mut self,
         agenda: &mut A,

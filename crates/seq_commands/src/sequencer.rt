@@ -97,8 +97,8 @@ impl<'f, 'b> Sequencer<'f, 'b> {
         )
     }
 
-    /// Who is there, as text: a line for each open client by number, each with its ports, filters and queues by number, and
-    /// then one for each subscription, the oldest first.
+    /// Who is there, as text: a line for each open client by number, each with its ports, filters and queues by number,
+    /// and then one for each subscription, the oldest first.
     pub fn listing(&self) -> Result<Vec<u8>, OutOfMemory>
         ensures { IfOk result (λ text. text.items
             ≡ listing (clients_of self.now) self.now.patchbay.graph) }

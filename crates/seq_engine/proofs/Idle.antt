@@ -7,7 +7,7 @@ use Rattle.std.specs.FinMap.{FinMap}
 use Rattle.std.proofs.lemmas.Bool.{cases_lt}
 use Rattle.agenda_heap.specs.declared.due_key.DueKey.{DueKey}
 use Rattle.agenda_heap.specs.Due.{NoneDue}
-use Rattle.seq_state.specs.State.{Client, Event, Pending, Pool, State}
+use Rattle.seq_state.specs.State.{Client, Event, Pending, ClientPool, State}
 use Rattle.patch_graph.specs.declared.edge.Edge.{Edge}
 use Rattle.seq_state.specs.Step.{Timed, is_at, event_moment, playback_at, all_at, upto, due}
 use Rattle.seq_settle.specs.Cells.{Cell, AreCells, AreFirstKeys, pending_in, first_moment, playbacks, seen}
@@ -49,7 +49,7 @@ at-moment clients p (x ∷ xs) k e s none =
     never : (t : Timed) (ts : List Timed) → t ∷ ts ≡ [] → ⊥
     never t ts e = cc
 
-pub none-due : (clients : FinMap nat_cmp Client) (pools : FinMap nat_cmp Pool) (edges : List Edge) (cells : FinMap nat_cmp Cell) (agenda : FinMap nat_cmp DueKey) (n m : ℕ) → AreCells cells n → AreFirstKeys clients cells agenda →
+pub none-due : (clients : FinMap nat_cmp Client) (pools : FinMap nat_cmp ClientPool) (edges : List Edge) (cells : FinMap nat_cmp Cell) (agenda : FinMap nat_cmp DueKey) (n m : ℕ) → AreCells cells n → AreFirstKeys clients cells agenda →
     due (seen clients pools edges cells n) m ≡ [] → NoneDue agenda m
 none-due clients pools edges cells agenda n m are keys none q k e = go (cases_lt m k.moment)
   where

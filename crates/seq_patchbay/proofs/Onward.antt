@@ -26,7 +26,7 @@ use Rattle.seq_state.proofs.Lists.{flat_map-append}
 use Rattle.seq_patchbay.specs.Carrying.{let_through, of_some, copies_by, copies_to, spread}
 use Rattle.seq_patchbay.specs.Ways.{copies_on, copies_along, AreWays, AreWaysKept}
 use Rattle.seq_patchbay.specs.declared.ways.Way.{Way}
-use Rattle.seq_patchbay.specs.declared.ways.Way.TheVariants.{Straight, Filtered, Parting, Blind}
+use Rattle.seq_patchbay.specs.declared.ways.Way.TheVariants.{Straight, Filtered, Parting, Nowhere}
 use Rattle.seq_patchbay.proofs.Sent.{spread-none, to-filter, to-only, by-port}
 
 -- ---- of what may have been stopped
@@ -72,6 +72,10 @@ module _ (clients : FinMap nat_cmp Client) (edges : List Edge) (moment : ℕ) wh
   unfolding spread
   spread-nowhere zero message = refl
   spread-nowhere (suc n) message = refl
+
+  pub to-nobody : (n : ℕ) (targets : List Addr) (message : List ℕ) → length targets ≡ 0 → spread clients edges moment n targets message ≡ []
+  to-nobody n [] message e = spread-nowhere n message
+  to-nobody n (t ∷ ts) message e = absurd (omega arith)
 
   -- nowhere, where there is no node behind it or no edge is left
   pub ends-at : (n : ℕ) (targets : List Addr) → length targets < 1 → (o : Option (List ℕ)) → of_some (λ m. spread clients edges moment n targets m) o ≡ []
@@ -129,7 +133,7 @@ module _ (a b : FinMap nat_cmp Client) (same : SameFilters a b) where
     on-same message (Straight end) = refl
     on-same message (Filtered rule end) = refl
     on-same message (Parting node) = to-same (λ ts m. spread a edges moment (hops - 1) ts m) (λ ts m. spread b edges moment (hops - 1) ts m) (λ ts m. spread-same (hops - 1) ts m) message node
-    on-same message Blind = refl
+    on-same message Nowhere = refl
 
   -- ways stay, where all filters do
   pub ways-same : (edges : List Edge) (targets : List Addr) (ways : List Way) → AreWays a edges targets ways → AreWays b edges targets ways

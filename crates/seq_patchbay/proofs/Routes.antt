@@ -1,7 +1,7 @@
 -- The copies of a message that goes on from node to node are those of its paths.
 use Rattle.std.proofs.Common.{◌≡◌, ℕ, zero, suc, Bool, true, false, if◌then◌else◌, List, [], ◌∷◌, ◌++◌, map, Option, Some, None, refl, sym, ap, ◌∙◌, append-nil, append_assoc}
 use Rattle.std.specs.List.{filter_map, flat_map}
-use Rattle.std.specs.Option.{option_to_list}
+use Rattle.std.specs.Option.{option_and_then, option_to_list}
 use Rattle.std.specs.Ordering.{nat_cmp}
 use Rattle.std.specs.FinMap
 use Rattle.std.specs.FinMap.{FinMap}
@@ -16,7 +16,7 @@ use Rattle.patch_graph.specs.Paths.{hops, paths, end_of, nodes_of, routes}
 use Rattle.patch_graph.proofs.Walked.{routes-tails}
 use Rattle.seq_state.specs.State.{Client, State}
 use Rattle.seq_state.specs.declared.log.Delivery.{Delivery}
-use Rattle.seq_state.specs.Copies.{filter_at, passed_by, and_then, carried, copy, copies}
+use Rattle.seq_state.specs.Copies.{filter_at, passed_by, carried, copy, copies}
 use Rattle.seq_settle.specs.Sends.{copies_of}
 use Rattle.seq_state.specs.Step.{port_addr}
 use Rattle.seq_patchbay.specs.Carrying.{of_some, copies_by, spread}
@@ -26,7 +26,7 @@ use Rattle.seq_patchbay.specs.Carrying.{of_some, copies_by, spread}
 -- what nodes, one after another, let through
 abbrev carried_by : FinMap nat_cmp Client → List Addr → List ℕ → Option (List ℕ)
 carried_by clients [] message = Some message
-carried_by clients (a ∷ rest) message = and_then (passed_by (filter_at clients a.client a.node) message) (carried_by clients rest)
+carried_by clients (a ∷ rest) message = option_and_then (carried_by clients rest) (passed_by (filter_at clients a.client a.node) message)
 
 abbrev last_of : Addr → List Addr → Addr
 last_of a [] = a
@@ -36,7 +36,7 @@ last_of a (b ∷ bs) = last_of b bs
 abbrev copy_along : FinMap nat_cmp Client → ℕ → Addr → List ℕ → List Addr → Option Delivery
 copy_along clients moment source message route = copy moment (last_of source route) (carried_by clients route message)
 
-and-then : (o : Option (List ℕ)) (f g : List ℕ → Option (List ℕ)) → ((m : List ℕ) → f m ≡ g m) → and_then o f ≡ and_then o g
+and-then : (o : Option (List ℕ)) (f g : List ℕ → Option (List ℕ)) → ((m : List ℕ) → f m ≡ g m) → option_and_then f o ≡ option_and_then g o
 and-then None f g same = refl
 and-then (Some m) f g same = same m
 
@@ -97,7 +97,7 @@ module _ (clients : FinMap nat_cmp Client) (edges : List Edge) (moment : ℕ) wh
   along a message rs = filter_map (copy_along clients moment a message) rs
 
   abbrev onward : List (List Addr) → Addr → Option (List ℕ) → List Delivery
-  onward rs t o = filter_map (λ r. copy moment (last_of t r) (and_then o (carried_by clients r))) rs
+  onward rs t o = filter_map (λ r. copy moment (last_of t r) (option_and_then (carried_by clients r) o)) rs
 
   through-filter : (rs : List (List Addr)) (behind : List ℕ → List Delivery) (t : Addr) → ((m : List ℕ) → along t m rs ≡ behind m) → (o : Option (List ℕ)) → onward rs t o ≡ of_some behind o
   through-filter rs behind t same None = filter_map-never _ (λ r. refl) rs
@@ -123,7 +123,7 @@ module _ (clients : FinMap nat_cmp Client) (edges : List Edge) (moment : ℕ) wh
       one t further false e =
           ap (λ b. along a message (if b then map (λ r. t ∷ r) (tails n edges (targets_of edges t)) else (t ∷ []) ∷ [])) e
           ∙ filter_map-cons (copy_along clients moment a message) (t ∷ []) []
-          ∙ ap (λ o. option_to_list (copy moment t (and_then o (carried_by clients []))) ++ []) (port-passes clients t.client t.node message e)
+          ∙ ap (λ o. option_to_list (copy moment t (option_and_then (carried_by clients []) o)) ++ []) (port-passes clients t.client t.node message e)
           ∙ append-nil (option_to_list (copy moment t (Some message)))
           ∙ sym (ap (λ b. if b then of_some (behind t) (passed_by (filter_at clients t.client t.node) message) else option_to_list (copy moment t (Some message))) e)
 

@@ -15,10 +15,10 @@ use Rattle.patch_graph.specs.Cursor.{at_port}
 use Rattle.patch_graph.specs.Index.{targets_of}
 use Rattle.patch_graph.specs.declared.edge.Edge.{Edge}
 use Rattle.seq_state.specs.declared.log.Delivery.{Delivery}
-use Rattle.seq_state.specs.State.{Client, FilterInfo, Pool, put}
+use Rattle.seq_state.specs.State.{Client, FilterInfo, ClientPool, put}
 use Rattle.seq_state.specs.Own.{filter_of}
 use Rattle.seq_state.specs.Copies.{filter_at, passed_by, delivery, copy}
-use Rattle.seq_state.specs.Step.{has_room, arrival, offer, offered, delivered}
+use Rattle.seq_state.specs.Step.{pool_has_room, arrival, offer, offered, delivered}
 use Rattle.seq_state.proofs.Lists.{flat_map-append}
 use Rattle.seq_state.proofs.Settling.{offered-append, delivered-append}
 use Rattle.seq_settle.specs.Sends.{copies_of}
@@ -26,18 +26,18 @@ use Rattle.seq_patchbay.specs.Carrying.{let_through, of_some, copies_by, copies_
 
 -- ---- one copy
 
-pub offer-is : (o : Option Pool) (d : Delivery) → option_map (λ p. after_offer p (arrival d)) o ≡ offer o d
+pub offer-is : (o : Option ClientPool) (d : Delivery) → option_map (λ p. after_offer p (arrival d)) o ≡ offer o d
 offer-is None d = refl
 offer-is (Some p) d = refl
 
 -- the pools after one copy was offered
-pub offered-one : (pools : FinMap nat_cmp Pool) (d : Delivery) → put pools d.target.client (option_map (λ p. after_offer p (arrival d)) (FinMap.get pools d.target.client)) ≡ offered pools (d ∷ [])
+pub offered-one : (pools : FinMap nat_cmp ClientPool) (d : Delivery) → put pools d.target.client (option_map (λ p. after_offer p (arrival d)) (FinMap.get pools d.target.client)) ≡ offered pools (d ∷ [])
 offered-one pools d = ap (put pools d.target.client) (offer-is (FinMap.get pools d.target.client) d)
 
-pub delivered-room : (pools : FinMap nat_cmp Pool) (d : Delivery) → has_room (FinMap.get pools d.target.client) ≡ true → delivered pools (d ∷ []) ≡ d ∷ []
+pub delivered-room : (pools : FinMap nat_cmp ClientPool) (d : Delivery) → pool_has_room (FinMap.get pools d.target.client) ≡ true → delivered pools (d ∷ []) ≡ d ∷ []
 delivered-room pools d e = ap (λ b. cond b (d ∷ []) []) e
 
-pub delivered-none : (pools : FinMap nat_cmp Pool) (d : Delivery) → has_room (FinMap.get pools d.target.client) ≡ false → delivered pools (d ∷ []) ≡ []
+pub delivered-none : (pools : FinMap nat_cmp ClientPool) (d : Delivery) → pool_has_room (FinMap.get pools d.target.client) ≡ false → delivered pools (d ∷ []) ≡ []
 delivered-none pools d e = ap (λ b. cond b (d ∷ []) []) e
 
 -- ---- filters
@@ -100,7 +100,7 @@ module _ (clients : FinMap nat_cmp Client) (edges : List Edge) (moment : ℕ) wh
 
 -- what is still to be sent comes to what was to be sent, once the copies of the next node were offered
 pub sent-one : {X : Type 0} (f : X → List Delivery) (targets : List X) (i : ℕ) (t : X) (now : List Delivery) → i < length targets → t ≡ slice_index_or targets i t → f t ≡ now →
-    (pools pools' all : FinMap nat_cmp Pool) (out out' whole : List Delivery) → pools' ≡ offered pools now → out' ≡ out ++ delivered pools now →
+    (pools pools' all : FinMap nat_cmp ClientPool) (out out' whole : List Delivery) → pools' ≡ offered pools now → out' ≡ out ++ delivered pools now →
     offered pools (flat_map f (drop i targets)) ≡ all → out ++ delivered pools (flat_map f (drop i targets)) ≡ whole →
     (offered pools' (flat_map f (drop (i + 1) targets)) ≡ all) × (out' ++ delivered pools' (flat_map f (drop (i + 1) targets)) ≡ whole)
 sent-one f targets i t now l e same pools pools' all out out' whole o s p q =
@@ -122,14 +122,14 @@ module _ (clients : FinMap nat_cmp Client) (edges : List Edge) (moment client po
       ap (flat_map f) (take_more messages i m l ∙ ap (λ x. take i messages ++ x ∷ []) (sym e))
       ∙ flat_map-append f (take i messages) (m ∷ []) ∙ ap (λ xs. flat_map f (take i messages) ++ xs) (append-nil (f m))
 
-  pub offered-more : (i : ℕ) (m : List ℕ) → i < length messages → m ≡ get_or messages i m → (was now after : FinMap nat_cmp Pool) →
+  pub offered-more : (i : ℕ) (m : List ℕ) → i < length messages → m ≡ get_or messages i m → (was now after : FinMap nat_cmp ClientPool) →
       now ≡ offered was (copies_of_all clients edges moment client port (take i messages)) → after ≡ offered now (copies_of clients edges moment client port m) →
       after ≡ offered was (copies_of_all clients edges moment client port (take (i + 1) messages))
   offered-more i m l e was now after a b =
       b ∙ ap (λ p. offered p (copies_of clients edges moment client port m)) a
       ∙ offered-append was (copies_of_all clients edges moment client port (take i messages)) (copies_of clients edges moment client port m) ∙ ap (offered was) (sym (copies-more i m l e))
 
-  pub delivered-more : (i : ℕ) (m : List ℕ) → i < length messages → m ≡ get_or messages i m → (was now : FinMap nat_cmp Pool) (out out' out'' : List Delivery) →
+  pub delivered-more : (i : ℕ) (m : List ℕ) → i < length messages → m ≡ get_or messages i m → (was now : FinMap nat_cmp ClientPool) (out out' out'' : List Delivery) →
       now ≡ offered was (copies_of_all clients edges moment client port (take i messages)) → out' ≡ out ++ delivered was (copies_of_all clients edges moment client port (take i messages)) →
       out'' ≡ out' ++ delivered now (copies_of clients edges moment client port m) →
       out'' ≡ out ++ delivered was (copies_of_all clients edges moment client port (take (i + 1) messages))

@@ -18,14 +18,14 @@ use Rattle.seq_state.specs.declared.log.Delivery.{Delivery}
 use Rattle.seq_patchbay.specs.Carrying.{copies_to, spread}
 use Rattle.seq_patchbay.specs.Network.{Network}
 use Rattle.seq_patchbay.specs.declared.ways.Way.{Way}
-use Rattle.seq_patchbay.specs.declared.ways.Way.TheVariants.{Straight, Filtered, Parting, Blind}
+use Rattle.seq_patchbay.specs.declared.ways.Way.TheVariants.{Straight, Filtered, Parting, Nowhere}
 
 -- the copies of a message that goes a way
 abbrev pub copies_on : FinMap nat_cmp Client → List Edge → ℕ → List ℕ → Way → List Delivery
 copies_on clients edges moment message (Straight end) = option_to_list (copy moment (at_port end) (Some message))
 copies_on clients edges moment message (Filtered rule end) = option_to_list (copy moment (at_port end) (passed rule message))
 copies_on clients edges moment message (Parting node) = copies_to clients edges moment (hops - 1) node message
-copies_on clients edges moment message Blind = []
+copies_on clients edges moment message Nowhere = []
 
 -- the copies of a message that goes all these ways
 abbrev pub copies_along : FinMap nat_cmp Client → List Edge → ℕ → List Way → List ℕ → List Delivery

@@ -15,8 +15,8 @@ use seq_clients::{Clients, Queue};
 use std::alloc::Global;
 
 impl Patchbay {
-    /// Who is there, as text: a line for each open client by number, with its ports, its filters and its queues by number,
-    /// and then one for each subscription, the oldest first.
+    /// Who is there, as text: a line for each open client by number, with its ports, its filters and its queues by
+    /// number, and then one for each subscription, the oldest first.
     pub fn listing(&self, alloc: Global) -> Result<Vec<u8>, OutOfMemory>
         ensures { IfOk result (λ text.
             text.items ≡ listing self.now.clients.clients self.now.graph) }

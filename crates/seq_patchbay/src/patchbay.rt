@@ -106,9 +106,9 @@ impl Patchbay {
         out: &mut Vec<Message>,
     ) -> Result<usize, OutOfMemory>
         requires { has_port (get self.old.clients.clients client) port ≡ true }
-        ensures fed { let c = get self.old.clients.clients client in
+        ensures fed { let was = self.old.clients in let c = get was.clients client in
             let fed = put_port port (port_fed bytes.now (port_of c port)) in
-            OnOk result (self.new.clients ≡ with_client self.old.clients client (with_change c fed)) }
+            OnOk result (self.new.clients ≡ with_client was client (with_change c fed)) }
         ensures graph { self.new.graph ≡ self.old.graph }
         ensures told { let fed = fed_of (port_of (get self.old.clients.clients client) port) in
             OnOk result (out.new.items ≡ out.old.items ++ reading (fed ++ bytes.now)) }
@@ -181,6 +181,10 @@ impl Patchbay {
             return send_along(&mut self.clients, &self.graph, moment, ways, message, out);
         }
         let targets = self.graph.targets(source);
+        // What reaches nobody takes no memory.
+        if targets.is_empty() {
+            return Ok(());
+        }
         let ways = ways_to(self.alloc, &self.clients, &self.graph, targets)?;
         send_along(
             &mut self.clients,

@@ -71,12 +71,12 @@ fn send_by<M: Carried + Drop>(
             None => Ok(()),
         },
         Way::Parting(node) => send_to(clients, graph, moment, HOPS - 1, node, message, out),
-        Way::Blind => Ok(()),
+        Way::Nowhere => Ok(()),
     }
 }
 
-/// Sends a message on to nodes, along at most `hops` edges: a copy to each port whose client's pool has room, and what each
-/// filter lets through on to the nodes behind it.
+/// Sends a message on to nodes, along at most `hops` edges: a copy to each port whose client's pool has room, and what
+/// each filter lets through on to the nodes behind it.
 #[cycle(spread)]
 fn spread<M: Carried + Drop>(
     clients: &mut Clients,

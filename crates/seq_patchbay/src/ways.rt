@@ -32,7 +32,7 @@ pub(crate) enum Way {
     /// They go on to this node, since more than one way leads on from it or from a filter behind it.
     Parting(Addr),
     /// They come to no port.
-    Blind,
+    Nowhere,
 }
 
 /// The rule of two filters, one after the other. A filter that is not there lets all through.
@@ -60,14 +60,14 @@ fn way_to<'g>(clients: &Clients, graph: &'g PatchGraph, target: &'g Addr) -> Way
             Node::Filter(filter) => rule = chained(rule, clients.rule(client, filter)),
         }
         if hops == 0 {
-            return Way::Blind;
+            return Way::Nowhere;
         }
         match graph.targets(node) {
             [next] => {
                 node = next;
                 hops -= 1;
             }
-            [] => return Way::Blind,
+            [] => return Way::Nowhere,
             _ => return Way::Parting(*target),
         }
     }

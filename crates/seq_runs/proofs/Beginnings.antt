@@ -15,7 +15,7 @@ use Rattle.patch_graph.specs.declared.edge.Edge.{Edge}
 use Rattle.seq_state.specs.declared.input.Command.TheVariants.{Open, CreatePort, Connect, CreateQueue, Start}
 use Rattle.seq_state.specs.declared.input.Input.{Input}
 use Rattle.seq_state.specs.Files.{File}
-use Rattle.seq_state.specs.State.{Client, Event, Pool, State}
+use Rattle.seq_state.specs.State.{Client, Event, ClientPool, State}
 use Rattle.seq_state.specs.Own.{new_client, new_port, put_port, put_queue}
 use Rattle.seq_state.specs.Table.{command_row}
 use Rattle.seq_state.specs.Step.{Stepped, port_addr, caps_at}
@@ -25,13 +25,13 @@ use Rattle.seq_runs.proofs.CommandSteps.{holding, opened, joined, still, opens, 
 use Rattle.seq_runs.proofs.Worked.{finds}
 
 -- the state with all but what is pending changed
-abbrev pub around : State → FinMap nat_cmp Client → FinMap nat_cmp Pool → List Edge → State
+abbrev pub around : State → FinMap nat_cmp Client → FinMap nat_cmp ClientPool → List Edge → State
 around s clients pools edges = record s { clients = clients; pools = pools; edges = edges }
 
 -- nothing is due by a moment, whatever becomes of clients other than this and of all not pending
 abbrev pub IsCalm : State → ℕ → ℕ → Type 0
 IsCalm s m owner =
-    (clients : FinMap nat_cmp Client) (pools : FinMap nat_cmp Pool) (edges : List Edge) →
+    (clients : FinMap nat_cmp Client) (pools : FinMap nat_cmp ClientPool) (edges : List Edge) →
     FinMap.get clients owner ≡ FinMap.get s.clients owner →
     Settles (around s clients pools edges) m (around s clients pools edges) []
 

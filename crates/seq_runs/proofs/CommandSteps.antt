@@ -19,7 +19,7 @@ use Rattle.seq_state.specs.declared.log.Reply.TheVariants.{Done, Messages, Refus
 use Rattle.seq_state.specs.declared.refusal.Refusal.{Refusal}
 use Rattle.seq_state.specs.Files.{File}
 use Rattle.seq_state.specs.Refusals.{number_of}
-use Rattle.seq_state.specs.State.{Client, Pool, Event, Playback, State, put}
+use Rattle.seq_state.specs.State.{Client, ClientPool, Event, Playback, State, put}
 use Rattle.seq_state.specs.Own.{Own, done_with, new_client, playback, pool_status, queue_status}
 use Rattle.seq_state.specs.Table.{command_row, connected, disconnected, from_port, queue_named}
 use Rattle.seq_state.specs.Step.{Stepped, sent, send_copies, without_due, event_copies, loses, drops, used, with_own, named_queue, row_of, refusal_of, unless, command_step}
@@ -36,11 +36,11 @@ use Rattle.seq_runs.proofs.Worked.{to, settled_to, moved, with_own-moved, answer
 abbrev pub holding : State → ℕ → Client → State
 holding s actor c = record s { clients = FinMap.insert s.clients actor c }
 
-abbrev pub filled : ℕ → List Arrival → ℕ → Pool
+abbrev pub filled : ℕ → List Arrival → ℕ → ClientPool
 filled size waiting lost = record { size = size; waiting = waiting; lost = lost }
 
 -- its input pool is this
-abbrev pub pooled : State → ℕ → Pool → State
+abbrev pub pooled : State → ℕ → ClientPool → State
 pooled s client p = record s { pools = FinMap.insert s.pools client p }
 
 -- the client is open
@@ -107,7 +107,7 @@ sorts s m u ds e = record { settles = settle-sorted s m ∙ e }
 -- ---- what stays
 
 -- the client has this, and its input pool that
-abbrev given : State → ℕ → Option Client → (Option Pool → Option Pool) → State
+abbrev given : State → ℕ → Option Client → (Option ClientPool → Option ClientPool) → State
 given s actor client pool =
     record s {
       clients = put s.clients actor client;
@@ -116,7 +116,7 @@ given s actor client pool =
 
 module _ (s : State) (actor : ℕ) (q : Option QueueAddr) where
   -- nothing of the actor's goes
-  with_own-kept : (client : Option Client) (pool : Option Pool → Option Pool) →
+  with_own-kept : (client : Option Client) (pool : Option ClientPool → Option ClientPool) →
       with_own s actor q (record (done_with client) { pool = pool }) ≡ given s actor client pool
   with_own-kept client pool =
       let v : State = given s actor client pool in
@@ -188,7 +188,7 @@ module _ {s u : State} {m : ℕ} {ds : List Delivery} (files : List File) (first
   unfolding command_row
   opens name in_size out_size free named sized =
       let client : Option Client = Some (new_client name in_size out_size) in
-      let pool : Option Pool → Option Pool = λ p. Some (empty_pool in_size) in
+      let pool : Option ClientPool → Option ClientPool = λ p. Some (empty_pool in_size) in
       let v : State = opened u actor name in_size out_size in
       does (Open name in_size out_size) (record (done_with client) { pool = pool }) v v []
       (simp (free, named, sized)) (with_own-kept u actor None client pool) refl

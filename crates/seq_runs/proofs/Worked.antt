@@ -22,7 +22,7 @@ use Rattle.seq_state.specs.declared.log.Delivery.{Delivery}
 use Rattle.seq_state.specs.declared.log.Reply.{Reply}
 use Rattle.seq_state.specs.declared.log.Reply.TheVariants.{Done, Refused}
 use Rattle.seq_state.specs.Files.{File}
-use Rattle.seq_state.specs.State.{Pool, State, put}
+use Rattle.seq_state.specs.State.{ClientPool, State, put}
 use Rattle.seq_state.specs.declared.refusal.Refusal.{Refusal}
 use Rattle.seq_state.specs.Refusals.{number_of}
 use Rattle.seq_state.specs.Own.{Own}
@@ -55,7 +55,7 @@ moved s actor q own =
     }
 
 pub with_own-moved : (s : State) (actor : ℕ) (q : Option QueueAddr) (own : Own) →
-    ((p : Option Pool) → own.pool p ≡ p) → with_own s actor q own ≡ moved s actor q own
+    ((p : Option ClientPool) → own.pool p ≡ p) → with_own s actor q own ≡ moved s actor q own
 with_own-moved s actor q own h =
     ap (λ pools. record {
       clients = put s.clients actor own.client;

@@ -15,7 +15,7 @@ use Rattle.seq_state.specs.declared.refusal.Refusal.{Refusal}
 use Rattle.seq_state.specs.declared.refusal.Refusal.TheVariants as refusal
 use Rattle.seq_state.specs.Files.{File}
 use Rattle.seq_state.specs.Refusals.{number_of}
-use Rattle.seq_state.specs.State.{PortInfo, FilterInfo, Queue, Client, Pool, State, start}
+use Rattle.seq_state.specs.State.{PortInfo, FilterInfo, Queue, Client, ClientPool, State, start}
 use Rattle.seq_state.specs.Own.{held_queue, one_tempo}
 use Rattle.seq_state.specs.Step.{offer, step, port_addr, filter_addr}
 use Rattle.seq_runs.specs.Rows.{an_input, caps_by_bits, a_queue, a_note, a_delivery, an_arrival}
@@ -58,7 +58,7 @@ player n =
 abbrev pub listener : Client
 listener = record { name = codes "b"; in_size = 8; out_size = 8; ports = FinMap.insert FinMap.empty 0 in_port; filters = FinMap.empty; queues = FinMap.empty }
 
-abbrev pub pool : Pool
+abbrev pub pool : ClientPool
 pool = record { size = 8; waiting = []; lost = 0 }
 
 -- a player and a listener, a subscription from port to port, and one from filter to filter
@@ -134,7 +134,7 @@ pub record EachRefusal : Type 0 where
   pub out_full : IsRefused waiting_player (an_input 0 128 (Schedule (a_queue 128 0) 0 (due_at.Nanos 9) (a_note 60))) refusal.OutFull
 
 -- a full pool whose count of lost messages has come to its greatest value stays as it is
-abbrev pub worn_out : Pool
+abbrev pub worn_out : ClientPool
 worn_out = record { size = 1; waiting = an_arrival 0 0 (a_note 60) ∷ []; lost = 18446744073709551615 }
 
 abbrev pub LostStays : Type 0

@@ -11,7 +11,7 @@ use Rattle.seq_state.specs.declared.log.Delivery.{Delivery}
 use Rattle.seq_state.specs.declared.log.Reply.{Reply}
 use Rattle.seq_state.specs.declared.log.Reply.TheVariants.{Done, Queue, Received, Pools, Refused}
 use Rattle.seq_state.specs.Files.{File}
-use Rattle.seq_state.specs.State.{FilterInfo, Client, Pool, Pending, State}
+use Rattle.seq_state.specs.State.{FilterInfo, Client, ClientPool, Pending, State}
 use Rattle.seq_state.specs.Own.{held_queue, one_tempo, public}
 use Rattle.seq_state.specs.Step.{step, port_addr, filter_addr}
 use Rattle.seq_runs.specs.Rows.{an_input, caps_by_bits, a_queue, a_note, a_delivery, an_arrival, song}
@@ -63,7 +63,7 @@ guest =
     }
 
 -- what the listener has waiting, and what found no room before
-abbrev pub half_full : Pool
+abbrev pub half_full : ClientPool
 half_full = record { size = 2; waiting = an_arrival 3 0 (a_note 1) ∷ []; lost = 5 }
 
 -- the host's port leads through both filters to the listener's port 0, and the guest's to its port 1

@@ -1,7 +1,7 @@
 //! Runs of the sequencer that were worked out by hand, and an example of every refusal of every command.
 //!
-//! They are computed from the definitions of `seq_state`, so they show what those mean. Only `session_runs` stands on this
-//! crate.
+//! They are computed from the definitions of `seq_state`, so they show what those mean. Only `session_runs` stands on
+//! this crate.
 #![tactic(auto)]
 
 mod rows;

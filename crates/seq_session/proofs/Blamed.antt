@@ -7,7 +7,7 @@ use Rattle.seq_session.specs.declared.source.ScriptSource.{ScriptSource}
 use Rattle.seq_session.specs.Rising.{RiseFrom, AreRising}
 use Rattle.seq_session.specs.declared.source.Script.{Script}
 use Rattle.seq_session.specs.Sessions.{script_clients}
-use Rattle.seq_session.specs.Devices.{clients, script_told, told, unread, behind_script, behind_scripts, AreSound, AreOpen, is_of, is_of_writing, IsAmong, IsReading, ReadersTell, IsTold, LogsTell}
+use Rattle.seq_session.specs.Devices.{clients, script_told, told, unread, behind_script, behind_scripts, AreSound, AreOpen, is_blamed, is_of_writing, IsAmong, IsReading, ReadersTell, IsTold, LogsTell}
 use Rattle.seq_session.specs.declared.fault.SessionFault.{SessionFault}
 use Rattle.seq_session.specs.declared.fault.SessionFault.TheVariants.{OutOfMemory, Read, Write, WriteListing}
 
@@ -21,12 +21,12 @@ above low k (c ∷ cs) r h = go (eqb c k) refl (above c k cs r.1) h
     go false e later h = let l : c < k = later h in let m : low < c = r.0 in omega arith
 
 -- who is not among the later ones is not blamed with them
-pub not_first : (c : ℕ) (blamed : Option ℕ) (cs : List ℕ) → RiseFrom c cs → IfSome blamed (λ k. IsAmong k cs) → is_of blamed c ≡ false
+pub not_first : (c : ℕ) (blamed : Option ℕ) (cs : List ℕ) → RiseFrom c cs → IfSome blamed (λ k. IsAmong k cs) → is_blamed blamed c ≡ false
 not_first c None cs r h = refl
 not_first c (Some k) cs r h = let l : c < k = above c k cs r h in ne_eqb k c (λ e. omega arith)
 
 -- of those above the one who is blamed none is
-apart : (c d : ℕ) (blamed : Option ℕ) → c < d → IfSome blamed (λ k. k ≡ c) → is_of blamed d ≡ false
+apart : (c d : ℕ) (blamed : Option ℕ) → c < d → IfSome blamed (λ k. k ≡ c) → is_blamed blamed d ≡ false
 apart c d None l h = refl
 apart c d (Some k) l h = let same : k ≡ c = h in ne_eqb k d (λ e. omega arith)
 
@@ -48,7 +48,7 @@ module _ {R : Type 0} (failed : R → Bool) where
   -- the first has not failed, and among the later ones it is told already
   pub rest_told : (old x : ScriptSource R) (blamed : Option ℕ) (olds xs : List (ScriptSource R)) → x.client ≡ old.client → failed x.reader ≡ false → IfSome blamed (λ k. IsAmong k (clients olds)) → AreRising (clients (old ∷ olds)) → ReadersTell failed blamed xs → ReadersTell failed blamed (x ∷ xs)
   rest_told old x blamed olds xs same mark b rise more =
-      (mark ∙ sym (ap (is_of blamed) same ∙ not_first old.client blamed (clients olds) rise b), more)
+      (mark ∙ sym (ap (is_blamed blamed) same ∙ not_first old.client blamed (clients olds) rise b), more)
 
 -- ---- logs
 
@@ -62,7 +62,7 @@ module _ {W : Type 0} (failed eager : W → Bool) where
   later_open c low blamed (d ∷ cs) [] l r b n s = absurd (omega arith)
   later_open c low blamed (d ∷ cs) (log ∷ logs) l r b n s =
       let m : low < d = r.0 in
-      (sound_told log (is_of blamed d) s.0 (apart c d blamed (omega arith) b), later_open c d blamed cs logs (omega arith) r.1 b (omega arith) s.1)
+      (sound_told log (is_blamed blamed d) s.0 (apart c d blamed (omega arith) b), later_open c d blamed cs logs (omega arith) r.1 b (omega arith) s.1)
 
   -- nobody is blamed
   pub none_told : (cs : List ℕ) (logs : List W) → length logs ≡ length cs → AreOpen failed logs → LogsTell failed eager None cs logs

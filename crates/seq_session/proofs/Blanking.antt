@@ -13,7 +13,7 @@ use Rattle.seq_state.specs.declared.log.Reply.{Reply}
 use Rattle.seq_state.specs.declared.log.Reply.TheVariants.{Done, Refused, Messages, Received, Queue, Pools}
 use Rattle.seq_state.specs.declared.refusal.Refusal.{Refusal}
 use Rattle.seq_state.specs.declared.refusal.Refusal.TheVariants.{NotOpen, AlreadyOpen, BadName, BadSize, BadRule, NodeExists, NoNode, NoSender, NoDest, NotPermitted, AlreadyConnected, NotConnected, SourcesFull, Cycle, QueueExists, NotYours, NoQueue, QueueRunning, QueueStopped, NoFile, DivisionDiffers, BadTempo, BadTime, OutFull}
-use Rattle.seq_state.specs.Refusals.{number_of, name_of}
+use Rattle.seq_state.specs.Refusals.{number_of, refusal_name}
 use Rattle.seq_state.proofs.Lists.{both_left, both_right}
 use Rattle.script_text.specs.declared.reading.Skip.{Skip}
 use Rattle.script_text.specs.declared.reading.SkipReason.{SkipReason}
@@ -50,38 +50,38 @@ line-why PastEnd = refl
 line-why Late = refl
 line-why TooLong = refl
 
-line-name_of : (r : Refusal) → IsLine (name_of r)
-line-name_of NotOpen = refl
-line-name_of AlreadyOpen = refl
-line-name_of BadName = refl
-line-name_of BadSize = refl
-line-name_of BadRule = refl
-line-name_of NodeExists = refl
-line-name_of NoNode = refl
-line-name_of NoSender = refl
-line-name_of NoDest = refl
-line-name_of NotPermitted = refl
-line-name_of AlreadyConnected = refl
-line-name_of NotConnected = refl
-line-name_of SourcesFull = refl
-line-name_of Cycle = refl
-line-name_of QueueExists = refl
-line-name_of NotYours = refl
-line-name_of NoQueue = refl
-line-name_of QueueRunning = refl
-line-name_of QueueStopped = refl
-line-name_of NoFile = refl
-line-name_of DivisionDiffers = refl
-line-name_of BadTempo = refl
-line-name_of BadTime = refl
-line-name_of OutFull = refl
+line-refusal_name : (r : Refusal) → IsLine (refusal_name r)
+line-refusal_name NotOpen = refl
+line-refusal_name AlreadyOpen = refl
+line-refusal_name BadName = refl
+line-refusal_name BadSize = refl
+line-refusal_name BadRule = refl
+line-refusal_name NodeExists = refl
+line-refusal_name NoNode = refl
+line-refusal_name NoSender = refl
+line-refusal_name NoDest = refl
+line-refusal_name NotPermitted = refl
+line-refusal_name AlreadyConnected = refl
+line-refusal_name NotConnected = refl
+line-refusal_name SourcesFull = refl
+line-refusal_name Cycle = refl
+line-refusal_name QueueExists = refl
+line-refusal_name NotYours = refl
+line-refusal_name NoQueue = refl
+line-refusal_name QueueRunning = refl
+line-refusal_name QueueStopped = refl
+line-refusal_name NoFile = refl
+line-refusal_name DivisionDiffers = refl
+line-refusal_name BadTempo = refl
+line-refusal_name BadTime = refl
+line-refusal_name OutFull = refl
 
 line-name_in : (rs : List Refusal) (n : ℕ) → IsLine (name_in rs n)
 line-name_in [] n = refl
 line-name_in (r ∷ rs) n = go (eqb (number_of r) n) (line-name_in rs n)
   where
-    go : (b : Bool) → IsLine (name_in rs n) → IsLine (cond b (name_of r) (name_in rs n))
-    go true more = line-name_of r
+    go : (b : Bool) → IsLine (name_in rs n) → IsLine (cond b (refusal_name r) (name_in rs n))
+    go true more = line-refusal_name r
     go false more = more
 
 line-outcome : (reply : Reply) → IsLine (outcome reply)

@@ -111,9 +111,9 @@ abbrev pub log_blamed : {T : Type 0} → Result T SessionFault → Option ℕ
 log_blamed (Ok _) = None
 log_blamed (Err e) = log_of_fault e
 
-abbrev pub is_of : Option ℕ → ℕ → Bool
-is_of None client = false
-is_of (Some blamed) client = blamed == client
+abbrev pub is_blamed : Option ℕ → ℕ → Bool
+is_blamed None client = false
+is_blamed (Some blamed) client = blamed == client
 
 -- the answer blames the sink of the listing
 abbrev pub is_of_listing : SessionFault → Bool
@@ -148,7 +148,7 @@ IsAmong client clients = IsTrue (list_any (λ c. c == client) clients)
 -- a reader has failed where it is blamed, and nowhere else
 abbrev pub ReadersTell : {R : Type 0} → (R → Bool) → Option ℕ → List (ScriptSource R) → Type 0
 ReadersTell failed blamed sources =
-    AllByRecursion (λ s. failed s.reader ≡ is_of blamed s.client) sources
+    AllByRecursion (λ s. failed s.reader ≡ is_blamed blamed s.client) sources
 
 -- A sink that has failed is blamed; one that is blamed has failed, or may take no byte.
 pub record IsTold (failed eager blamed : Bool) : Type 0 where
@@ -158,6 +158,6 @@ pub record IsTold (failed eager blamed : Bool) : Type 0 where
 -- so of each log
 abbrev pub LogsTell : {W : Type 0} → (W → Bool) → (W → Bool) → Option ℕ → List ℕ → List W → Type 0
 LogsTell failed eager blamed (c ∷ clients) (log ∷ logs) =
-    IsTold (failed log) (eager log) (is_of blamed c) × LogsTell failed eager blamed clients logs
+    IsTold (failed log) (eager log) (is_blamed blamed c) × LogsTell failed eager blamed clients logs
 LogsTell failed eager blamed [] [] = Unit {0}
 LogsTell failed eager blamed _ _ = ⊥

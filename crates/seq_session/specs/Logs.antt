@@ -10,7 +10,7 @@ use Rattle.seq_state.specs.declared.log.Reply.{Reply}
 use Rattle.seq_state.specs.declared.log.Reply.TheVariants.{Done, Refused, Messages, Received, Queue, Pools}
 use Rattle.seq_state.specs.declared.refusal.Refusal.{Refusal}
 use Rattle.seq_state.specs.declared.refusal.Refusal.TheVariants.{NotOpen, AlreadyOpen, BadName, BadSize, BadRule, NodeExists, NoNode, NoSender, NoDest, NotPermitted, AlreadyConnected, NotConnected, SourcesFull, Cycle, QueueExists, NotYours, NoQueue, QueueRunning, QueueStopped, NoFile, DivisionDiffers, BadTempo, BadTime, OutFull}
-use Rattle.seq_state.specs.Refusals.{number_of, name_of}
+use Rattle.seq_state.specs.Refusals.{number_of, refusal_name}
 use Rattle.seq_state.specs.Circle.{is_to}
 use Rattle.script_text.specs.declared.reading.ScriptRead.{ScriptRead}
 use Rattle.script_text.specs.declared.reading.Skip.{Skip}
@@ -49,7 +49,7 @@ all_refusals =
 -- the name of the refusal that has the number
 abbrev pub name_in : List Refusal → ℕ → List ℕ
 name_in [] n = []
-name_in (r ∷ rs) n = if number_of r == n then name_of r else name_in rs n
+name_in (r ∷ rs) n = if number_of r == n then refusal_name r else name_in rs n
 
 abbrev pub name_numbered : ℕ → List ℕ
 name_numbered n = name_in all_refusals n

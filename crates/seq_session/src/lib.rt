@@ -1,7 +1,7 @@
 //! Sessions: the scripts of many clients, merged and run together, and the log of each.
 //!
-//! `run_sessions` goes from the bytes of scripts to the bytes of logs. Its contract says what each log gains, and that a log
-//! tells within a closed circle of clients what it tells in the session of the circle's scripts alone.
+//! `run_sessions` goes from the bytes of scripts to the bytes of logs. Its contract says what each log gains, and that
+//! a log tells within a closed circle of clients what it tells in the session of the circle's scripts alone.
 #![tactic(auto)]
 
 mod fault;

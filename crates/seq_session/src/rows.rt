@@ -2,8 +2,8 @@
 
 ghost use Rattle.seq_session.specs.Rows.{HostileLog, OtherLogs, BlankForms};
 
-/// The log of a script with lines that are skipped, and those of the others; a script that is too long, and a reply without
-/// a line; what blanking leaves of a log.
+/// The log of a script with lines that are skipped, and those of the others; a script that is too long, and a reply
+/// without a line; what blanking leaves of a log.
 pub fn worked_logs()
     ensures hostile { HostileLog }
     ensures others { OtherLogs }

@@ -60,8 +60,8 @@ pub fn run_sessions<'f, 'b, R: Source, W: Sink, A: Agenda + Drop>(
         → OnOk result (W.taken listing.new ≡ W.taken listing.old
         ++ listing_after files.now until (told R.left scripts.old)) }
 
-    // Where a circle of clients is closed round the owner of a log, what the log gains tells what it tells in the session
-    // of the circle's scripts alone, whatever all others say.
+    // Where a circle of clients is closed round the owner of a log, what the log gains tells what it tells in the
+    // session of the circle's scripts alone, whatever all others say.
     ensures isolated { AllTell R.tells scripts.old → TellAll W.tells logs.old
         → OnOk result (AreAlone files.now until W.taken
         (told R.left scripts.old) (told R.left scripts.old) logs.old logs.new) }

@@ -5,7 +5,7 @@ use Rattle.std.specs.FinMap
 use Rattle.std.specs.FinMap.{FinMap}
 use Rattle.std.proofs.lemmas.Bool.{false≢true, eqb-true}
 use Rattle.patch_graph.specs.declared.edge.Edge.{Edge}
-use Rattle.seq_state.specs.State.{Client, Pool, Event, Pending, State, put}
+use Rattle.seq_state.specs.State.{Client, ClientPool, Event, Pending, State, put}
 use Rattle.seq_state.specs.declared.log.Delivery.{Delivery}
 use Rattle.seq_state.specs.Step.{offered, delivered, is_left, settle}
 use Rattle.seq_state.proofs.Effects.{get-put}
@@ -41,7 +41,7 @@ keys_put clients cells agenda k o keys = record {
 -- ---- the loop
 
 -- What the loop keeps: from what it began with, the state and the deliveries of settling are those that it comes to.
-pub record Keeps (clients : FinMap nat_cmp Client) (edges : List Edge) (n m : ℕ) (goal : State) (told : List Delivery) (pools : FinMap nat_cmp Pool) (log : List Delivery) (cells : FinMap nat_cmp Cell) (agenda : FinMap nat_cmp DueKey) : Type 0 where
+pub record Keeps (clients : FinMap nat_cmp Client) (edges : List Edge) (n m : ℕ) (goal : State) (told : List Delivery) (pools : FinMap nat_cmp ClientPool) (log : List Delivery) (cells : FinMap nat_cmp Cell) (agenda : FinMap nat_cmp DueKey) : Type 0 where
   pub are : AreCells cells n
   pub keys : AreFirstKeys clients cells agenda
   pub state : (settle (seen clients pools edges cells n) m).state ≡ goal
@@ -70,7 +70,7 @@ given clients cells agenda n m k key are keys first =
     record { cell = h.0; event = f.0; rest = f.1; here = h.1; events = f.2 }
 
 -- one turn
-pub turn : (clients : FinMap nat_cmp Client) (edges : List Edge) (n m : ℕ) (goal : State) (told : List Delivery) (pools pools' : FinMap nat_cmp Pool) (log log' : List Delivery) (cells cells' : FinMap nat_cmp Cell) (agenda agenda' : FinMap nat_cmp DueKey)
+pub turn : (clients : FinMap nat_cmp Client) (edges : List Edge) (n m : ℕ) (goal : State) (told : List Delivery) (pools pools' : FinMap nat_cmp ClientPool) (log log' : List Delivery) (cells cells' : FinMap nat_cmp Cell) (agenda agenda' : FinMap nat_cmp DueKey)
     (k : ℕ) (key : DueKey) (r : Popped) (next : Option DueKey) → Keeps clients edges n m goal told pools log cells agenda → IsFirstDue agenda k key m →
     ((c : Cell) (e : Event) (es : List Event) → FinMap.get cells k ≡ Some c → c.1.events ≡ e ∷ es → Some r ≡ Some (popped c e es)) →
     ((c : Cell) (e : Event) (es : List Event) → FinMap.get cells k ≡ Some c → c.1.events ≡ e ∷ es → cells' ≡ put cells k (cell_rest c es)) →
@@ -98,7 +98,7 @@ turn clients edges n m goal told pools pools' log log' cells cells' agenda agend
     }
 
 -- and the cells have an event less
-pub turn_fewer : (clients : FinMap nat_cmp Client) (edges : List Edge) (n m : ℕ) (pools : FinMap nat_cmp Pool) (cells cells' : FinMap nat_cmp Cell) (agenda : FinMap nat_cmp DueKey) (k : ℕ) (key : DueKey) → AreCells cells n → AreFirstKeys clients cells agenda → IsFirstDue agenda k key m →
+pub turn_fewer : (clients : FinMap nat_cmp Client) (edges : List Edge) (n m : ℕ) (pools : FinMap nat_cmp ClientPool) (cells cells' : FinMap nat_cmp Cell) (agenda : FinMap nat_cmp DueKey) (k : ℕ) (key : DueKey) → AreCells cells n → AreFirstKeys clients cells agenda → IsFirstDue agenda k key m →
     ((c : Cell) (e : Event) (es : List Event) → FinMap.get cells k ≡ Some c → c.1.events ≡ e ∷ es → cells' ≡ put cells k (cell_rest c es)) → events_in (playbacks cells' n) < events_in (playbacks cells n)
 turn_fewer clients edges n m pools cells cells' agenda k key are keys first rest =
     let g : Given cells k = given clients cells agenda n m k key are keys first in
@@ -127,14 +127,14 @@ fresh_next clients n m cells agenda agenda1 k key r next are keys first event go
         are.apart q k o.0 (given clients cells agenda n m k key are keys first).cell o.1 (given clients cells agenda n m k key are keys first).here (o.3 ∙ rank)
 
 -- the end
-pub loop_end : (clients : FinMap nat_cmp Client) (edges : List Edge) (n m : ℕ) (goal : State) (told : List Delivery) (pools : FinMap nat_cmp Pool) (log : List Delivery) (cells : FinMap nat_cmp Cell) (agenda : FinMap nat_cmp DueKey) →
+pub loop_end : (clients : FinMap nat_cmp Client) (edges : List Edge) (n m : ℕ) (goal : State) (told : List Delivery) (pools : FinMap nat_cmp ClientPool) (log : List Delivery) (cells : FinMap nat_cmp Cell) (agenda : FinMap nat_cmp DueKey) →
     Keeps clients edges n m goal told pools log cells agenda → NoneDue agenda m → (seen clients pools edges cells n ≡ goal) × (log ≡ told)
 loop_end clients edges n m goal told pools log cells agenda kept none =
     let h = settle_end clients pools edges cells agenda n m kept.are kept.keys none in
     (sym h.0 ∙ kept.state, sym (append-nil log) ∙ ap (λ xs. log ++ xs) (sym h.1) ∙ kept.told_is)
 
 -- the same, where the turn's calls see equal clients and edges
-pub turn_from : (clients : FinMap nat_cmp Client) (edges : List Edge) (n m : ℕ) (goal : State) (told : List Delivery) (pools pools' : FinMap nat_cmp Pool) (log log' : List Delivery) (cells cells' : FinMap nat_cmp Cell) (agenda agenda1 agenda' : FinMap nat_cmp DueKey)
+pub turn_from : (clients : FinMap nat_cmp Client) (edges : List Edge) (n m : ℕ) (goal : State) (told : List Delivery) (pools pools' : FinMap nat_cmp ClientPool) (log log' : List Delivery) (cells cells' : FinMap nat_cmp Cell) (agenda agenda1 agenda' : FinMap nat_cmp DueKey)
     (k : ℕ) (key : DueKey) (r : Popped) (next : Option DueKey) → Keeps clients edges n m goal told pools log cells agenda → IsFirstDue agenda k key m →
     ((c : Cell) (e : Event) (es : List Event) → FinMap.get cells k ≡ Some c → c.1.events ≡ e ∷ es → Some r ≡ Some (popped c e es)) →
     ((c : Cell) (e : Event) (es : List Event) → FinMap.get cells k ≡ Some c → c.1.events ≡ e ∷ es → cells' ≡ put cells k (cell_rest c es)) →

@@ -9,7 +9,7 @@ use Rattle.std.specs.FinMap
 use Rattle.std.specs.FinMap.{FinMap}
 use Rattle.std.proofs.lemmas.Bool.{lt-leb, cases_lt}
 use Rattle.patch_graph.specs.declared.edge.Edge.{Edge}
-use Rattle.seq_state.specs.State.{Client, Pool, Event, Pending, State, put}
+use Rattle.seq_state.specs.State.{Client, ClientPool, Event, Pending, State, put}
 use Rattle.seq_state.specs.Step.{event_moment, is_by, all_at, upto, Timed, playback_after, is_left, event_copies, Settled, sent, settle}
 use Rattle.seq_state.proofs.Lists.{both_left, both_right, filter-all, list_all-weaker}
 use Rattle.seq_state.proofs.Settling.{upto-none}
@@ -103,7 +103,7 @@ module _ (clients : FinMap nat_cmp Client) (cells : FinMap nat_cmp Cell) (agenda
 
   -- ---- one event goes
 
-  module _ (pools : FinMap nat_cmp Pool) (edges : List Edge) (k m : ℕ) (key : DueKey) (first : IsFirstDue agenda k key m) (c : Cell) (here : FinMap.get cells k ≡ Some c) (e : Event) (es : List Event) (events : c.1.events ≡ e ∷ es) where
+  module _ (pools : FinMap nat_cmp ClientPool) (edges : List Edge) (k m : ℕ) (key : DueKey) (first : IsFirstDue agenda k key m) (c : Cell) (here : FinMap.get cells k ≡ Some c) (e : Event) (es : List Event) (events : c.1.events ≡ e ∷ es) where
     abbrev pub after : FinMap nat_cmp Cell
     after = put cells k (cell_rest c es)
 
@@ -206,7 +206,7 @@ same_after clients m (p ∷ ps) h l =
     ∙ ap (λ xs. p ∷ xs) more
 
 -- where nothing is due, settling does nothing
-pub settle_end : (clients : FinMap nat_cmp Client) (pools : FinMap nat_cmp Pool) (edges : List Edge) (cells : FinMap nat_cmp Cell) (agenda : FinMap nat_cmp DueKey) (n m : ℕ) → AreCells cells n → AreFirstKeys clients cells agenda → NoneDue agenda m →
+pub settle_end : (clients : FinMap nat_cmp Client) (pools : FinMap nat_cmp ClientPool) (edges : List Edge) (cells : FinMap nat_cmp Cell) (agenda : FinMap nat_cmp DueKey) (n m : ℕ) → AreCells cells n → AreFirstKeys clients cells agenda → NoneDue agenda m →
     ((settle (seen clients pools edges cells n) m).state ≡ seen clients pools edges cells n) × ((settle (seen clients pools edges cells n) m).delivered ≡ [])
 settle_end clients pools edges cells agenda n m are keys none =
     let s : State = seen clients pools edges cells n in

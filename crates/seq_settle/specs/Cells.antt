@@ -11,7 +11,7 @@ use Rattle.tempo_clock.specs.declared.due.Due.TheVariants.{Tick, Nanos}
 use Rattle.node_table.specs.Codes.{coded_queue_addr}
 use Rattle.node_table.specs.declared.number.QueueAddr.{QueueAddr}
 use Rattle.patch_graph.specs.declared.edge.Edge.{Edge}
-use Rattle.seq_state.specs.State.{Client, Pool, Event, Pending, State, coded_event}
+use Rattle.seq_state.specs.State.{Client, ClientPool, Event, Pending, State, coded_event}
 use Rattle.seq_state.specs.Step.{is_left}
 use Rattle.agenda_heap.specs.declared.due_key.DueKey.{DueKey}
 use Rattle.seq_settle.specs.Moments.{moment_at}
@@ -77,7 +77,7 @@ abbrev pub playbacks : FinMap nat_cmp Cell → ℕ → List Pending
 playbacks cells steps = ranked (at_rank cells) steps
 
 -- the plain state that is seen
-abbrev pub seen : FinMap nat_cmp Client → FinMap nat_cmp Pool → List Edge → FinMap nat_cmp Cell →
+abbrev pub seen : FinMap nat_cmp Client → FinMap nat_cmp ClientPool → List Edge → FinMap nat_cmp Cell →
     ℕ → State
 seen clients pools edges cells steps = record { clients = clients; pools = pools; edges = edges; pending = playbacks cells steps }
 

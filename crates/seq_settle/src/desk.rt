@@ -4,7 +4,7 @@ ghost use Rattle.std.specs.Prelude.{◌≡◌, List, ◌++◌, OnOk};
 ghost use Rattle.std.specs.Ordering.{nat_cmp};
 ghost use Rattle.std.specs.FinMap as map;
 ghost use Rattle.patch_graph.specs.declared.edge.Edge.{Edge};
-ghost use Rattle.seq_state.specs.State.{Client, Pool};
+ghost use Rattle.seq_state.specs.State.{Client, ClientPool};
 ghost use Rattle.seq_state.specs.Step.{offered, delivered};
 ghost use Rattle.seq_settle.specs.Moments.{moment_at};
 ghost use Rattle.seq_settle.specs.Sends.{copies_of};
@@ -19,7 +19,7 @@ use tempo_clock::Due;
 pub trait Desk {
     ghost clients: { Self → map.FinMap nat_cmp Client };
 
-    ghost pools: { Self → map.FinMap nat_cmp Pool };
+    ghost pools: { Self → map.FinMap nat_cmp ClientPool };
 
     ghost edges: { Self → List Edge };
 

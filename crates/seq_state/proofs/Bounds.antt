@@ -23,7 +23,7 @@ use Rattle.seq_state.specs.declared.log.Delivery.{Delivery}
 use Rattle.seq_state.specs.declared.refusal.Refusal.{Refusal}
 use Rattle.seq_state.specs.declared.refusal.Refusal.TheVariants as refusal
 use Rattle.seq_state.specs.Files.{File}
-use Rattle.seq_state.specs.State.{PortInfo, FilterInfo, Queue, Client, Pool, Playback, Pending, State, start, put}
+use Rattle.seq_state.specs.State.{PortInfo, FilterInfo, Queue, Client, ClientPool, Playback, Pending, State, start, put}
 use Rattle.cell_pools.specs.Pools.{empty_pool}
 use Rattle.seq_state.specs.Own.{Own, with_change, out_size, put_port, put_filter, put_queue, port_fed, port_of, filter_ruled, filter_of, queue_of, queue_map, clocked, public, new_port, new_filter, held_queue, one_tempo, file_queue, file_at, without_oldest}
 use Rattle.seq_state.specs.Table.{Asked, Condition, first_refusal, command_row, queue_named, connected, already_open, bad_name, bad_sizes, not_open, no_port, not_shared, none_named, bad_time, no_file, division_differs, no_sender, no_dest, not_permitted, already_connected}
@@ -47,53 +47,53 @@ none-of p q h xs = filter-apart p q (λ x a b. false≢true (sym (h x a) ∙ b))
 
 -- ---- input pools
 
-abbrev FitsPool : Option Pool → Type 0
-FitsPool o = (p : Pool) → o ≡ Some p → length p.waiting ≤ p.size
+abbrev FitsPool : Option ClientPool → Type 0
+FitsPool o = (p : ClientPool) → o ≡ Some p → length p.waiting ≤ p.size
 
 none_some : {X : Type 0} (x : X) → None ≡ Some x → ⊥
 none_some x e = cc
 
-some_pool : (p q : Pool) → ◌≡◌ {A = Option Pool} (Some p) (Some q) → p ≡ q
+some_pool : (p q : ClientPool) → ◌≡◌ {A = Option ClientPool} (Some p) (Some q) → p ≡ q
 some_pool p q e = ap unwrapped e
   where
-    unwrapped : Option Pool → Pool
+    unwrapped : Option ClientPool → ClientPool
     unwrapped None = p
     unwrapped (Some x) = x
 
-fits-some : (p : Pool) → length p.waiting ≤ p.size → FitsPool (Some p)
-fits-some p h q e = subst (λ (x : Pool). length x.waiting ≤ x.size) (some_pool p q e) h
+fits-some : (p : ClientPool) → length p.waiting ≤ p.size → FitsPool (Some p)
+fits-some p h q e = subst (λ (x : ClientPool). length x.waiting ≤ x.size) (some_pool p q e) h
 
-choose : (b : Bool) (x y : Pool) → (b ≡ true → length x.waiting ≤ x.size) → length y.waiting ≤ y.size → FitsPool (Some (cond b x y))
+choose : (b : Bool) (x y : ClientPool) → (b ≡ true → length x.waiting ≤ x.size) → length y.waiting ≤ y.size → FitsPool (Some (cond b x y))
 choose true x y h k = fits-some x (h refl)
 choose false x y h k = fits-some y k
 
-fits-offer : (o : Option Pool) (d : Delivery) → FitsPool o → FitsPool (offer o d)
+fits-offer : (o : Option ClientPool) (d : Delivery) → FitsPool o → FitsPool (offer o d)
 fits-offer None d h = h
 fits-offer (Some p) d h =
     let came : Arrival = record { moment = d.moment; port = d.target.port; message = d.message } in
     choose (nat_lt (length p.waiting) p.size) (record p { waiting = p.waiting ++ came ∷ [] }) (record p { lost = min (p.lost + 1) most_lost })
     (λ e. let l : length p.waiting < p.size = ltb-true (length p.waiting) p.size e in omega (arith, length-append p.waiting (came ∷ []))) (h p refl)
 
-fits-put : (pools : FinMap nat_cmp Pool) (k : ℕ) (o : Option Pool) → ((c : ℕ) → FitsPool (FinMap.get pools c)) → FitsPool o → (c : ℕ) → FitsPool (FinMap.get (put pools k o) c)
+fits-put : (pools : FinMap nat_cmp ClientPool) (k : ℕ) (o : Option ClientPool) → ((c : ℕ) → FitsPool (FinMap.get pools c)) → FitsPool o → (c : ℕ) → FitsPool (FinMap.get (put pools k o) c)
 fits-put pools k o h f c = subst (λ x. FitsPool x) (sym (get-put pools k o c)) (go (eqb c k))
   where
     go : (b : Bool) → FitsPool (cond b o (FinMap.get pools c))
     go true = f
     go false = h c
 
-fits-offered : (pools : FinMap nat_cmp Pool) (ds : List Delivery) → ((c : ℕ) → FitsPool (FinMap.get pools c)) → (c : ℕ) → FitsPool (FinMap.get (offered pools ds) c)
+fits-offered : (pools : FinMap nat_cmp ClientPool) (ds : List Delivery) → ((c : ℕ) → FitsPool (FinMap.get pools c)) → (c : ℕ) → FitsPool (FinMap.get (offered pools ds) c)
 fits-offered pools [] h c = h c
 fits-offered pools (d ∷ ds) h c =
-    let o : Option Pool = offer (FinMap.get pools d.target.client) d in
+    let o : Option ClientPool = offer (FinMap.get pools d.target.client) d in
     fits-offered (put pools d.target.client o) ds (fits-put pools d.target.client o h (fits-offer (FinMap.get pools d.target.client) d (h d.target.client))) c
 
-fits-taken : (max : ℕ) (o : Option Pool) → FitsPool o → FitsPool (without_oldest max o)
+fits-taken : (max : ℕ) (o : Option ClientPool) → FitsPool o → FitsPool (without_oldest max o)
 fits-taken max None h = h
 fits-taken max (Some p) h = let l : length p.waiting ≤ p.size = h p refl in fits-some (record p { waiting = drop max p.waiting }) (omega (arith, length-drop max p.waiting))
 
 -- ---- the sizes of input pools
 
-offer-size : (o : Option Pool) (d : Delivery) → pool_size (offer o d) ≡ pool_size o
+offer-size : (o : Option ClientPool) (d : Delivery) → pool_size (offer o d) ≡ pool_size o
 offer-size None d = refl
 offer-size (Some p) d = go (nat_lt (length p.waiting) p.size)
   where
@@ -101,20 +101,20 @@ offer-size (Some p) d = go (nat_lt (length p.waiting) p.size)
     go true = refl
     go false = refl
 
-put-size : (pools : FinMap nat_cmp Pool) (k : ℕ) (o : Option Pool) → pool_size o ≡ pool_size (FinMap.get pools k) → (c : ℕ) → pool_size (FinMap.get (put pools k o) c) ≡ pool_size (FinMap.get pools c)
+put-size : (pools : FinMap nat_cmp ClientPool) (k : ℕ) (o : Option ClientPool) → pool_size o ≡ pool_size (FinMap.get pools k) → (c : ℕ) → pool_size (FinMap.get (put pools k o) c) ≡ pool_size (FinMap.get pools c)
 put-size pools k o h c = ap pool_size (get-put pools k o c) ∙ go (eqb c k) refl
   where
     go : (b : Bool) → eqb c k ≡ b → pool_size (cond b o (FinMap.get pools c)) ≡ pool_size (FinMap.get pools c)
     go true e = h ∙ ap (λ i. pool_size (FinMap.get pools i)) (sym (eqb-true c k e))
     go false e = refl
 
-offered-size : (pools : FinMap nat_cmp Pool) (ds : List Delivery) (c : ℕ) → pool_size (FinMap.get (offered pools ds) c) ≡ pool_size (FinMap.get pools c)
+offered-size : (pools : FinMap nat_cmp ClientPool) (ds : List Delivery) (c : ℕ) → pool_size (FinMap.get (offered pools ds) c) ≡ pool_size (FinMap.get pools c)
 offered-size pools [] c = refl
 offered-size pools (d ∷ ds) c =
-    let o : Option Pool = offer (FinMap.get pools d.target.client) d in
+    let o : Option ClientPool = offer (FinMap.get pools d.target.client) d in
     offered-size (put pools d.target.client o) ds c ∙ put-size pools d.target.client o (offer-size (FinMap.get pools d.target.client) d) c
 
-taken-size : (max : ℕ) (o : Option Pool) → pool_size (without_oldest max o) ≡ pool_size o
+taken-size : (max : ℕ) (o : Option ClientPool) → pool_size (without_oldest max o) ≡ pool_size o
 taken-size max None = refl
 taken-size max (Some p) = refl
 
@@ -131,8 +131,8 @@ used-settled s m c =
 -- what a row leaves of what is used, and of the pool
 record Fits (used : ℕ) (client : Option Client) (own : Own) : Type 0 where
   room : (used ≤ out_size client → length own.added + used ≤ out_size own.client) ⊎ ((own.added ≡ []) × ((p : Playback) → own.dropped p ≡ true))
-  pool : (o : Option Pool) → FitsPool o → FitsPool (own.pool o)
-  size : (o : Option Pool) → pool_size o ≡ in_size client → pool_size (own.pool o) ≡ in_size own.client
+  pool : (o : Option ClientPool) → FitsPool o → FitsPool (own.pool o)
+  size : (o : Option ClientPool) → pool_size o ≡ in_size client → pool_size (own.pool o) ≡ in_size own.client
 
 same-size : (client : Option Client) (f : Client → Client) → ((c : Client) → (f c).out_size ≡ c.out_size) → out_size (with_change client f) ≡ out_size client
 same-size None f h = refl
@@ -183,7 +183,7 @@ one-added n m e l = grind (arith, nat_tests)
 
 -- a row that changes neither the sizes of the client nor what it has to send
 fits-same : (n : ℕ) (client : Option Client) (own : Own) (f : Client → Client) → ((c : Client) → (f c).out_size ≡ c.out_size) → ((c : Client) → (f c).in_size ≡ c.in_size) →
-    own.client ≡ with_change client f → own.added ≡ [] → ((o : Option Pool) → own.pool o ≡ o) → Fits n client own
+    own.client ≡ with_change client f → own.added ≡ [] → ((o : Option ClientPool) → own.pool o ≡ o) → Fits n client own
 fits-same n client own f out inn c a p = record {
   room = inl (λ l. omega (arith, nothing-added n client f out l, ap out_size c, ap length a));
   pool = λ o h. subst FitsPool (sym (p o)) h;

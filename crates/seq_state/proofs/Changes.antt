@@ -13,7 +13,7 @@ use Rattle.seq_state.specs.declared.input.Command.TheVariants.{Open, Close, Crea
 use Rattle.seq_state.specs.declared.log.Reply.TheVariants.{Received}
 use Rattle.seq_state.specs.declared.refusal.Refusal.{Refusal}
 use Rattle.seq_state.specs.Files.{File}
-use Rattle.seq_state.specs.State.{PortInfo, FilterInfo, Queue, Client, Pool, Playback, Pending, State, put}
+use Rattle.seq_state.specs.State.{PortInfo, FilterInfo, Queue, Client, ClientPool, Playback, Pending, State, put}
 use Rattle.seq_state.specs.Own.{Own, with_change, port_of, filter_of, queue_of, node_caps, filter_caps, put_port, put_filter, put_queue, port_fed, filter_ruled, queue_map, new_port, new_filter, held_queue, one_tempo, file_queue, file_at, clocked, public, oldest, without_oldest}
 use Rattle.seq_state.specs.Table.{Asked, command_row, queue_named}
 use Rattle.seq_state.specs.Step.{Stepped, is_left, loses, drops, pending_of, unless, asked, row_of, refusal_of, effect_of, command_step}
@@ -277,8 +277,8 @@ pending_law = record {
 
 pub receive_law : ReceiveLaw
 receive_law files s moment actor max before e r =
-    let after : Pool = record before { waiting = drop max before.waiting } in
-    let to : Option Pool → Stepped = λ o. record { state = record s { pools = put s.pools actor (without_oldest max o) }; delivered = []; reply = Received (oldest max o) } in
+    let after : ClientPool = record before { waiting = drop max before.waiting } in
+    let to : Option ClientPool → Stepped = λ o. record { state = record s { pools = put s.pools actor (without_oldest max o) }; delivered = []; reply = Received (oldest max o) } in
     let step : command_step files s moment actor (Receive max) ≡ to (Some before) =
     step-takes files s moment actor max ∙ ap (λ o. unless o s (to (FinMap.get s.pools actor))) r ∙ ap to e in (
       after,

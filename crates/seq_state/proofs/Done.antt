@@ -24,7 +24,7 @@ use Rattle.seq_state.specs.declared.log.Delivery.{Delivery}
 use Rattle.seq_state.specs.declared.log.Reply.{Reply}
 use Rattle.seq_state.specs.declared.log.Reply.TheVariants.{Done, Messages}
 use Rattle.seq_state.specs.Files.{File}
-use Rattle.seq_state.specs.State.{Client, Pool, Event, Playback, Pending, State, put}
+use Rattle.seq_state.specs.State.{Client, ClientPool, Event, Playback, Pending, State, put}
 use Rattle.seq_state.specs.Own.{Own, done_with, with_change, port_of, filter_of, put_port, put_filter, put_queue, new_port, new_filter, new_client, filter_ruled, port_fed, queue_changed, clocked, public, held_queue, one_tempo, file_queue, file_at, file_events, scheduled, queue_status, playback}
 use Rattle.seq_state.specs.Table.{completed, from_port, command_row}
 use Rattle.seq_state.specs.Step.{Stepped, loses, drops, pending_of, is_left, with_own, send_copies, sent, stepped, named_queue, asked, unless, refusal_of, command_step}
@@ -38,7 +38,7 @@ module _ (s : State) (actor : ℕ) where
   abbrev its : Option Client
   its = FinMap.get s.clients actor
 
-  abbrev from : FinMap nat_cmp Client → FinMap nat_cmp Pool → List Edge → List Pending → State
+  abbrev from : FinMap nat_cmp Client → FinMap nat_cmp ClientPool → List Edge → List Pending → State
   from clients pools edges pending = record { clients = clients; pools = pools; edges = edges; pending = pending }
 
   -- the actor has this, and nothing else changes
@@ -58,7 +58,7 @@ module _ (s : State) (actor : ℕ) where
       with_own s actor q own ≡ from (put s.clients actor own.client) (put s.pools actor (own.pool (FinMap.get s.pools actor))) (filter (λ e. not (loses actor own.gone e)) s.edges) (filter (λ p. not (drops actor own p)) s.pending)
   own-gone q own none same =
       let clients : FinMap nat_cmp Client = put s.clients actor own.client in
-      let pools : FinMap nat_cmp Pool = put s.pools actor (own.pool (FinMap.get s.pools actor)) in
+      let pools : FinMap nat_cmp ClientPool = put s.pools actor (own.pool (FinMap.get s.pools actor)) in
       let left : List Pending = filter (λ p. not (drops actor own p)) s.pending in
       ap (λ x. from clients pools x (left ++ filter is_left (map (pending_of actor q) own.added))) (same (filter (λ e. not (loses actor own.gone e)) s.edges))
       ∙ ap (λ x. from clients pools (filter (λ e. not (loses actor own.gone e)) s.edges) (left ++ filter is_left (map (pending_of actor q) x))) none
@@ -145,7 +145,7 @@ module _ (files : List File) (s : State) (moment actor : ℕ) where
   opens name in_size out_size =
       let c : Option Client = Some (new_client name in_size out_size) in
       let clients : FinMap nat_cmp Client = put s.clients actor c in
-      let pools : FinMap nat_cmp Pool = put s.pools actor (Some (empty_pool in_size)) in
+      let pools : FinMap nat_cmp ClientPool = put s.pools actor (Some (empty_pool in_size)) in
       ap (after (Open name in_size out_size))
       (ap (λ x. let t : State = record { clients = clients; pools = pools; edges = x; pending = filter (λ p. not (drops actor (done_with c) p)) s.pending ++ [] } in t) (none-lost actor s.edges)
       ∙ ap (λ x. let t : State = record { clients = clients; pools = pools; edges = s.edges; pending = x } in t) (append-nil (filter (λ p. not (drops actor (done_with c) p)) s.pending) ∙ none-dropped actor c s.pending))

@@ -16,7 +16,7 @@ use Rattle.seq_state.specs.declared.log.Reply.{Reply}
 use Rattle.seq_state.specs.declared.log.Reply.TheVariants.{Done, Received}
 use Rattle.seq_state.specs.declared.refusal.Refusal.{Refusal}
 use Rattle.seq_state.specs.Files.{File}
-use Rattle.seq_state.specs.State.{put, Pool, Pending, State, Client}
+use Rattle.seq_state.specs.State.{put, ClientPool, Pending, State, Client}
 use Rattle.seq_state.specs.Own.{done_with, oldest, without_oldest, pool_status}
 use Rattle.seq_state.specs.Table.{Asked, command_row, connected, disconnected}
 use Rattle.seq_state.specs.Step.{loses, drops, Stepped, unless, after_own, used, refusal_of, command_step}
@@ -82,9 +82,9 @@ patched s f = record { state = record s { edges = f s.edges }; delivered = []; r
 
 pub after-patch : (s : State) (moment actor : ℕ) (f : List Edge → List Edge) → after_own s moment actor None (record (done_with (FinMap.get s.clients actor)) { edges = f }) ≡ patched s f
 after-patch s moment actor f =
-    let to : FinMap nat_cmp Client → FinMap nat_cmp Pool → List Edge → List Pending → Stepped = λ clients pools edges pending. record { state = record { clients = clients; pools = pools; edges = f edges; pending = pending }; delivered = []; reply = Done } in
+    let to : FinMap nat_cmp Client → FinMap nat_cmp ClientPool → List Edge → List Pending → Stepped = λ clients pools edges pending. record { state = record { clients = clients; pools = pools; edges = f edges; pending = pending }; delivered = []; reply = Done } in
     let o : Option Client = FinMap.get s.clients actor in
-    let pools : FinMap nat_cmp Pool = put s.pools actor (FinMap.get s.pools actor) in
+    let pools : FinMap nat_cmp ClientPool = put s.pools actor (FinMap.get s.pools actor) in
     let edges : List Edge = filter (λ e. not (loses actor (λ _. false) e)) s.edges in
     let pending : List Pending = filter (λ p. not (drops actor (done_with o) p)) s.pending in
     ap (λ x. to x pools edges (pending ++ [])) (put-same s.clients actor)
@@ -107,10 +107,10 @@ unfolding command_row
 step-parts files s moment actor source target = ap (unless (refusal_of files s moment actor (Disconnect source target)) s) (after-patch s moment actor (disconnected source target))
 
 -- what the actor takes from its input pool, and the reply to it
-pub after-pool : (s : State) (moment actor : ℕ) (g : Option Pool → Option Pool) (f : Option Pool → Reply) →
+pub after-pool : (s : State) (moment actor : ℕ) (g : Option ClientPool → Option ClientPool) (f : Option ClientPool → Reply) →
     after_own s moment actor None (record (done_with (FinMap.get s.clients actor)) { pool = g; reply = f }) ≡ record { state = record s { pools = put s.pools actor (g (FinMap.get s.pools actor)) }; delivered = []; reply = f (FinMap.get s.pools actor) }
 after-pool s moment actor g f =
-    let pools : FinMap nat_cmp Pool = put s.pools actor (g (FinMap.get s.pools actor)) in
+    let pools : FinMap nat_cmp ClientPool = put s.pools actor (g (FinMap.get s.pools actor)) in
     let to : FinMap nat_cmp Client → List Edge → List Pending → Stepped = λ clients edges pending. record { state = record { clients = clients; pools = pools; edges = edges; pending = pending }; delivered = []; reply = f (FinMap.get s.pools actor) } in
     let o : Option Client = FinMap.get s.clients actor in
     let pending : List Pending = filter (λ p. not (drops actor (done_with o) p)) s.pending in

@@ -10,7 +10,7 @@ use Rattle.seq_state.specs.declared.log.Reply.{Reply}
 use Rattle.seq_state.specs.declared.log.LogEntry.TheVariants.{Delivered, Replied}
 use Rattle.seq_state.specs.Step.{plain}
 use Rattle.seq_state.specs.Circle.{Sight, Came, Told, Outside, sight_of_reply, sight, aims_outside, view, only}
-use Rattle.seq_state.specs.Heard.{port_at, message_at, messages_at, port_bytes, PortBytesLaw}
+use Rattle.seq_state.specs.Heard.{port_at, message_at, port_messages, port_bytes, PortBytesLaw}
 use Rattle.seq_state.specs.Laws.{AgreeLaw}
 use Rattle.seq_state.proofs.Run.{isolation_law}
 
@@ -45,7 +45,7 @@ module _ (owner : ℕ) (member : ℕ → Bool) (port : ℕ) where
       go true = ap (λ o. cons_option o (filter_map seen_at rest)) (no_message moment reply (slice_get inputs place))
       go false = refl
 
-  all_seen : (inputs : List Input) (log : List LogEntry) → messages_at here log ≡ filter_map seen_at (view owner member inputs log)
+  all_seen : (inputs : List Input) (log : List LogEntry) → port_messages here log ≡ filter_map seen_at (view owner member inputs log)
   all_seen inputs [] = refl
   all_seen inputs (e ∷ log) = ap (cons_option (message_at here e)) (all_seen inputs log) ∙ sym (one_seen inputs e (view owner member inputs log))
 

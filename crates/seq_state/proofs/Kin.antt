@@ -22,11 +22,11 @@ use Rattle.seq_state.specs.declared.input.Command.TheVariants.{Connect, Disconne
 use Rattle.seq_state.specs.declared.refusal.Refusal.{Refusal}
 use Rattle.seq_state.specs.declared.refusal.Refusal.TheVariants as refusal
 use Rattle.seq_state.specs.Files.{File}
-use Rattle.seq_state.specs.State.{put, Pool, Pending, State, Client, Event, Queue, queues_of, Playback}
+use Rattle.seq_state.specs.State.{put, ClientPool, Pending, State, Client, Event, Queue, queues_of, Playback}
 use Rattle.seq_state.specs.Copies.{copies}
 use Rattle.seq_state.specs.Own.{Own, node_caps}
 use Rattle.seq_state.specs.Table.{Row, first_refusal, visible, queue_named, command_row, permitted, connected, disconnected}
-use Rattle.seq_state.specs.Step.{delivered, upto, offer, has_room, offered, sent, Timed, playback_at, is_at, event_moment, moment_in, playback_after, is_by, due, all_at, event_copies, port_addr, without_due, is_left, settle, loses, drops, pending_of, with_own, send_copies, Stepped, unless, after_own, used, caps_at, IsRefusal, named_queue, asked, row_of, refusal_of, command_step}
+use Rattle.seq_state.specs.Step.{delivered, upto, offer, pool_has_room, offered, sent, Timed, playback_at, is_at, event_moment, moment_in, playback_after, is_by, due, all_at, event_copies, port_addr, without_due, is_left, settle, loses, drops, pending_of, with_own, send_copies, Stepped, unless, after_own, used, caps_at, IsRefusal, named_queue, asked, row_of, refusal_of, command_step}
 use Rattle.seq_state.specs.Circle.{is_to, NamesWithin, Sight, aims_outside, Outside, Told, is_inner, IsClosedAt}
 use Rattle.seq_state.specs.Laws.{is_mine, AreKin, into}
 use Rattle.seq_state.proofs.Effects.{get-put, none_some, is_patch, same_row, edges_stay, patch_step, step-connects, step-parts}
@@ -45,15 +45,15 @@ upto-agree f g h (suc m) = ap (λ xs. xs ++ f (suc m)) (upto-agree f g h m) ∙ 
 
 -- ---- one client's input
 
-offers : Option Pool → List Delivery → Option Pool
+offers : Option ClientPool → List Delivery → Option ClientPool
 offers p [] = p
 offers p (d ∷ ds) = offers (offer p d) ds
 
-takes : Option Pool → List Delivery → List Delivery
+takes : Option ClientPool → List Delivery → List Delivery
 takes p [] = []
-takes p (d ∷ ds) = cond (has_room p) (d ∷ takes (offer p d) ds) (takes (offer p d) ds)
+takes p (d ∷ ds) = cond (pool_has_room p) (d ∷ takes (offer p d) ds) (takes (offer p d) ds)
 
-abbrev after_one : FinMap nat_cmp Pool → Delivery → FinMap nat_cmp Pool
+abbrev after_one : FinMap nat_cmp ClientPool → Delivery → FinMap nat_cmp ClientPool
 after_one pools d = put pools d.target.client (offer (FinMap.get pools d.target.client) d)
 
 -- at one number the two are one
@@ -66,10 +66,10 @@ turned f x m n = go (eqb m n) refl
 
 module _ (owner : ℕ) where
   -- the owner's input after one copy
-  one_offer : (pools : FinMap nat_cmp Pool) (d : Delivery) → FinMap.get (after_one pools d) owner ≡ cond (is_to owner d) (offer (FinMap.get pools owner) d) (FinMap.get pools owner)
+  one_offer : (pools : FinMap nat_cmp ClientPool) (d : Delivery) → FinMap.get (after_one pools d) owner ≡ cond (is_to owner d) (offer (FinMap.get pools owner) d) (FinMap.get pools owner)
   one_offer pools d = get-put pools d.target.client (offer (FinMap.get pools d.target.client) d) owner ∙ turned (λ c. offer (FinMap.get pools c) d) (FinMap.get pools owner) owner d.target.client
 
-  get-offered : (pools : FinMap nat_cmp Pool) (ds : List Delivery) → FinMap.get (offered pools ds) owner ≡ offers (FinMap.get pools owner) (heard owner ds)
+  get-offered : (pools : FinMap nat_cmp ClientPool) (ds : List Delivery) → FinMap.get (offered pools ds) owner ≡ offers (FinMap.get pools owner) (heard owner ds)
   unfolding offers heard
   get-offered pools [] = refl
   get-offered pools (d ∷ ds) = get-offered (after_one pools d) ds ∙ ap (λ p. offers p (heard owner ds)) (one_offer pools d) ∙ go (is_to owner d)
@@ -78,22 +78,22 @@ module _ (owner : ℕ) where
       go true = refl
       go false = refl
 
-  heard-delivered : (pools : FinMap nat_cmp Pool) (ds : List Delivery) → heard owner (delivered pools ds) ≡ takes (FinMap.get pools owner) (heard owner ds)
+  heard-delivered : (pools : FinMap nat_cmp ClientPool) (ds : List Delivery) → heard owner (delivered pools ds) ≡ takes (FinMap.get pools owner) (heard owner ds)
   unfolding takes heard
   heard-delivered pools [] = refl
-  heard-delivered pools (d ∷ ds) = go (has_room (FinMap.get pools d.target.client)) (is_to owner d) refl refl (heard-delivered (after_one pools d) ds)
+  heard-delivered pools (d ∷ ds) = go (pool_has_room (FinMap.get pools d.target.client)) (is_to owner d) refl refl (heard-delivered (after_one pools d) ds)
     where
       rest : List Delivery
       rest = delivered (after_one pools d) ds
 
-      P : Option Pool
+      P : Option ClientPool
       P = FinMap.get pools owner
 
-      go : (r b : Bool) → has_room (FinMap.get pools d.target.client) ≡ r → is_to owner d ≡ b → heard owner rest ≡ takes (FinMap.get (after_one pools d) owner) (heard owner ds) →
+      go : (r b : Bool) → pool_has_room (FinMap.get pools d.target.client) ≡ r → is_to owner d ≡ b → heard owner rest ≡ takes (FinMap.get (after_one pools d) owner) (heard owner ds) →
           heard owner (cond r (d ∷ rest) rest) ≡ takes P (cond b (d ∷ heard owner ds) (heard owner ds))
       go r true h k more =
           let here : d.target.client ≡ owner = eqb-true d.target.client owner k in
-          let room : r ≡ has_room P = sym h ∙ ap (λ c. has_room (FinMap.get pools c)) here in
+          let room : r ≡ pool_has_room P = sym h ∙ ap (λ c. pool_has_room (FinMap.get pools c)) here in
           let more : heard owner rest ≡ takes (offer P d) (heard owner ds) = more ∙ ap (λ o. takes o (heard owner ds)) (one_offer pools d ∙ ap (λ b. cond b (offer P d) P) k) in
           mine r k ∙ ap (λ xs. cond r (d ∷ xs) xs) more ∙ ap (λ x. cond x (d ∷ takes (offer P d) (heard owner ds)) (takes (offer P d) (heard owner ds))) room
         where

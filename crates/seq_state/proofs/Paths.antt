@@ -1,5 +1,6 @@
 -- The paths of a circle.
 use Rattle.std.proofs.Common.{◌≡◌, ℕ, zero, suc, Bool, true, false, not, cond, eqb, ◌&&◌, ◌||◌, ◌⊎◌, inl, inr, List, [], ◌∷◌, map, Option, Some, None, refl, sym, ap, subst, ◌∙◌, arith}
+use Rattle.std.specs.Option.{option_and_then}
 use Rattle.std.specs.List.{filter, list_all, filter_map}
 use Rattle.std.specs.Ordering.{nat_cmp}
 use Rattle.std.specs.FinMap
@@ -16,7 +17,7 @@ use Rattle.patch_graph.specs.declared.edge.Edge.{Edge}
 use Rattle.seq_state.specs.declared.log.Delivery.{Delivery}
 use Rattle.node_table.specs.declared.number.Node.TheVariants.{Port, Filter}
 use Rattle.seq_state.specs.State.{State, Client, filters_of}
-use Rattle.seq_state.specs.Copies.{copies, copy, delivery, carried, and_then, passed_by, filter_at}
+use Rattle.seq_state.specs.Copies.{copies, copy, delivery, carried, passed_by, filter_at}
 use Rattle.seq_state.specs.Circle.{is_to, is_inner, inner_node}
 use Rattle.seq_state.specs.Laws.{into, is_port_of, is_within}
 use Rattle.seq_state.proofs.Lists.{both_left, both_right, filter-map, filter-flat_map, flat_map-none_under, flat_map-filter, list_all-implied, list_all-weaker, list_all-passed, list_all-map, list_all-flat_map, list_all-filter, list_all-both, and_both, filter-filter_map, filter_map-agree_under, filter-wider}
@@ -170,14 +171,14 @@ module _ (owner : ℕ) (member : ℕ → Bool) where
   same_filters : (c d : FinMap nat_cmp Client) → ((n : ℕ) → member n ≡ true → FinMap.get c n ≡ FinMap.get d n) → (p : List Edge) (message : List ℕ) → list_all inward p ≡ true → carried c p message ≡ carried d p message
   same_filters c d k [] message h = refl
   same_filters c d k (e ∷ es) message h =
-      ap (λ f. and_then (passed_by f message) (carried c es)) (at_node e.target.node (both_left (inward e) (list_all inward es) h))
+      ap (λ f. option_and_then (carried c es) (passed_by f message)) (at_node e.target.node (both_left (inward e) (list_all inward es) h))
       ∙ on (passed_by (filter_at d e.target.client e.target.node) message) (λ m. same_filters c d k es m (both_right (inward e) (list_all inward es) h))
     where
       at_node : (n : Node) → inner_node owner member e.target.client n ≡ true → filter_at c e.target.client n ≡ filter_at d e.target.client n
       at_node (Port n) i = refl
       at_node (Filter n) i = ap (λ x. FinMap.get (filters_of x) n) (k e.target.client i)
 
-      on : (o : Option (List ℕ)) → ((m : List ℕ) → carried c es m ≡ carried d es m) → and_then o (carried c es) ≡ and_then o (carried d es)
+      on : (o : Option (List ℕ)) → ((m : List ℕ) → carried c es m ≡ carried d es m) → option_and_then (carried c es) o ≡ option_and_then (carried d es) o
       on None more = refl
       on (Some m) more = more m
 

@@ -7,7 +7,7 @@ use Rattle.std.specs.Ordering.{nat_cmp}
 use Rattle.std.specs.FinMap.{FinMap}
 use Rattle.std.proofs.lemmas.Bool.{false≢true, eq-eqb, ne_eqb, le-leb, cases_lt}
 use Rattle.seq_state.specs.declared.log.Delivery.{Delivery}
-use Rattle.seq_state.specs.State.{Pending, Event, State, Client, Pool}
+use Rattle.seq_state.specs.State.{Pending, Event, State, Client, ClientPool}
 use Rattle.seq_state.specs.Step.{delivered, upto, is_by, event_moment, is_at, playback_at, Timed, all_at, is_left, playback_after, settle, Settled, sent, event_copies, offered}
 use Rattle.seq_state.proofs.Lists.{and_both, filter-never, flat_map-none_under, list_all-weaker, filter-append, flat_map-append}
 use Rattle.seq_state.proofs.Settling.{upto-none, offered-append, delivered-append}
@@ -186,7 +186,7 @@ module _ (s : State) (before after : List Pending) (p : Pending) (e : Event) (es
         ap (delivered s.pools) sends ∙ sym (delivered-append s.pools c rest),
       )
     where
-      state_of : FinMap nat_cmp Pool → List Pending → State
+      state_of : FinMap nat_cmp ClientPool → List Pending → State
       state_of pools pending = record { clients = s.clients; pools = pools; edges = s.edges; pending = pending }
 
   -- the same, where no playback before has an event up to k, and no playback an earlier one

@@ -5,7 +5,7 @@ use Rattle.seq_state.specs.declared.input.Command.{Command}
 use Rattle.seq_state.specs.declared.input.Command.TheVariants.{QueueStatus, PoolStatus}
 use Rattle.seq_state.specs.declared.refusal.Refusal.{Refusal}
 use Rattle.seq_state.specs.Files.{File}
-use Rattle.seq_state.specs.State.{Queue, Pool, State}
+use Rattle.seq_state.specs.State.{Queue, ClientPool, State}
 use Rattle.seq_state.specs.Own.{queue_status, pool_status}
 use Rattle.seq_state.specs.Table.{Asked, command_row}
 use Rattle.seq_state.specs.Step.{IsRefusal, Stepped, unless, command_step, asked, refusal_of, effect_of, Settled, settle}
@@ -16,11 +16,11 @@ tells_queue : (moment : ℕ) (q : Option Queue) → IsRefusal (queue_status mome
 tells_queue moment None h = h
 tells_queue moment (Some q) h = h
 
-tells_pool : (used : ℕ) (pool : Option Pool) → IsRefusal (pool_status used pool) → ⊥
+tells_pool : (used : ℕ) (pool : Option ClientPool) → IsRefusal (pool_status used pool) → ⊥
 tells_pool used None h = h
 tells_pool used (Some p) h = h
 
-pub row_tells : (a : Asked) (command : Command) (pool : Option Pool) → IsRefusal ((command_row a command).own.reply pool) → ⊥
+pub row_tells : (a : Asked) (command : Command) (pool : Option ClientPool) → IsRefusal ((command_row a command).own.reply pool) → ⊥
 unfolding command_row
 row_tells a (QueueStatus q) pool h = tells_queue a.moment a.queue h
 row_tells a PoolStatus pool h = tells_pool a.used pool h

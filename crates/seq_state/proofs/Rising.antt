@@ -30,11 +30,11 @@ use Rattle.seq_state.specs.declared.log.LogEntry.TheVariants.{Delivered, Replied
 use Rattle.seq_state.specs.declared.refusal.Refusal.{Refusal}
 use Rattle.seq_state.specs.declared.refusal.Refusal.TheVariants as refusal
 use Rattle.seq_state.specs.Files.{File}
-use Rattle.seq_state.specs.State.{PortInfo, FilterInfo, Queue, Client, Pool, Event, Playback, Pending, State, start, queues_of, put}
+use Rattle.seq_state.specs.State.{PortInfo, FilterInfo, Queue, Client, ClientPool, Event, Playback, Pending, State, start, queues_of, put}
 use Rattle.seq_state.specs.Copies.{copy, delivery, carried, copies}
 use Rattle.seq_state.specs.Own.{Own, with_change, put_port, port_fed, port_of, put_filter, filter_ruled, filter_of, queue_of, put_queue, clocked, public, new_port, new_filter, held_queue, one_tempo, file_queue, file_at, queue_map}
 use Rattle.seq_state.specs.Table.{Asked, Condition, first_refusal, not_open, queue_exists, bad_tempo, queue_named, command_row}
-use Rattle.seq_state.specs.Step.{has_room, offer, delivered, Timed, moment_in, event_moment, is_by, playback_after, is_left, due, port_addr, event_copies, Settled, settle, Stepped, drops, pending_of, with_own, send_copies, unless, asked, row_of, refusal_of, effect_of, command_step, step, log_from, IsTimedFrom}
+use Rattle.seq_state.specs.Step.{pool_has_room, offer, delivered, Timed, moment_in, event_moment, is_by, playback_after, is_left, due, port_addr, event_copies, Settled, settle, Stepped, drops, pending_of, with_own, send_copies, unless, asked, row_of, refusal_of, effect_of, command_step, step, log_from, IsTimedFrom}
 use Rattle.seq_state.specs.Laws.{IsByMoment, timed_at, timed_of, all_timed, with_timed, sorted, has_ticks, deliveries_of, NeverFall, RisingLaw, from_now, is_fresh, Ready, ReadyLaw}
 use Rattle.seq_state.proofs.Lists.{both_left, both_right, and_both, list_all-append, list_all-weaker, list_all-filter, list_all-passed, list_all-flat_map, list_all-map, list_all-always}
 use Rattle.seq_state.proofs.Order.{due_law}
@@ -81,20 +81,20 @@ never_fall-append m (x ∷ xs) ys p q a b =
     (list_all-append (from x.moment) xs ys p.0 (from-earlier x.moment m l ys b), never_fall-append m xs ys p.1 q (both_right (until m x) (list_all (until m) xs) a) b)
 
 -- what finds room is part of what is offered
-delivered-all : (p : Delivery → Bool) (pools : FinMap nat_cmp Pool) (ds : List Delivery) → list_all p ds ≡ true → list_all p (delivered pools ds) ≡ true
+delivered-all : (p : Delivery → Bool) (pools : FinMap nat_cmp ClientPool) (ds : List Delivery) → list_all p ds ≡ true → list_all p (delivered pools ds) ≡ true
 delivered-all p pools [] h = refl
-delivered-all p pools (d ∷ ds) h = go (has_room (FinMap.get pools d.target.client)) (delivered-all p (put pools d.target.client (offer (FinMap.get pools d.target.client) d)) ds (both_right (p d) (list_all p ds) h))
+delivered-all p pools (d ∷ ds) h = go (pool_has_room (FinMap.get pools d.target.client)) (delivered-all p (put pools d.target.client (offer (FinMap.get pools d.target.client) d)) ds (both_right (p d) (list_all p ds) h))
   where
     go : (b : Bool) → list_all p (delivered (put pools d.target.client (offer (FinMap.get pools d.target.client) d)) ds) ≡ true →
         list_all p (cond b (d ∷ delivered (put pools d.target.client (offer (FinMap.get pools d.target.client) d)) ds) (delivered (put pools d.target.client (offer (FinMap.get pools d.target.client) d)) ds)) ≡ true
     go true more = and_both (p d) _ (both_left (p d) (list_all p ds) h) more
     go false more = more
 
-delivered-never_falls : (pools : FinMap nat_cmp Pool) (ds : List Delivery) → NeverFall ds → NeverFall (delivered pools ds)
+delivered-never_falls : (pools : FinMap nat_cmp ClientPool) (ds : List Delivery) → NeverFall ds → NeverFall (delivered pools ds)
 delivered-never_falls pools [] h = tt
-delivered-never_falls pools (d ∷ ds) h = go (has_room (FinMap.get pools d.target.client)) (delivered-never_falls after ds h.1)
+delivered-never_falls pools (d ∷ ds) h = go (pool_has_room (FinMap.get pools d.target.client)) (delivered-never_falls after ds h.1)
   where
-    after : FinMap nat_cmp Pool
+    after : FinMap nat_cmp ClientPool
     after = put pools d.target.client (offer (FinMap.get pools d.target.client) d)
 
     go : (b : Bool) → NeverFall (delivered after ds) → NeverFall (cond b (d ∷ delivered after ds) (delivered after ds))

@@ -8,8 +8,8 @@ use Rattle.std.specs.FinMap.{FinMap}
 use Rattle.std.proofs.lemmas.Bool.Decides.{nat_tests}
 use Rattle.std.proofs.lemmas.Bool.{false≢true, le-leb, lt-leb, cases_lt}
 use Rattle.seq_state.specs.declared.log.Delivery.{Delivery}
-use Rattle.seq_state.specs.State.{Pending, Event, Client, put, Pool, State}
-use Rattle.seq_state.specs.Step.{delivered, upto, is_at, is_by, Timed, event_moment, is_left, playback_at, has_event, playback_after, all_at, offer, offered, has_room, event_copies, due, settle, without_due}
+use Rattle.seq_state.specs.State.{Pending, Event, Client, put, ClientPool, State}
+use Rattle.seq_state.specs.Step.{delivered, upto, is_at, is_by, Timed, event_moment, is_left, playback_at, has_event, playback_after, all_at, offer, offered, pool_has_room, event_copies, due, settle, without_due}
 use Rattle.seq_state.specs.Laws.{SettlingLaw}
 use Rattle.seq_state.proofs.Lists.{filter-wider, filter-apart, flat_map-append}
 
@@ -132,14 +132,14 @@ module _ (clients : FinMap nat_cmp Client) where
 
 -- ---- what is delivered in two goes
 
-pub offered-append : (pools : FinMap nat_cmp Pool) (xs ys : List Delivery) → offered (offered pools xs) ys ≡ offered pools (xs ++ ys)
+pub offered-append : (pools : FinMap nat_cmp ClientPool) (xs ys : List Delivery) → offered (offered pools xs) ys ≡ offered pools (xs ++ ys)
 offered-append pools [] ys = refl
 offered-append pools (d ∷ xs) ys = offered-append (put pools d.target.client (offer (FinMap.get pools d.target.client) d)) xs ys
 
-pub delivered-append : (pools : FinMap nat_cmp Pool) (xs ys : List Delivery) → delivered pools xs ++ delivered (offered pools xs) ys ≡ delivered pools (xs ++ ys)
+pub delivered-append : (pools : FinMap nat_cmp ClientPool) (xs ys : List Delivery) → delivered pools xs ++ delivered (offered pools xs) ys ≡ delivered pools (xs ++ ys)
 delivered-append pools [] ys = refl
 delivered-append pools (d ∷ xs) ys =
-    one (has_room (FinMap.get pools d.target.client)) _ _ _ (delivered-append (put pools d.target.client (offer (FinMap.get pools d.target.client) d)) xs ys)
+    one (pool_has_room (FinMap.get pools d.target.client)) _ _ _ (delivered-append (put pools d.target.client (offer (FinMap.get pools d.target.client) d)) xs ys)
   where
     one : (b : Bool) (xs ys zs : List Delivery) → xs ++ ys ≡ zs → cond b (d ∷ xs) xs ++ ys ≡ cond b (d ∷ zs) zs
     one true xs ys zs e = ap (λ ws. d ∷ ws) e
@@ -147,7 +147,7 @@ delivered-append pools (d ∷ xs) ys =
 
 -- ---- the law
 
-abbrev state_with : State → FinMap nat_cmp Pool → List Pending → State
+abbrev state_with : State → FinMap nat_cmp ClientPool → List Pending → State
 state_with s pools pending = record { clients = s.clients; pools = pools; edges = s.edges; pending = pending }
 
 pub settling_law : SettlingLaw

@@ -17,7 +17,7 @@ use Rattle.seq_state.specs.declared.log.Reply.TheVariants.{Received}
 use Rattle.seq_state.specs.declared.refusal.Refusal.{Refusal}
 use Rattle.seq_state.specs.Files.{File}
 use Rattle.seq_state.specs.Refusals.{number_of}
-use Rattle.seq_state.specs.State.{Client, Pool, Pending, State}
+use Rattle.seq_state.specs.State.{Client, ClientPool, Pending, State}
 use Rattle.seq_state.specs.Own.{port_of, filter_of, queue_of, node_caps}
 use Rattle.seq_state.specs.Table.{Asked, Condition, command_row}
 use Rattle.seq_state.specs.Step.{row_of, refusal_of, command_step}
@@ -167,7 +167,7 @@ pub record PendingLaw : Type 0 where
       (more : List Pending) × ((command_step files s moment actor command).state.pending ≡ s.pending ++ more) × (list_all (is_added actor command) more ≡ true)
 
 -- What was waiting is what a Receive gives, at most so many, and then what waits still; the count of lost messages stays.
-pub record Taken (before after : Pool) (max : ℕ) (given : List Arrival) : Type 0 where
+pub record Taken (before after : ClientPool) (max : ℕ) (given : List Arrival) : Type 0 where
   pub all : before.waiting ≡ given ++ after.waiting
   pub many : length given ≡ min max (length before.waiting)
   pub lost : after.lost ≡ before.lost
@@ -175,7 +175,7 @@ pub record Taken (before after : Pool) (max : ℕ) (given : List Arrival) : Type
 
 abbrev pub ReceiveLaw : Type 0
 ReceiveLaw =
-    (files : List File) (s : State) (moment actor max : ℕ) (before : Pool) → FinMap.get s.pools actor ≡ Some before →
+    (files : List File) (s : State) (moment actor max : ℕ) (before : ClientPool) → FinMap.get s.pools actor ≡ Some before →
     refusal_of files s moment actor (Receive max) ≡ None →
-    (after : Pool) × (given : List Arrival) × (FinMap.get (command_step files s moment actor (Receive max)).state.pools actor ≡ Some after)
+    (after : ClientPool) × (given : List Arrival) × (FinMap.get (command_step files s moment actor (Receive max)).state.pools actor ≡ Some after)
     × ((command_step files s moment actor (Receive max)).reply ≡ Received given) × Taken before after max given

@@ -1,5 +1,6 @@
 -- The copies of a message that leaves a port.
 use Rattle.std.specs.Prelude.{ℕ, List, [], ◌∷◌, Option, Some, None}
+use Rattle.std.specs.Option.{option_and_then}
 use Rattle.std.specs.List.{filter_map}
 use Rattle.std.specs.Ordering.{nat_cmp}
 use Rattle.std.specs.FinMap
@@ -23,14 +24,11 @@ abbrev pub passed_by : Option FilterInfo → List ℕ → Option (List ℕ)
 passed_by None message = Some message
 passed_by (Some f) message = passed f.rule message
 
-abbrev pub and_then : Option (List ℕ) → (List ℕ → Option (List ℕ)) → Option (List ℕ)
-and_then None f = None
-and_then (Some m) f = f m
-
 -- what a path carries to its end
 abbrev pub carried : FinMap nat_cmp Client → List Edge → List ℕ → Option (List ℕ)
 carried clients [] message = Some message
-carried clients (e ∷ es) message = and_then (passed_by (filter_at clients e.target.client e.target.node) message) (carried clients es)
+carried clients (e ∷ es) message =
+    option_and_then (carried clients es) (passed_by (filter_at clients e.target.client e.target.node) message)
 
 -- a message at a port
 abbrev pub delivery : ℕ → ℕ → Node → List ℕ → Option Delivery

@@ -23,12 +23,12 @@ message_at port (Delivered d) = if comes_to port d then Some d.message else None
 message_at port (Replied place moment client reply) = None
 
 -- the messages that came to a port
-abbrev pub messages_at : PortAddr → List LogEntry → List (List ℕ)
-messages_at port log = filter_map (message_at port) log
+abbrev pub port_messages : PortAddr → List LogEntry → List (List ℕ)
+port_messages port log = filter_map (message_at port) log
 
 -- their bytes as one stream writer writes them
 abbrev pub port_bytes : PortAddr → List LogEntry → List ℕ
-port_bytes port log = written (messages_at port log)
+port_bytes port log = written (port_messages port log)
 
 -- what comes to a port of the owner of a closed circle, byte for byte, is what comes to it in the plain run of the circle's inputs alone
 abbrev pub PortBytesLaw : Type 0

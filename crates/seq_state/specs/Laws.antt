@@ -16,7 +16,7 @@ use Rattle.seq_state.specs.declared.log.Delivery.{Delivery}
 use Rattle.seq_state.specs.declared.log.LogEntry.{LogEntry}
 use Rattle.seq_state.specs.declared.log.LogEntry.TheVariants.{Delivered, Replied}
 use Rattle.seq_state.specs.Files.{File}
-use Rattle.seq_state.specs.State.{Pool, queues_of, Queue, Client, Event, Pending, State, start}
+use Rattle.seq_state.specs.State.{ClientPool, queues_of, Queue, Client, Event, Pending, State, start}
 use Rattle.seq_state.specs.Own.{out_size}
 use Rattle.seq_state.specs.Step.{caps_at, is_left, used, event_moment, step, Stepped, settle, Settled, state_after, Timed, due, all_at, IsRefusal, IsTimed, plain}
 use Rattle.seq_state.specs.Circle.{is_inner, view, Sight, IsClosed, inner_node, only}
@@ -180,7 +180,7 @@ pub record ReadyLaw : Type 0 where
   pub settled : (s : State) (now m : ℕ) → now ≤ m → Ready s now → Ready (settle s m).state m
   pub stepped : (files : List File) → list_all has_ticks files ≡ true → (s : State) (now : ℕ) (i : Input) → now ≤ i.moment → Ready s now → Ready (step files s i).state i.moment
 
-abbrev pub pool_size : Option Pool → Option ℕ
+abbrev pub pool_size : Option ClientPool → Option ℕ
 pool_size None = None
 pool_size (Some p) = Some p.size
 
@@ -191,7 +191,7 @@ in_size (Some c) = Some c.in_size
 -- Each client has an input pool of its size, which has no more than there is room for; no client has more to send than its output pool, and no node more sources than a node may have.
 pub record Bounded (s : State) : Type 0 where
   pub sizes : (c : ℕ) → pool_size (FinMap.get s.pools c) ≡ in_size (FinMap.get s.clients c)
-  pub waiting : (c : ℕ) (p : Pool) → FinMap.get s.pools c ≡ Some p → length p.waiting ≤ p.size
+  pub waiting : (c : ℕ) (p : ClientPool) → FinMap.get s.pools c ≡ Some p → length p.waiting ≤ p.size
   pub used : (c : ℕ) → used s c ≤ out_size (FinMap.get s.clients c)
   pub sources : (a : Addr) → sources_of s.edges a ≤ most_sources
 

@@ -18,7 +18,7 @@ use Rattle.seq_state.specs.declared.log.Arrival.{Arrival}
 use Rattle.seq_state.specs.declared.log.Reply.{Reply}
 use Rattle.seq_state.specs.declared.log.Reply.TheVariants as replies
 use Rattle.seq_state.specs.Files.{File}
-use Rattle.seq_state.specs.State.{PortInfo, FilterInfo, Queue, Client, Pool, Event, Playback, ports_of, filters_of, queues_of}
+use Rattle.seq_state.specs.State.{PortInfo, FilterInfo, Queue, Client, ClientPool, Event, Playback, ports_of, filters_of, queues_of}
 
 -- What a command does where it is not refused: what the actor has then, what becomes of its input
 -- pool, which of its nodes go, what becomes of the subscriptions besides, which of its playbacks and
@@ -26,14 +26,14 @@ use Rattle.seq_state.specs.State.{PortInfo, FilterInfo, Queue, Client, Pool, Eve
 -- its input pool has.
 pub record Own : Type 0 where
   pub client : Option Client
-  pub pool : Option Pool → Option Pool
+  pub pool : Option ClientPool → Option ClientPool
   pub gone : Node → Bool
   pub edges : List Edge → List Edge
   pub dropped : Playback → Bool
   pub queue_gone : ℕ → Bool
   pub added : List Playback
   pub sends : List (ℕ × List ℕ)
-  pub reply : Option Pool → Reply
+  pub reply : Option ClientPool → Reply
 
 -- the actor has this, nothing else changes, and the command is done
 abbrev pub done_with : Option Client → Own
@@ -137,15 +137,15 @@ new_client name in_size out_size =
 -- ---- the input pool
 
 -- the oldest that wait, and the pool without them
-abbrev pub oldest : ℕ → Option Pool → List Arrival
+abbrev pub oldest : ℕ → Option ClientPool → List Arrival
 oldest max None = []
 oldest max (Some p) = taken max p
 
-abbrev pub without_oldest : ℕ → Option Pool → Option Pool
+abbrev pub without_oldest : ℕ → Option ClientPool → Option ClientPool
 without_oldest max None = None
 without_oldest max (Some p) = Some (after_take max p)
 
-abbrev pub pool_status : ℕ → Option Pool → Reply
+abbrev pub pool_status : ℕ → Option ClientPool → Reply
 pool_status used None = replies.Pools 0 0 used
 pool_status used (Some p) = replies.Pools (length p.waiting) p.lost used
 

@@ -30,32 +30,32 @@ number_of BadTempo = 22
 number_of BadTime = 23
 number_of OutFull = 24
 
-abbrev pub name_of : Refusal → List ℕ
-name_of NotOpen = codes "NotOpen"
-name_of AlreadyOpen = codes "AlreadyOpen"
-name_of BadName = codes "BadName"
-name_of BadSize = codes "BadSize"
-name_of BadRule = codes "BadRule"
-name_of NodeExists = codes "NodeExists"
-name_of NoNode = codes "NoNode"
-name_of NoSender = codes "NoSender"
-name_of NoDest = codes "NoDest"
-name_of NotPermitted = codes "NotPermitted"
-name_of AlreadyConnected = codes "AlreadyConnected"
-name_of NotConnected = codes "NotConnected"
-name_of SourcesFull = codes "SourcesFull"
-name_of Cycle = codes "Cycle"
-name_of QueueExists = codes "QueueExists"
-name_of NotYours = codes "NotYours"
-name_of NoQueue = codes "NoQueue"
-name_of QueueRunning = codes "QueueRunning"
-name_of QueueStopped = codes "QueueStopped"
-name_of NoFile = codes "NoFile"
-name_of DivisionDiffers = codes "DivisionDiffers"
-name_of BadTempo = codes "BadTempo"
-name_of BadTime = codes "BadTime"
-name_of OutFull = codes "OutFull"
+abbrev pub refusal_name : Refusal → List ℕ
+refusal_name NotOpen = codes "NotOpen"
+refusal_name AlreadyOpen = codes "AlreadyOpen"
+refusal_name BadName = codes "BadName"
+refusal_name BadSize = codes "BadSize"
+refusal_name BadRule = codes "BadRule"
+refusal_name NodeExists = codes "NodeExists"
+refusal_name NoNode = codes "NoNode"
+refusal_name NoSender = codes "NoSender"
+refusal_name NoDest = codes "NoDest"
+refusal_name NotPermitted = codes "NotPermitted"
+refusal_name AlreadyConnected = codes "AlreadyConnected"
+refusal_name NotConnected = codes "NotConnected"
+refusal_name SourcesFull = codes "SourcesFull"
+refusal_name Cycle = codes "Cycle"
+refusal_name QueueExists = codes "QueueExists"
+refusal_name NotYours = codes "NotYours"
+refusal_name NoQueue = codes "NoQueue"
+refusal_name QueueRunning = codes "QueueRunning"
+refusal_name QueueStopped = codes "QueueStopped"
+refusal_name NoFile = codes "NoFile"
+refusal_name DivisionDiffers = codes "DivisionDiffers"
+refusal_name BadTempo = codes "BadTempo"
+refusal_name BadTime = codes "BadTime"
+refusal_name OutFull = codes "OutFull"
 
 -- `14 Cycle`
 abbrev pub refusal_text : Refusal → List ℕ
-refusal_text r = decimal (number_of r) ++ codes " " ++ name_of r
+refusal_text r = decimal (number_of r) ++ codes " " ++ refusal_name r

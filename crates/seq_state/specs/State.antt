@@ -42,8 +42,8 @@ pub record Client : Type 0 where
   pub queues : FinMap nat_cmp Queue
 
 -- a client's input pool: what waits, the oldest first, and how many messages found no room
-abbrev pub Pool : Type 0
-Pool = pools.Pool Arrival
+abbrev pub ClientPool : Type 0
+ClientPool = pools.Pool Arrival
 
 -- A message that waits for its due time.
 pub record Event : Type 0 where
@@ -65,7 +65,7 @@ pub record Pending : Type 0 where
 -- The open clients, their input pools, the subscriptions, oldest first, and what is pending, in the order of the commands.
 pub record State : Type 0 where
   pub clients : FinMap nat_cmp Client
-  pub pools : FinMap nat_cmp Pool
+  pub pools : FinMap nat_cmp ClientPool
   pub edges : List Edge
   pub pending : List Pending
 
@@ -127,6 +127,6 @@ coded_pending =
 
 abbrev pub coded_state : Coded State
 coded_state =
-    code_by (FinMap nat_cmp Client × (FinMap nat_cmp Pool × (List Edge × List Pending)))
+    code_by (FinMap nat_cmp Client × (FinMap nat_cmp ClientPool × (List Edge × List Pending)))
     (coded× (FinMap.code coded_ℕ coded_client) (coded× (FinMap.code coded_ℕ (pools.coded_pool coded_arrival)) (coded× (coded_list coded_edge) (coded_list coded_pending)))) (λ s. (s.clients, (s.pools, (s.edges, s.pending))))
     (λ p. record { clients = p.0; pools = p.1.0; edges = p.1.1.0; pending = p.1.1.1 }) (λ _. refl)

@@ -24,7 +24,7 @@ use Rattle.seq_state.specs.declared.log.Reply.TheVariants.{Refused}
 use Rattle.seq_state.specs.declared.refusal.Refusal.{Refusal}
 use Rattle.seq_state.specs.Files.{File}
 use Rattle.seq_state.specs.Refusals.{number_of}
-use Rattle.seq_state.specs.State.{Queue, Client, Pool, Event, Playback, Pending, State, start, queues_of, put}
+use Rattle.seq_state.specs.State.{Queue, Client, ClientPool, Event, Playback, Pending, State, start, queues_of, put}
 use Rattle.seq_state.specs.Copies.{copies}
 use Rattle.seq_state.specs.Own.{Own, node_caps}
 use Rattle.seq_state.specs.Table.{Asked, Row, first_refusal, queue_named, visible, command_row}
@@ -32,30 +32,30 @@ use Rattle.seq_state.specs.Table.{Asked, Row, first_refusal, queue_named, visibl
 -- ---- delivering
 
 -- there is a pool, with room
-abbrev pub has_room : Option Pool → Bool
-has_room None = false
-has_room (Some p) = pools.has_room p
+abbrev pub pool_has_room : Option ClientPool → Bool
+pool_has_room None = false
+pool_has_room (Some p) = pools.has_room p
 
 -- a delivery as it waits
 abbrev pub arrival : Delivery → Arrival
 arrival d = record { moment = d.moment; port = d.target.port; message = d.message }
 
 -- a client's input pool after a copy was offered to it
-abbrev pub offer : Option Pool → Delivery → Option Pool
+abbrev pub offer : Option ClientPool → Delivery → Option ClientPool
 offer None d = None
 offer (Some p) d = Some (pools.after_offer p (arrival d))
 
 -- the pools after these copies were offered, in order
-abbrev pub offered : FinMap nat_cmp Pool → List Delivery → FinMap nat_cmp Pool
+abbrev pub offered : FinMap nat_cmp ClientPool → List Delivery → FinMap nat_cmp ClientPool
 offered pools [] = pools
 offered pools (d ∷ ds) = offered (put pools d.target.client (offer (FinMap.get pools d.target.client) d)) ds
 
 -- the copies that found room
-abbrev pub delivered : FinMap nat_cmp Pool → List Delivery → List Delivery
+abbrev pub delivered : FinMap nat_cmp ClientPool → List Delivery → List Delivery
 delivered pools [] = []
 delivered pools (d ∷ ds) =
     let rest = delivered (put pools d.target.client (offer (FinMap.get pools d.target.client) d)) ds in
-    if has_room (FinMap.get pools d.target.client) then d ∷ rest else rest
+    if pool_has_room (FinMap.get pools d.target.client) then d ∷ rest else rest
 
 -- ---- settling
 

@@ -1,4 +1,5 @@
-//! What holds of the step and of circles, for all lists of inputs. These functions do nothing: their contracts are the laws.
+//! What holds of the step and of circles, for all lists of inputs. These functions do nothing: their contracts are the
+//! laws.
 
 ghost use Rattle.seq_state.specs.Changes.{LowestLaw, OthersLaw, EdgesLaw, PendingLaw, ReceiveLaw};
 ghost use Rattle.seq_state.specs.Circle.{IsolationLaw};
@@ -58,14 +59,14 @@ pub fn moments_never_fall()
     ensures { RisingLaw }
 {}
 
-/// In each state of a well-timed run every queue has ticks and shows no more than the moment, and nothing pending is late:
-/// what the calls of a queue's clock ask of their caller.
+/// In each state of a well-timed run every queue has ticks and shows no more than the moment, and nothing pending is
+/// late: what the calls of a queue's clock ask of their caller.
 pub fn queues_keep_up()
     ensures { ReadyLaw }
 {}
 
-/// In each state of a run each client has an input pool of its size, with no more than it has room for, no client has more
-/// to send than its output pool, and no node has more sources than a node may have.
+/// In each state of a run each client has an input pool of its size, with no more than it has room for, no client has
+/// more to send than its output pool, and no node has more sources than a node may have.
 pub fn bounds_hold()
     ensures { BoundsLaw }
 {}

@@ -34,7 +34,7 @@ pub enum Refusal {
 }
 
 impl Refusal {
-    ghost use Rattle.seq_state.specs.Refusals.{number_of, name_of};
+    ghost use Rattle.seq_state.specs.Refusals.{number_of, refusal_name};
 
     /// 1 to 24, as a reply has it.
     pub fn number(self) -> u8
@@ -79,7 +79,7 @@ impl Refusal {
 
     /// Its name, as in `Cycle`.
     pub fn name(self) -> &'static str
-        ensures { result.now ≡ name_of self }
+        ensures { result.now ≡ refusal_name self }
     {
         match self {
             Refusal::NotOpen => "NotOpen",

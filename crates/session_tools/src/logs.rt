@@ -33,8 +33,8 @@ pub fn print_logs<W: Sink>(
         → OnErr result (GainsBytes (W.taken out.old) (W.taken out.new)
         (printed_text scripts.now logs.now (option_map (λ l. l.now) listing.entry))) }
 
-    // `Write` comes where the sink failed or is one that may take no byte, and want of memory is told only where the sink
-    // did not fail.
+    // `Write` comes where the sink failed or is one that may take no byte, and want of memory is told only where the
+    // sink did not fail.
     ensures write { IsErrOf result ToolFault.Write
         → (W.failed out.new ≡ true) ⊎ (W.takes_some out.old ≡ false) }
     ensures unwritten { IsErrOf result ToolFault.OutOfMemory → W.failed out.new ≡ false }

@@ -13,7 +13,8 @@ use smf_grammar::Event;
 use std::alloc::Global;
 use std::marker::Model;
 
-/// The events of a file that are still to come, in order of tick, at one tick by track, and within a track in its order.
+/// The events of a file that are still to come, in order of tick, at one tick by track, and within a track in its
+/// order.
 ///
 /// It keeps one place per track in the lent bytes, and no list of events.
 #[derive(Drop)]

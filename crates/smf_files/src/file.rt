@@ -126,15 +126,16 @@ impl<'b> SmfFile<'b> {
         self.entries.as_slice()
     }
 
-    /// How many events are skipped: exclusive events that are no whole message, escapes, and tempo events that set none.
+    /// How many events are skipped: exclusive events that are no whole message, escapes, and tempo events that set
+    /// none.
     pub fn skipped(&self) -> u64
         ensures { result ≡ skipped_of self.now }
     {
         self.skipped
     }
 
-    /// The tempo map by which it plays: of its division, with its tempo entries. It fails only where memory is refused, and
-    /// takes none where the division counts frames.
+    /// The tempo map by which it plays: of its division, with its tempo entries. It fails only where memory is refused,
+    /// and takes none where the division counts frames.
     pub fn tempo_map(&self) -> Result<TempoMap, OutOfMemory>
         ensures { IfOk result (λ m. m
             ≡ record { division = self.now.division; entries = entries_of self.now }) }

@@ -25,10 +25,12 @@ const MOST_TEMPO: u32 = 16_777_215;
 /// The greatest delta time, 0FFFFFFF.
 const MOST_DELTA: u64 = 268_435_455;
 
-/// The status of an exclusive message, above that of every channel message and below those of system common and real time.
+/// The status of an exclusive message, above that of every channel message and below those of system common and real
+/// time.
 const EXCLUSIVE: u8 = 0xF0;
 
-/// How many bytes a file has besides its events: the headers of the file and of the track, the tempo and the end of track.
+/// How many bytes a file has besides its events: the headers of the file and of the track, the tempo and the end of
+/// track.
 const FRAME: usize = 33;
 
 /// How many bytes of a track stand beside its events.
@@ -235,8 +237,8 @@ fn written(
     Ok(out)
 }
 
-/// Writes events as a file of format 0: `ppq` ticks per quarter note, one tempo in microseconds per quarter note, and the
-/// events at their ticks.
+/// Writes events as a file of format 0: `ppq` ticks per quarter note, one tempo in microseconds per quarter note, and
+/// the events at their ticks.
 ///
 /// All tests come before the first request for memory.
 pub fn write_format0(

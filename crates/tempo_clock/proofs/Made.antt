@@ -7,7 +7,7 @@ use Rattle.std.proofs.lemmas.Nat.{div-mul-add, mod-mul-add, mul-le}
 use Rattle.tempo_clock.specs.declared.entry.TempoEntry.{TempoEntry}
 use Rattle.tempo_clock.specs.Entries.{is_tempo, is_ppq, are_rising_from, are_entries, is_smpte_rate}
 use Rattle.tempo_clock.specs.Ticks.{Tempos, is_smpte, resolution, numerator, with_tempo_from}
-use Rattle.tempo_clock.specs.Kept.{entry_at, AreOrdered, AreStarts, AreBefore, IsKept}
+use Rattle.tempo_clock.specs.Kept.{entry_at, AreOrdered, AreStarts, AreBefore, AreStartsKept}
 use Rattle.tempo_clock.proofs.Comparisons.{order, both, either}
 use Rattle.tempo_clock.proofs.Numerators.{numerator-alike, duration-metrical}
 use Rattle.tempo_clock.proofs.Changes.{numerator-changed}
@@ -108,7 +108,7 @@ resolution_metrical : (m : Tempos) → m.division < 32768 → m.division ≡ res
 unfolding resolution
 resolution_metrical m h = let no : is_smpte m ≡ false = grind (arith, nat_tests) in sym (ap (λ b. cond b ((256 - m.division / 256) * (m.division % 256)) m.division) no)
 
-pub kept-new : (ppq : ℕ) (es xs : List TempoEntry) (starts : List ℕ) → is_ppq ppq ≡ true → are_entries es ≡ true → xs ≡ es → AreStarts (record { division = 0; entries = es }) starts → IsKept (record { division = ppq; entries = xs }) ppq starts
+pub kept-new : (ppq : ℕ) (es xs : List TempoEntry) (starts : List ℕ) → is_ppq ppq ≡ true → are_entries es ≡ true → xs ≡ es → AreStarts (record { division = 0; entries = es }) starts → AreStartsKept (record { division = ppq; entries = xs }) ppq starts
 kept-new ppq es xs starts p e same s =
     let t = both _ _ p in
     let low : 1 ≤ ppq = leb-true _ _ t.0 in
@@ -148,7 +148,7 @@ resolution_smpte m high per frames d p f h =
     let rest : 256 - high ≡ frames = omega arith in
     sym (ap (λ b. cond b ((256 - m.division / 256) * (m.division % 256)) m.division) yes ∙ rw (q, r, rest) refl)
 
-pub kept-smpte : (frames per high division : ℕ) (xs : List TempoEntry) (starts : List ℕ) → is_smpte_rate frames per ≡ true → per < 256 → high < 256 → (high + frames) % 256 ≡ 0 → division ≡ high * 256 + per → xs ≡ [] → starts ≡ [] → IsKept (record { division = division; entries = xs }) (frames * per) starts
+pub kept-smpte : (frames per high division : ℕ) (xs : List TempoEntry) (starts : List ℕ) → is_smpte_rate frames per ≡ true → per < 256 → high < 256 → (high + frames) % 256 ≡ 0 → division ≡ high * 256 + per → xs ≡ [] → starts ≡ [] → AreStartsKept (record { division = division; entries = xs }) (frames * per) starts
 kept-smpte frames per high division xs starts e p h f d x s =
     let t = rates frames per e in
     let some : 0 < per = t.0 in
@@ -303,8 +303,8 @@ module _ (m n : Tempos) (starts : List ℕ) (kept from tempo : ℕ) (s : AreStar
       ]
 
 -- a map whose entries and numerators are kept up to a tick, and one more put on each
-pub kept-changed : (m : Tempos) (ppq : ℕ) (starts : List ℕ) (kept from tempo start : ℕ) (es : List TempoEntry) (ss : List ℕ) → IsKept m ppq starts → is_tempo tempo ≡ true → m.division < 32768 → AreBefore m.entries from kept → start ≡ numerator m from
-    → es ≡ take kept m.entries ++ record { tick = from; tempo = tempo } ∷ [] → ss ≡ take kept starts ++ start ∷ [] → IsKept (record { division = m.division; entries = es }) ppq ss
+pub kept-changed : (m : Tempos) (ppq : ℕ) (starts : List ℕ) (kept from tempo start : ℕ) (es : List TempoEntry) (ss : List ℕ) → AreStartsKept m ppq starts → is_tempo tempo ≡ true → m.division < 32768 → AreBefore m.entries from kept → start ≡ numerator m from
+    → es ≡ take kept m.entries ++ record { tick = from; tempo = tempo } ∷ [] → ss ≡ take kept starts ++ start ∷ [] → AreStartsKept (record { division = m.division; entries = es }) ppq ss
 unfolding resolution
 kept-changed m ppq starts kept from tempo start es ss k t d b s e f =
     let n : Tempos = record { division = m.division; entries = es } in

@@ -20,7 +20,7 @@ pub record AreStarts (m : Tempos) (starts : List ℕ) : Type 0 where
   pub each : (i : ℕ) → i < length m.entries → slice_index starts i ≡ numerator m (entry_at m.entries i).tick
 
 -- the ticks per quarter note or second, and the numerators of the entries
-pub record IsKept (m : Tempos) (ppq : ℕ) (starts : List ℕ) : Type 0 where
+pub record AreStartsKept (m : Tempos) (ppq : ℕ) (starts : List ℕ) : Type 0 where
   pub counted_by : ppq ≡ resolution m
   pub some_ticks : 0 < ppq
   pub few_ticks : ppq < 2 ^ 15

@@ -28,8 +28,8 @@ pub fn moments_are_found()
     ensures all { MomentsAreAll }
 {}
 
-/// The moment of an event is not before its acceptance nor the clock's last start, and not before that of an event which
-/// is due no later and was accepted no later.
+/// The moment of an event is not before its acceptance nor the clock's last start, and not before that of an event
+/// which is due no later and was accepted no later.
 pub fn moments_rise()
     ensures later { MomentsAreLater }
     ensures rise { MomentsRise }

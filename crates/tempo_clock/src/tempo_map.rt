@@ -16,9 +16,10 @@ const SECOND: u128 = 1_000_000_000;
 
 /// A tempo map: which tick comes when, in whole nanoseconds from the start.
 ///
-/// The division is that of a Standard MIDI File 1.0 (RP-001): ticks per quarter note, with entries that set the tempo, or
-/// ticks per frame at 24, 25 or 30 frames per second, where no tempo counts. Tick 0 comes at 0. Each tick comes at the
-/// least whole nanosecond that is not before its exact time: nothing is rounded on the way, at a change of tempo neither.
+/// The division is that of a Standard MIDI File 1.0 (RP-001): ticks per quarter note, with entries that set the tempo,
+/// or ticks per frame at 24, 25 or 30 frames per second, where no tempo counts. Tick 0 comes at 0. Each tick comes at
+/// the least whole nanosecond that is not before its exact time: nothing is rounded on the way, at a change of tempo
+/// neither.
 #[derive(Debug, Drop)]
 pub struct TempoMap {
     division: u16,
@@ -29,14 +30,14 @@ pub struct TempoMap {
 
 impl Model for TempoMap {
     ghost use Rattle.tempo_clock.specs.Ticks.{Tempos};
-    ghost use Rattle.tempo_clock.specs.Kept.{IsKept};
+    ghost use Rattle.tempo_clock.specs.Kept.{AreStartsKept};
 
     ghost Value = { Tempos };
 
     ghost view = { λ m. record { division = m.division; entries = m.entries.items } };
 
     ghost invariant = { λ m.
-        IsKept (record { division = m.division; entries = m.entries.items }) m.ppq m.starts.items };
+        AreStartsKept (record { division = m.division; entries = m.entries.items }) m.ppq m.starts.items };
 }
 
 /// Ticks that last alike: the first, its numerator, and by how much the numerator grows at each.
@@ -50,7 +51,8 @@ struct Segment {
 /// The most ticks per quarter note: a division has 15 bits for them (Standard MIDI Files 1.0, "Header Chunks").
 pub const MOST_PPQ: u32 = 32_767;
 
-/// The slowest tempo, in microseconds per quarter note: an event has 24 bits for it (Standard MIDI Files 1.0, "Set Tempo").
+/// The slowest tempo, in microseconds per quarter note: an event has 24 bits for it (Standard MIDI Files 1.0, "Set
+/// Tempo").
 pub const MOST_TEMPO: u32 = 16_777_215;
 
 /// Whether a number of ticks per quarter note fits a division.
@@ -125,8 +127,8 @@ fn starts_of(alloc: Global, entries: &[TempoEntry]) -> Result<Vec<u128>, OutOfMe
 }
 
 impl TempoMap {
-    /// A map of `ppq` ticks per quarter note, 1 to 32,767, with tempos of 1 to 16,777,215 microseconds per quarter note.
-    /// The first entry stands at tick 0, and the ticks rise.
+    /// A map of `ppq` ticks per quarter note, 1 to 32,767, with tempos of 1 to 16,777,215 microseconds per quarter
+    /// note. The first entry stands at tick 0, and the ticks rise.
     pub fn new(alloc: Global, ppq: u32, entries: &[TempoEntry]) -> Result<TempoMap, MapFault>
         ensures ok { IfOk result (λ m. m ≡ record { division = ppq; entries = entries.now }) }
         ensures bad { IsErrOf result MapFault.BadMap
@@ -163,8 +165,8 @@ impl TempoMap {
         })
     }
 
-    /// The division word as in the header of a Standard MIDI File: the ticks per quarter note, or, with bit 15 set, minus
-    /// the frames per second in the high byte and the ticks per frame in the low byte.
+    /// The division word as in the header of a Standard MIDI File: the ticks per quarter note, or, with bit 15 set,
+    /// minus the frames per second in the high byte and the ticks per frame in the low byte.
     pub fn division(&self) -> u16
         ensures { result ≡ self.now.division }
     {
@@ -286,7 +288,8 @@ impl TempoMap {
         tick.checked_add(1)
     }
 
-    /// Sets one tempo from a tick on: the entries at the tick and later go. It asks for memory only where there are none.
+    /// Sets one tempo from a tick on: the entries at the tick and later go. It asks for memory only where there are
+    /// none.
     pub fn change(&mut self, from_tick: u64, tempo: u32) -> Result<(), OutOfMemory>
         requires tempo { is_tempo tempo ≡ true }
         requires metrical { self.old.division < 32768 }

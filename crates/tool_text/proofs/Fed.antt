@@ -19,7 +19,7 @@ use Rattle.seq_state.specs.declared.log.Arrival.{Arrival}
 use Rattle.seq_state.specs.declared.log.Delivery.{Delivery}
 use Rattle.seq_state.specs.declared.log.Reply.TheVariants.{Messages, Received}
 use Rattle.seq_state.specs.declared.refusal.Refusal.TheVariants as refusal
-use Rattle.seq_state.specs.State.{Client, PortInfo, Pool, State, put}
+use Rattle.seq_state.specs.State.{Client, PortInfo, ClientPool, State, put}
 use Rattle.seq_state.specs.Own.{port_of, has_port, fed_of, with_change, put_port, port_fed, oldest, without_oldest}
 use Rattle.seq_state.specs.Table.{first_refusal, from_port, command_row}
 use Rattle.seq_state.specs.Copies.{carried, copy, copies}
@@ -160,7 +160,7 @@ module _ (s : State) (piece : List ℕ) (j : IsJoined s) (short : length piece �
 
   emptied-pool : FinMap.get emptied.pools 129 ≡ Some (empty_pool most_waiting)
   emptied-pool =
-      let left : List Arrival → Option Pool = λ as_left. let p : Pool = record (empty_pool most_waiting) { waiting = as_left } in Some p in
+      let left : List Arrival → Option ClientPool = λ as_left. let p : ClientPool = record (empty_pool most_waiting) { waiting = as_left } in Some p in
       let none : drop most_waiting (map waits messages) ≡ [] = drop_all most_waiting (map waits messages) (omega (arith, few, length-map messages waits)) in
       get-put waiting.pools 129 (without_oldest most_waiting (FinMap.get waiting.pools 129)) 129
       ∙ ap (without_oldest most_waiting) (all-wait messages s.pools (empty_pool most_waiting) j.pool fits)

@@ -14,7 +14,7 @@ use Rattle.seq_state.specs.declared.input.Command.TheVariants.{Open, CreatePort,
 use Rattle.seq_state.specs.declared.input.Input.{Input}
 use Rattle.seq_state.specs.declared.log.Delivery.{Delivery}
 use Rattle.seq_state.specs.declared.log.Reply.TheVariants.{Done}
-use Rattle.seq_state.specs.State.{Client, Pool, Pending, State, start, put}
+use Rattle.seq_state.specs.State.{Client, ClientPool, Pending, State, start, put}
 use Rattle.seq_state.specs.Own.{new_client, new_port, put_port, has_port, with_change}
 use Rattle.seq_state.specs.Table.{command_row}
 use Rattle.seq_state.specs.Step.{port_addr, upto, settle, Settled, Stepped, unless, refusal_of, command_step, step, state_after}
@@ -63,13 +63,13 @@ with_out = put_port 0 (Some (new_port (0x6F ∷ 0x75 ∷ 0x74 ∷ []) readable))
 abbrev with_in : Client
 with_in = put_port 0 (Some (new_port (0x69 ∷ 0x6E ∷ []) writable)) sink
 
-abbrev after : FinMap nat_cmp Client → FinMap nat_cmp Pool → State
+abbrev after : FinMap nat_cmp Client → FinMap nat_cmp ClientPool → State
 after clients pools = record { clients = clients; pools = pools; edges = []; pending = [] }
 
-abbrev one_pool : FinMap nat_cmp Pool
+abbrev one_pool : FinMap nat_cmp ClientPool
 one_pool = FinMap.insert FinMap.empty 128 (empty_pool 1)
 
-abbrev both_pools : FinMap nat_cmp Pool
+abbrev both_pools : FinMap nat_cmp ClientPool
 both_pools = FinMap.insert one_pool 129 (empty_pool most_waiting)
 
 abbrev clients1 : FinMap nat_cmp Client

@@ -8,8 +8,8 @@ use Rattle.std.proofs.lemmas.Bool.{lt-ltb}
 use Rattle.cell_pools.specs.Pools as pools
 use Rattle.seq_state.specs.declared.log.Arrival.{Arrival}
 use Rattle.seq_state.specs.declared.log.Delivery.{Delivery}
-use Rattle.seq_state.specs.State.{Pool, put}
-use Rattle.seq_state.specs.Step.{arrival, has_room, offer, offered, delivered}
+use Rattle.seq_state.specs.State.{ClientPool, put}
+use Rattle.seq_state.specs.Step.{arrival, pool_has_room, offer, offered, delivered}
 use Rattle.seq_state.proofs.Effects.{get-put}
 
 -- a message as it comes to the port of the second client
@@ -21,19 +21,19 @@ abbrev pub waits : List ℕ → Arrival
 waits message = arrival (came message)
 
 -- these wait too
-abbrev pub with_more : Pool → List Arrival → Pool
+abbrev pub with_more : ClientPool → List Arrival → ClientPool
 with_more p as_well = record p { waiting = p.waiting ++ as_well }
 
-module _ (m : FinMap nat_cmp Pool) (p : Pool) (message : List ℕ) (here : FinMap.get m 129 ≡ Some p) (room : length p.waiting < p.size) where
+module _ (m : FinMap nat_cmp ClientPool) (p : ClientPool) (message : List ℕ) (here : FinMap.get m 129 ≡ Some p) (room : length p.waiting < p.size) where
   one-offered : offer (FinMap.get m 129) (came message) ≡ Some (with_more p (waits message ∷ []))
   one-offered =
       ap (λ o. offer o (came message)) here
       ∙ ap (λ b. Some (if b then with_more p (waits message ∷ []) else record p { lost = min (p.lost + 1) pools.most_lost })) (lt-ltb (length p.waiting) p.size room)
 
-  one-found : has_room (FinMap.get m 129) ≡ true
-  one-found = ap has_room here ∙ lt-ltb (length p.waiting) p.size room
+  one-found : pool_has_room (FinMap.get m 129) ≡ true
+  one-found = ap pool_has_room here ∙ lt-ltb (length p.waiting) p.size room
 
-  abbrev after_one : FinMap nat_cmp Pool
+  abbrev after_one : FinMap nat_cmp ClientPool
   after_one = put m 129 (offer (FinMap.get m 129) (came message))
 
   after-here : FinMap.get after_one 129 ≡ Some (with_more p (waits message ∷ []))
@@ -46,7 +46,7 @@ has-room : (waiting size n : ℕ) → waiting + (1 + n) ≤ size → waiting < s
 has-room waiting size n h = omega arith
 
 -- where there is room for all, all are delivered
-pub all-delivered : (ms : List (List ℕ)) (m : FinMap nat_cmp Pool) (p : Pool) → FinMap.get m 129 ≡ Some p → length p.waiting + length ms ≤ p.size → delivered m (map came ms) ≡ map came ms
+pub all-delivered : (ms : List (List ℕ)) (m : FinMap nat_cmp ClientPool) (p : ClientPool) → FinMap.get m 129 ≡ Some p → length p.waiting + length ms ≤ p.size → delivered m (map came ms) ≡ map came ms
 all-delivered [] m p here fits = refl
 all-delivered (c ∷ ms) m p here fits =
     let fits_more : length p.waiting + (1 + length ms) ≤ p.size = omega (arith, fits) in
@@ -56,10 +56,10 @@ all-delivered (c ∷ ms) m p here fits =
     ∙ ap (λ es. came c ∷ es) (all-delivered ms (after_one m p c here room) (with_more p (waits c ∷ [])) (after-here m p c here room) (room-left m p c here room (length ms) fits_more))
 
 -- and wait
-pub all-wait : (ms : List (List ℕ)) (m : FinMap nat_cmp Pool) (p : Pool) → FinMap.get m 129 ≡ Some p → length p.waiting + length ms ≤ p.size → FinMap.get (offered m (map came ms)) 129 ≡ Some (with_more p (map waits ms))
-all-wait [] m p here fits = here ∙ ap (λ as_well. let q : Pool = record p { waiting = as_well } in Some q) (sym (append-nil p.waiting))
+pub all-wait : (ms : List (List ℕ)) (m : FinMap nat_cmp ClientPool) (p : ClientPool) → FinMap.get m 129 ≡ Some p → length p.waiting + length ms ≤ p.size → FinMap.get (offered m (map came ms)) 129 ≡ Some (with_more p (map waits ms))
+all-wait [] m p here fits = here ∙ ap (λ as_well. let q : ClientPool = record p { waiting = as_well } in Some q) (sym (append-nil p.waiting))
 all-wait (c ∷ ms) m p here fits =
     let fits_more : length p.waiting + (1 + length ms) ≤ p.size = omega (arith, fits) in
     let room : length p.waiting < p.size = has-room (length p.waiting) p.size (length ms) fits_more in
     all-wait ms (after_one m p c here room) (with_more p (waits c ∷ [])) (after-here m p c here room) (room-left m p c here room (length ms) fits_more)
-    ∙ ap (λ as_well. let q : Pool = record p { waiting = as_well } in Some q) (append_assoc p.waiting (waits c ∷ []) (map waits ms))
+    ∙ ap (λ as_well. let q : ClientPool = record p { waiting = as_well } in Some q) (append_assoc p.waiting (waits c ∷ []) (map waits ms))

@@ -36,12 +36,12 @@ IsNamedBy (Path path) word = (path.now ≡ word) × (word ≢ codes "-")
 -- ---- the line of a fault
 
 -- a control character as it is written with a backslash, and each other as it is
-abbrev pub shown : ℕ → List ℕ
-shown c = if is_control c then encode_utf8_all (escape_default c) else encode_utf8 c
+abbrev pub escaped_char : ℕ → List ℕ
+escaped_char c = if is_control c then encode_utf8_all (escape_default c) else encode_utf8 c
 
 -- a text without control characters
 abbrev pub escaped : List ℕ → List ℕ
-escaped text = flat_map shown (chars text)
+escaped text = flat_map escaped_char (chars text)
 
 -- what stands in the line of a fault
 abbrev pub program_fault_text : ProgramFault → List ℕ

@@ -19,11 +19,11 @@ use smf_files::{Cursor, Event, SmfFile, TempoEntry};
 use std::alloc::Global;
 use text_forms::{push_decimal, push_spaced};
 
-/// Prints what the Standard MIDI File that `input` gives says: a line on its header, one for each tempo entry, one for each
-/// event by tick, track and place, and how many events are skipped.
+/// Prints what the Standard MIDI File that `input` gives says: a line on its header, one for each tempo entry, one for
+/// each event by tick, track and place, and how many events are skipped.
 ///
-/// Nothing is written before the whole file was read and accepted; at a later fault the sink has taken a front of the text.
-/// A file of more than 16,777,216 bytes is not read to its end.
+/// Nothing is written before the whole file was read and accepted; at a later fault the sink has taken a front of the
+/// text. A file of more than 16,777,216 bytes is not read to its end.
 pub fn dump_text<R: Source, W: Sink>(
     alloc: Global,
     input: &mut R,

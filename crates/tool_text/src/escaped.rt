@@ -3,7 +3,7 @@
 ghost use Rattle.std.specs.Prelude.{encode_utf8_all};
 ghost use Rattle.std.specs.Char.Escape.{escape_default};
 ghost use Rattle.std.specs.Fmt.{WritesOnOk};
-ghost use Rattle.tool_text.specs.Program.{shown, escaped};
+ghost use Rattle.tool_text.specs.Program.{escaped_char, escaped};
 
 use std::fmt;
 
@@ -32,7 +32,7 @@ fn write_escaped<W: fmt::Write>(text: &str, f: &mut fmt::Formatter<W>) -> fmt::R
 }
 
 fn write_shown<W: fmt::Write>(c: char, f: &mut fmt::Formatter<W>) -> fmt::Result
-    ensures { WritesOnOk W.write_str_gives f.old result (shown c) f.new }
+    ensures { WritesOnOk W.write_str_gives f.old result (escaped_char c) f.new }
 {
     if c.is_control() {
         return write_escape(c, f);

@@ -158,7 +158,8 @@ impl<T: Drop> From<AllocFailed<T>> for ProgramFault<'_> {
     }
 }
 
-/// A file that a run leaves out, by its name. It is printed in one line, with the control characters of the name escaped.
+/// A file that a run leaves out, by its name. It is printed in one line, with the control characters of the name
+/// escaped.
 #[derive(Clone, Copy, Debug, PartialEq, Eq)]
 pub struct LeftOut<'a>(pub &'a str);
 

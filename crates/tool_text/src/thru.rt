@@ -33,8 +33,8 @@ const READABLE: u8 = 33;
 /// WRITE and SUBS_WRITE, 2 and 64: others may subscribe the port.
 const WRITABLE: u8 = 66;
 
-/// Passes the MIDI stream that `input` gives from the first of two clients of a sequencer to the second, and prints each
-/// message that comes there: its moment, the port that it came to, and its bytes.
+/// Passes the MIDI stream that `input` gives from the first of two clients of a sequencer to the second, and prints
+/// each message that comes there: its moment, the port that it came to, and its bytes.
 ///
 /// At a fault the sink has taken a front of the text.
 pub fn thru_text<R: Source, W: Sink>(

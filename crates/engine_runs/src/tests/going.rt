@@ -38,8 +38,8 @@ fn a_third_client_that_may(rt: HostRuntime) -> Result<(), Fail> {
     )
 }
 
-/// A port that is made again under its number begins with a new stream and no subscription. The client's other port is left
-/// as it was.
+/// A port that is made again under its number begins with a new stream and no subscription. The client's other port is
+/// left as it was.
 #[test]
 fn a_port_made_again(rt: HostRuntime) -> Result<(), Fail> {
     let alloc = rt.alloc();

@@ -131,7 +131,8 @@ fn thirty_two_sources(rt: HostRuntime) -> Result<(), Fail> {
     assert_log(&rt, alloc, &log, 129, wanted.as_str())
 }
 
-/// Sixteen ports of client 128 and one of client 130 are joined to port 0 of client 129, and the fourth is parted again.
+/// Sixteen ports of client 128 and one of client 130 are joined to port 0 of client 129, and the fourth is parted
+/// again.
 fn sources_lines(alloc: Global) -> Lines {
     let mut lines = Lines::new(alloc);
     lines.open(0, "a", 8, 8);

@@ -81,7 +81,8 @@ fn input_overflow(rt: HostRuntime) -> Result<(), Fail> {
     assert_log(&rt, alloc, &log, 130, heard)
 }
 
-/// Two filters lead from one port to another, the one that raises notes joined to the source last and to the target first.
+/// Two filters lead from one port to another, the one that raises notes joined to the source last and to the target
+/// first.
 pub fn copies_by_edge_age_lines(alloc: Global) -> Lines {
     let mut lines = Lines::new(alloc);
     lines.sender();
@@ -175,7 +176,8 @@ fn hop_limit(rt: HostRuntime) -> Result<(), Fail> {
     assert_log(&rt, alloc, &log, 129, heard)
 }
 
-/// Eight filters follow each other. Port 0 leads to the first, which is nine edges from the listener, port 1 to the second.
+/// Eight filters follow each other. Port 0 leads to the first, which is nine edges from the listener, port 1 to the
+/// second.
 fn eight_hops_lines(alloc: Global) -> Lines {
     let mut lines = Lines::new(alloc);
     lines.sender();

@@ -25,8 +25,8 @@ const SMALL: &[u8] = &[
 const DUMPED: &[u8] =
     b"format 0 tracks 1 division 480\ntempo 0 500000\n0 90 3C 40\n480 90 3C 00\nskipped 0\n";
 
-/// A tool prints a text of bytes. To a sink that takes a byte at a time, and fails at a write, it prints those of the writes
-/// before.
+/// A tool prints a text of bytes. To a sink that takes a byte at a time, and fails at a write, it prints those of the
+/// writes before.
 fn assert_writes(
     rt: &impl Abort,
     alloc: Global,
@@ -51,7 +51,8 @@ fn assert_writes(
     Ok(())
 }
 
-/// A tool prints a text of bytes in so many reads. Where one of them fails, it prints a front of the text, and of a file nothing.
+/// A tool prints a text of bytes in so many reads. Where one of them fails, it prints a front of the text, and of a
+/// file nothing.
 fn assert_reads(
     rt: &impl Abort,
     alloc: Global,

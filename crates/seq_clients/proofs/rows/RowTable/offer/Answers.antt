@@ -1,7 +1,7 @@
 use Rattle.std.proofs.Common.{◌∙◌, Option, Some, ap, sym}
 use Rattle.std.specs.Option.{option_map}
 use Rattle.seq_state.specs.State.{put}
-use Rattle.seq_state.specs.Step.{has_room}
+use Rattle.seq_state.specs.Step.{pool_has_room}
 use Rattle.seq_clients.specs.Rows.{row_offered}
 use Rattle.seq_clients.specs.contracts.rows.RowTable.{the_view}
 use Rattle.seq_clients.specs.declared.row.ClientRow.{ClientRow}
@@ -12,9 +12,9 @@ use Rattle.seq_clients.proofs.rows.RowTable.offer.Goals.{in-Some, in-None+in-Exc
 pub returns-clause-kept : goal.returns-clause-kept
 returns-clause-kept c =
     let here = get_at (option_map (λ b. b.value)) 128 64 _ _ c.self.view_is c.self.invariant _ _ c.row_of.ensures.start c.row_of.ensures.small c.index-self-row_of.result in
-    let room = λ (o : Option ClientRow). has_room (option_map (λ r. r.pool) o) in
+    let room = λ (o : Option ClientRow). pool_has_room (option_map (λ r. r.pool) o) in
     elim c.match-self-row_of.branch [
-      | in-Some w ↦ w.result-is ∙ w.offer.ensures.kept ∙ ap (λ (r : ClientRow). has_room (Some r.pool)) w.deref_mut.ensures.value ∙ ap room (ap (option_map (λ b. b.value)) (sym w.in-Some.is) ∙ here)
+      | in-Some w ↦ w.result-is ∙ w.offer.ensures.kept ∙ ap (λ (r : ClientRow). pool_has_room (Some r.pool)) w.deref_mut.ensures.value ∙ ap room (ap (option_map (λ b. b.value)) (sym w.in-Some.is) ∙ here)
       | in-None+in-Exclusive-1 w ↦ w.result-is ∙ ap room (ap (option_map (λ b. b.value)) (sym w.in-None.is) ∙ here)
       | in-None+in-Alone-1 w ↦ w.result-is ∙ ap room (ap (option_map (λ b. b.value)) (sym w.in-None.is) ∙ here)
     ]

@@ -1,12 +1,12 @@
 use Rattle.std.proofs.Common.{◌≡◌, ◌≤◌, ◌<◌, ◌+◌, ◌*◌, ◌^◌, ◌∙◌, length, ap, sym, subst, arith}
 use Rattle.tempo_clock.specs.Ticks.{numerator}
-use Rattle.tempo_clock.specs.Kept.{IsKept, entry_at}
+use Rattle.tempo_clock.specs.Kept.{AreStartsKept, entry_at}
 use Rattle.tempo_clock.proofs.Found.{tick_at-is}
 use Rattle.tempo_clock.proofs.tempo_map.TempoMap.tick_at.Goals as goal
 
 pub returns : goal.returns
 returns c =
-    let kept : IsKept c.args.self.now c.self.inside.ppq c.self.inside.starts.items = subst (λ m. IsKept m c.self.inside.ppq c.self.inside.starts.items) c.self.view_is c.self.invariant in
+    let kept : AreStartsKept c.args.self.now c.self.inside.ppq c.self.inside.starts.items = subst (λ m. AreStartsKept m c.self.inside.ppq c.self.inside.starts.items) c.self.view_is c.self.invariant in
     let limit = c.args.nanos * c.self.inside.ppq in
     let start : c.segment-segment.result.start ≡ numerator c.args.self.now c.segment-segment.result.tick = c.segment-segment.ensures.start in
     let low : c.segment-segment.result.start ≤ limit = rw (start, c.segment-segment.ensures.tick) c.entries_within.ensures.low in
