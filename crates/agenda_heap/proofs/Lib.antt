@@ -1,6 +1,7 @@
 mod Told
 mod CellLemmas
 mod OrderLemmas
+mod AscendLemmas
 mod KeyLemmas
 mod StoredLemmas
 mod RetainLemmas

@@ -1,10 +1,11 @@
-//! An agenda over a heap, in which old entries stay until they are met or cleared.
+//! An agenda over a list and a heap, in which old entries stay until they are met or cleared.
 
-ghost use Rattle.std.specs.Prelude.{◌≡◌, ◌≤◌, ◌+◌, ◌*◌, OnOk, OnErr, IfSome, IfNone, length};
+ghost use Rattle.std.specs.Prelude.{◌≡◌, ◌≤◌, ◌+◌, ◌*◌, ◌↔◌, [], ◌∷◌, ◌++◌, IsTrue, OnOk, OnErr, IfSome, IfNone, length, slice_get, if◌then◌else◌};
 ghost use Rattle.std.specs.FinMap as map;
 ghost use Rattle.std.specs.BinaryHeap.{heap_items, heap_len, IsHeap, KeepsHeap};
+ghost use Rattle.std.specs.VecDeque.{deque_len};
 ghost use Rattle.agenda_heap.specs.Due.{IsFirstDue, NoneDue};
-ghost use Rattle.agenda_heap.specs.Stored.{reversed_cmp, slack, GainsEntry, IsStored, HoldsCells, HoldsOthers};
+ghost use Rattle.agenda_heap.specs.Stored.{reversed, reversed_cmp, slack, AllLater, Ascends, GainsEntry, IsLeast, IsStored, HoldsCells, HoldsOthers};
 
 use crate::agenda::Agenda;
 use crate::due_key::DueKey;
@@ -14,38 +15,46 @@ use cell_pools::CellKey;
 use memory::OutOfMemory;
 use std::alloc::Global;
 use std::cmp::Reverse;
-use std::collections::BinaryHeap;
+use std::collections::{BinaryHeap, VecDeque};
 use std::marker::Model;
 use std::mem;
 
-/// How many entries may stand in the heap beyond two for each cell.
+/// How many entries may stand beyond two for each cell.
 const SLACK: usize = 64;
 
-/// An agenda in logarithmic time, over a heap of entries: a cell that goes or gets another key leaves its entry behind.
+/// An agenda of entries, ordered by key and then by cell: a cell that goes or gets another key leaves its entry behind.
+///
+/// An entry that is greater than the last of a list goes to its end, in constant time, and any other into a heap, in
+/// logarithmic time. So the list ascends, and the least entry is its first or the heap's top.
 ///
 /// An entry is stale once its cell went or got another key, and of equal entries all but one are. A call
 /// after which more than two entries for each cell and 64 would stand drops the stale ones, more than half of all, in
 /// linear time and in place: each entry is dropped once, so this adds a constant to the call that left it.
 ///
-/// Beside the heap stands a table as long as the greatest number of a cell so far; it never shrinks.
+/// Beside the entries stands a table as long as the greatest number of a cell so far; it never shrinks.
 #[derive(Drop)]
 pub struct HeapAgenda {
     alloc: Global,
+    // Reversed as the heap's are, so that one function clears both.
+    ascending: VecDeque<Reverse<Entry>>,
     heap: BinaryHeap<Reverse<Entry>>,
     table: KeyTable,
 }
 
 impl Model for HeapAgenda {
+    ghost use Rattle.std.specs.Prelude.{◌+◌};
     ghost use Rattle.std.specs.BinaryHeap.{heap_items, heap_len};
+    ghost use Rattle.std.specs.VecDeque.{deque_len};
     ghost use Rattle.agenda_heap.specs.Stored.{HeapState, coded_heap, IsStored};
 
     ghost Value = { HeapState };
 
     ghost coded = { coded_heap };
 
-    ghost view = { λ a. record { keys = a.table; stored = heap_len a.heap } };
+    ghost view = { λ a.
+        record { keys = a.table; stored = deque_len a.ascending + heap_len a.heap } };
 
-    ghost invariant = { λ a. IsStored a.table (heap_items a.heap) };
+    ghost invariant = { λ a. IsStored a.table a.ascending.items (heap_items a.heap) };
 }
 
 impl HeapAgenda {
@@ -56,17 +65,18 @@ impl HeapAgenda {
     {
         HeapAgenda {
             alloc,
+            ascending: VecDeque::new(alloc),
             heap: BinaryHeap::new(alloc),
             table: KeyTable::new(alloc),
         }
     }
 
-    /// How many entries the heap has, stale ones too.
+    /// How many entries stand in the list and the heap, stale ones too.
     pub fn stored(&self) -> usize
         ensures value { result ≡ self.now.stored }
         ensures few { result ≤ 2 * map.len self.now.keys + slack }
     {
-        self.heap.len()
+        self.ascending.len() + self.heap.len()
     }
 }
 
@@ -75,28 +85,55 @@ impl Agenda for HeapAgenda {
 
     #[inline]
     fn insert(&mut self, cell: CellKey, key: DueKey) -> Result<(), OutOfMemory> {
-        store(&mut self.heap, &mut self.table, cell.number(), key)?;
+        store(
+            &mut self.ascending,
+            &mut self.heap,
+            &mut self.table,
+            cell.number(),
+            key,
+        )?;
         Ok(())
     }
 
     #[inline]
     fn rekey(&mut self, cell: CellKey, key: DueKey) -> Result<(), OutOfMemory> {
-        store(&mut self.heap, &mut self.table, cell.number(), key)?;
-        trim(self.alloc, &mut self.heap, &mut self.table);
+        store(
+            &mut self.ascending,
+            &mut self.heap,
+            &mut self.table,
+            cell.number(),
+            key,
+        )?;
+        trim(
+            self.alloc,
+            &mut self.ascending,
+            &mut self.heap,
+            &mut self.table,
+        );
         Ok(())
     }
 
     #[inline]
     fn remove(&mut self, cell: CellKey) {
         self.table.remove(cell.number());
-        trim(self.alloc, &mut self.heap, &mut self.table);
+        trim(
+            self.alloc,
+            &mut self.ascending,
+            &mut self.heap,
+            &mut self.table,
+        );
     }
 
     #[inline]
     fn pop_due(&mut self, moment: u64) -> Option<(CellKey, DueKey)> {
-        let entry = pop_live(&mut self.heap, &self.table, moment)?;
+        let entry = pop_live(&mut self.ascending, &mut self.heap, &self.table, moment)?;
         self.table.remove(entry.cell);
-        trim(self.alloc, &mut self.heap, &mut self.table);
+        trim(
+            self.alloc,
+            &mut self.ascending,
+            &mut self.heap,
+            &mut self.table,
+        );
         Some((CellKey::new(entry.cell), entry.key))
     }
 
@@ -109,45 +146,70 @@ impl Agenda for HeapAgenda {
 /// Gives a cell a key, and adds their entry.
 #[inline]
 fn store(
+    ascending: &mut VecDeque<Reverse<Entry>>,
     heap: &mut BinaryHeap<Reverse<Entry>>,
     table: &mut KeyTable,
     cell: usize,
     key: DueKey,
 ) -> Result<(), OutOfMemory>
+    requires { Ascends ascending.old.items }
+    ensures ascends { Ascends ascending.new.items }
     ensures order { KeepsHeap reversed_cmp (heap_items heap.old) (heap_items heap.new) }
-    ensures gained { OnOk result (GainsEntry (heap_items heap.old) (heap_items heap.new) key cell) }
+    ensures gained { OnOk result (GainsEntry (ascending.old.items ++ heap_items heap.old)
+        (ascending.new.items ++ heap_items heap.new) key cell) }
     ensures keyed { OnOk result (table.new ≡ map.insert table.old cell key) }
+    ensures listed { OnErr result (ascending.new.items ≡ ascending.old.items) }
     ensures items { OnErr result (heap_items heap.new ≡ heap_items heap.old) }
     ensures err { OnErr result (table.new ≡ table.old) }
 {
+    // Both have room first, so that the entry finds its place once the cell has its key.
+    ascending.reserve(1)?;
     heap.reserve(1)?;
     table.put(cell, key)?;
-    match heap.push(Reverse(Entry { key, cell })) {
+    let entry = Entry { key, cell };
+    if comes_last(ascending, &entry) {
+        ascending.push_back_reserved(Reverse(entry));
+        return Ok(());
+    }
+    match heap.push(Reverse(entry)) {
         Ok(()) => Ok(()),
         Err(_) => unreachable!(),
     }
 }
 
+/// The list still ascends with the entry at its end.
+#[inline]
+fn comes_last(ascending: &VecDeque<Reverse<Entry>>, entry: &Entry) -> bool
+    requires { Ascends ascending.now.items }
+    ensures { IsTrue result
+        ↔ Ascends (ascending.now.items ++ reversed entry.now.key entry.now.cell ∷ []) }
+{
+    match ascending.back() {
+        Some(last) => last.0 < *entry,
+        None => true,
+    }
+}
+
 /// Removes entries up to the first that is not stale, where its moment is at most `moment`, and gives it.
 #[inline]
-fn pop_live(heap: &mut BinaryHeap<Reverse<Entry>>, table: &KeyTable, moment: u64) -> Option<Entry>
-    requires { IsStored table.now (heap_items heap.old) }
+fn pop_live(
+    ascending: &mut VecDeque<Reverse<Entry>>,
+    heap: &mut BinaryHeap<Reverse<Entry>>,
+    table: &KeyTable,
+    moment: u64,
+) -> Option<Entry>
+    requires { IsStored table.now ascending.old.items (heap_items heap.old) }
+    ensures ascends { Ascends ascending.new.items }
     ensures order { IsHeap reversed_cmp (heap_items heap.new) }
     ensures some { IfSome result (λ e. IsFirstDue table.now e.cell e.key moment) }
-    ensures others { IfSome result (λ e. HoldsOthers table.now e.cell (heap_items heap.new)) }
-    ensures few { length (heap_items heap.new) ≤ length (heap_items heap.old) }
+    ensures others { IfSome result (λ e.
+        HoldsOthers table.now e.cell (ascending.new.items ++ heap_items heap.new)) }
+    ensures few { length ascending.new.items + length (heap_items heap.new)
+        ≤ length ascending.old.items + length (heap_items heap.old) }
     ensures none { IfNone result (NoneDue table.now moment) }
-    ensures kept { IfNone result (IsStored table.now (heap_items heap.new)) }
+    ensures kept { IfNone result (IsStored table.now ascending.new.items (heap_items heap.new)) }
 {
-    while let Some(top) = heap.peek() {
-        // What is stale and still to come stays, since all below it is still to come.
-        if top.0.key.moment > moment {
-            return None;
-        }
-        let first = match heap.pop() {
-            Some(first) => first.0,
-            None => unreachable!(),
-        };
+    while let Some(first) = pop_first(ascending, heap, moment) {
         if table.has(&first) {
             return Some(first);
         }
@@ -155,27 +217,98 @@ fn pop_live(heap: &mut BinaryHeap<Reverse<Entry>>, table: &KeyTable, moment: u64
     None
 }
 
+/// Removes the least entry, where its moment is at most `moment`, and gives it.
+#[inline]
+fn pop_first(
+    ascending: &mut VecDeque<Reverse<Entry>>,
+    heap: &mut BinaryHeap<Reverse<Entry>>,
+    moment: u64,
+) -> Option<Entry>
+    requires ascends { Ascends ascending.old.items }
+    requires order { IsHeap reversed_cmp (heap_items heap.old) }
+    ensures ascends { Ascends ascending.new.items }
+    ensures order { IsHeap reversed_cmp (heap_items heap.new) }
+    ensures due { IfSome result (λ e. e.key.moment ≤ moment) }
+    ensures least { IfSome result (λ e. IsLeast e (ascending.old.items ++ heap_items heap.old)) }
+    ensures popped { IfSome result (λ e. GainsEntry (ascending.new.items ++ heap_items heap.new)
+        (ascending.old.items ++ heap_items heap.old) e.key e.cell) }
+    ensures none { IfNone result (AllLater moment (ascending.old.items ++ heap_items heap.old)) }
+    ensures listed { IfNone result (ascending.new.items ≡ ascending.old.items) }
+    ensures items { IfNone result (heap_items heap.new ≡ heap_items heap.old) }
+{
+    let (first, is_listed) = first_of(ascending, heap)?;
+    // What is stale and still to come stays, since all else is still to come too.
+    if first.key.moment > moment {
+        return None;
+    }
+    if is_listed {
+        ascending.pop_front();
+    } else {
+        heap.pop();
+    }
+    Some(first)
+}
+
+/// The least entry, and whether it is the list's first and not the heap's top.
+#[inline]
+fn first_of(
+    ascending: &VecDeque<Reverse<Entry>>,
+    heap: &BinaryHeap<Reverse<Entry>>,
+) -> Option<(Entry, bool)>
+    requires ascends { Ascends ascending.now.items }
+    requires order { IsHeap reversed_cmp (heap_items heap.now) }
+    ensures least { IfSome result (λ r. IsLeast r.0 (ascending.now.items ++ heap_items heap.now)) }
+    ensures place { IfSome result (λ r.
+        slice_get (if r.1 then ascending.now.items else heap_items heap.now) 0
+        ≡ Some (record { 0 = r.0 })) }
+    ensures none { IfNone result (ascending.now.items ++ heap_items heap.now ≡ []) }
+{
+    let front = match ascending.front() {
+        Some(front) => front.0,
+        None => return Some((heap.peek()?.0, false)),
+    };
+    if let Some(top) = heap.peek() {
+        if top.0 < front {
+            return Some((top.0, false));
+        }
+    }
+    Some((front, true))
+}
+
 /// Clears the stale entries where they are too many.
 #[inline]
-fn trim(alloc: Global, heap: &mut BinaryHeap<Reverse<Entry>>, table: &mut KeyTable)
+fn trim(
+    alloc: Global,
+    ascending: &mut VecDeque<Reverse<Entry>>,
+    heap: &mut BinaryHeap<Reverse<Entry>>,
+    table: &mut KeyTable,
+)
+    requires ascends { Ascends ascending.old.items }
     requires order { IsHeap reversed_cmp (heap_items heap.old) }
-    requires held { HoldsCells table.old (heap_items heap.old) }
+    requires held { HoldsCells table.old (ascending.old.items ++ heap_items heap.old) }
     ensures same { table.new ≡ table.old }
-    ensures kept { IsStored table.old (heap_items heap.new) }
+    ensures kept { IsStored table.old ascending.new.items (heap_items heap.new) }
 {
     let live = table.len();
-    if heap.len().saturating_sub(live).saturating_sub(live) > SLACK {
-        clear(alloc, heap, table);
+    let stored = ascending.len() + heap.len();
+    if stored.saturating_sub(live).saturating_sub(live) > SLACK {
+        clear(alloc, ascending, heap, table);
     }
 }
 
 /// Clears the stale entries. It takes no memory: the heap goes through a vector in place.
-fn clear(alloc: Global, heap: &mut BinaryHeap<Reverse<Entry>>, table: &mut KeyTable)
-    requires held { HoldsCells table.old (heap_items heap.old) }
+fn clear(
+    alloc: Global,
+    ascending: &mut VecDeque<Reverse<Entry>>,
+    heap: &mut BinaryHeap<Reverse<Entry>>,
+    table: &mut KeyTable,
+)
+    requires ascends { Ascends ascending.old.items }
+    requires held { HoldsCells table.old (ascending.old.items ++ heap_items heap.old) }
     ensures same { table.new ≡ table.old }
-    ensures kept { IsStored table.old (heap_items heap.new) }
+    ensures kept { IsStored table.old ascending.new.items (heap_items heap.new) }
 {
     let mut entries = mem::replace(heap, BinaryHeap::new(alloc)).into_vec();
-    table.keep_live(&mut entries);
+    table.keep_live(ascending, &mut entries);
     *heap = BinaryHeap::from(entries);
 }

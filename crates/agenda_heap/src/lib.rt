@@ -1,7 +1,7 @@
 //! When what is pending is due: cells, each with the key by which it is due, of which the least is taken first.
 //!
-//! `Agenda` is what a caller knows. `HeapAgenda` answers in logarithmic time; `SortedAgenda` is the plain one that it
-//! is compared with.
+//! `Agenda` is what a caller knows. `HeapAgenda` answers in constant time where keys come in order, and else in
+//! logarithmic time; `SortedAgenda` is the plain one that it is compared with.
 #![tactic(auto)]
 
 mod agenda;

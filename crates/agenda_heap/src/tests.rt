@@ -1,4 +1,4 @@
-//! The heap with its stale entries, and both bodies at the same calls.
+//! The list and the heap with their stale entries, and both bodies at the same calls.
 
 ghost use Rattle.std.specs.Prelude.{◌≡◌, ◌<◌};
 ghost use Rattle.std.specs.FinMap as map;
@@ -97,15 +97,21 @@ fn after(x: u64) -> u64 {
     z ^ (z << 17)
 }
 
-/// One call on both, which answer alike. There are few moments, so that cells come back to earlier keys.
+/// One call on both, which answer alike. Most moments are `latest`, so that keys come in order; the others are few and
+/// early, so that keys also come in between, and cells come back to earlier ones.
 fn turn(
     rt: &impl Abort,
     heap: &mut Driver<HeapAgenda>,
     sorted: &mut Driver<SortedAgenda>,
+    latest: u64,
     chance: u64,
 ) -> Result<(), OutOfMemory> {
     let cell = (chance % CELLS as u64) as usize;
-    let moment = (chance >> 8) % 8;
+    let moment = if (chance >> 24) % 4 == 0 {
+        (chance >> 8) % 8
+    } else {
+        latest
+    };
     match (chance >> 16) % 8 {
         0 => {
             heap.remove(cell);
@@ -127,9 +133,9 @@ fn both_bodies_agree(rt: HostRuntime) -> Result<(), OutOfMemory> {
     let mut heap = Driver::new(HeapAgenda::new(rt.alloc()));
     let mut sorted = Driver::new(SortedAgenda::new(rt.alloc()));
     let mut chance = 88_172_645_463_325_252;
-    for _turn in 0..6000 {
+    for count in 0..6000 {
         chance = after(chance);
-        turn(&rt, &mut heap, &mut sorted, chance)?;
+        turn(&rt, &mut heap, &mut sorted, count / 4, chance)?;
     }
     for _cell in 0..=CELLS {
         assert_eq!(rt; heap.pop_due(u64::MAX), sorted.pop_due(u64::MAX));
