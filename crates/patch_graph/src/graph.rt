@@ -182,6 +182,8 @@ impl PatchGraph {
 
     /// Whether a chain of edges leads from one node to the other through filters alone, both of them filters too. It
     /// takes no memory, and goes along each edge at most once.
+    // Not inline: what a search has found takes 22 KiB of stack, which a caller need not have where a port is joined.
+    #[inline(never)]
     pub fn reaches(&self, from: &Addr, to: &Addr) -> bool
         ensures { IsTrue result ↔ Reaches self.now from.now to.now }
     {
