@@ -8,6 +8,7 @@ mod words;
 use byte_io::{StdSink, StdSource};
 use clap::ArgMatches;
 use clap::error::ErrorKind;
+use std::alloc::{AllocError, Global};
 use std::process::ExitCode;
 use std::rt::{Env, Files};
 use std::{env, fs, io};
@@ -44,6 +45,16 @@ fn read_words(rt: &(impl Env + AllocGlobal)) -> Result<Vec<String>, ProgramFault
     Ok(words)
 }
 
+/// What clap makes of the words.
+// Not inline, so that a tool has the stack that clap took.
+#[inline(never)]
+fn parse<'a>(
+    alloc: Global,
+    words: &'a [String],
+) -> Result<Result<ArgMatches<'a>, clap::Error>, AllocError> {
+    Ok(words::command(alloc)?.try_get_matches_from(words))
+}
+
 /// Does what the words say.
 fn program<'a>(
     rt: &(impl Files + Input + Print + Eprint + AllocGlobal + Clone + Drop),
@@ -52,8 +63,7 @@ fn program<'a>(
     if words.len() <= 1 {
         return perform(rt, Task::without_words());
     }
-    let command = words::command(rt.alloc())?;
-    match command.try_get_matches_from(words) {
+    match parse(rt.alloc(), words)? {
         Ok(matches) => {
             let Some((name, found)) = matches.subcommand() else {
                 return Err(ProgramFault::NoSubcommand);
@@ -73,6 +83,7 @@ fn program<'a>(
     }
 }
 
+#[inline(never)]
 fn subcommand<'a>(
     rt: &(impl Files + Input + Print + Eprint + AllocGlobal + Clone + Drop),
     name: &str,
@@ -93,6 +104,7 @@ fn subcommand<'a>(
 }
 
 /// Gives a tool its stream, and prints on standard output.
+#[inline(never)]
 fn perform<'a>(
     rt: &(impl Files + Input + Print + AllocGlobal),
     task: Task<'a>,
