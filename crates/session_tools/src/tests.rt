@@ -24,7 +24,7 @@ fn reads_moments(rt: HostRuntime) {
         ("+1", None),
         ("1s", None),
     ] {
-        assert_eq!(rt; until_named(word), moment, "at {word}");
+        assert!(rt; until_named(word) == moment, "at {word}");
     }
 }
 
@@ -32,11 +32,11 @@ fn reads_moments(rt: HostRuntime) {
 fn reads_ports(rt: HostRuntime) -> Result<(), Fail> {
     let client = ClientId::new(129).ok_or("a client number")?;
     let port = PortNo::new(15).ok_or("a port number")?;
-    assert_eq!(rt; port_named("0129:15"), Some(PortAddr { client, port }));
+    assert!(rt; port_named("0129:15") == Some(PortAddr { client, port }));
     for word in [
         "129:16", "127:0", "192:0", "129", "129:p0", "129:", ":0", "129:0:0",
     ] {
-        assert_eq!(rt; port_named(word), None, "at {word}");
+        assert!(rt; port_named(word) == None, "at {word}");
     }
     Ok(())
 }
@@ -47,10 +47,10 @@ fn reads_scripts_by_client(rt: HostRuntime) -> Result<(), Fail> {
     let scripts = scripts_named(rt.alloc(), &words)
         .ok()
         .ok_or("three scripts")?;
-    assert_eq!(rt; scripts.len(), 3);
+    assert!(rt; scripts.len() == 3);
     for (script, (number, path)) in scripts.iter().zip([(128, "a=b"), (130, ""), (191, "-")]) {
-        assert_eq!(rt; script.client.number(), number);
-        assert_eq!(rt; script.path, path);
+        assert!(rt; script.client.number() == number);
+        assert!(rt; script.path == path);
     }
     Ok(())
 }
@@ -60,7 +60,7 @@ fn tells_the_first_bad_word(rt: HostRuntime) {
     for word in ["128", "127=a", "192=a", "=a", "p=a"] {
         let words = ["130=a", word, "130=b"];
         let fault = scripts_named(rt.alloc(), &words).err();
-        assert_eq!(rt; fault, Some(ProgramFault::NotAScript(word)));
+        assert!(rt; fault == Some(ProgramFault::NotAScript(word)));
     }
 }
 
@@ -69,7 +69,7 @@ fn tells_a_client_with_two_scripts(rt: HostRuntime) -> Result<(), Fail> {
     let client = ClientId::new(130).ok_or("a client number")?;
     let words = ["131=a", "130=a", "129=a", "0130=b"];
     let fault = scripts_named(rt.alloc(), &words).err();
-    assert_eq!(rt; fault, Some(ProgramFault::TwoScripts(client.number())));
+    assert!(rt; fault == Some(ProgramFault::TwoScripts(client.number())));
     Ok(())
 }
 
@@ -95,9 +95,9 @@ fn keeps_midi_files_in_byte_order(rt: HostRuntime) -> Result<(), Fail> {
     ];
     let files = midi_files(owned(rt.alloc(), &names)?)?;
     let wanted = [".mid", "B.mid", "a.mid", "b.mid", "é.mid"];
-    assert_eq!(rt; files.len(), wanted.len());
+    assert!(rt; files.len() == wanted.len());
     for (file, name) in files.iter().zip(wanted) {
-        assert_eq!(rt; file.as_str(), name);
+        assert!(rt; file.as_str() == name);
     }
     Ok(())
 }
@@ -110,10 +110,10 @@ fn takes_256_files(rt: HostRuntime) -> Result<(), Fail> {
     }
     let files = midi_files(names)?;
     let (taken, left_out) = taken_files(files.as_slice());
-    assert_eq!(rt; taken.len(), 256);
-    assert_eq!(rt; left_out.len(), 1);
+    assert!(rt; taken.len() == 256);
+    assert!(rt; left_out.len() == 1);
     for file in left_out {
-        assert_eq!(rt; file.as_str(), "z.mid");
+        assert!(rt; file.as_str() == "z.mid");
     }
     Ok(())
 }
@@ -144,9 +144,9 @@ fn prints_logs_and_the_listing(rt: HostRuntime) -> Result<(), Fail> {
     let listing = b"client 128 keys in 1 out 1\n".as_slice();
     let mut out = sink(alloc)?;
     let done = print_logs(alloc, &scripts, &logs, Some(listing), &mut out);
-    assert_eq!(rt; done, Ok(()));
+    assert!(rt; done == Ok(()));
     let text = b"client 128\n0 line 1 ok\nclient 191\nclient 128 keys in 1 out 1\n";
-    assert_eq!(rt; out.bytes(), text.as_slice());
+    assert!(rt; out.bytes() == text.as_slice());
     Ok(())
 }
 
@@ -160,7 +160,7 @@ fn stops_at_a_failed_write(rt: HostRuntime) -> Result<(), Fail> {
     let mut out = sink(alloc)?;
     out.fail_at(2);
     let done = print_logs(alloc, &scripts, &logs, None, &mut out);
-    assert_eq!(rt; done, Err(ToolFault::Write));
-    assert_eq!(rt; out.bytes(), b"client 128\n0 line 1 ok\n".as_slice());
+    assert!(rt; done == Err(ToolFault::Write));
+    assert!(rt; out.bytes() == b"client 128\n0 line 1 ok\n".as_slice());
     Ok(())
 }

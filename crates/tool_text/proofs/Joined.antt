@@ -157,7 +157,7 @@ first =
 
 second : step [] state1 (input_at_start 128 create_out) ≡ done state2 Done
 second =
-    let makes : Option Client → Stepped = made state1 128 (0x6F ∷ 0x75 ∷ 0x74 ∷ []) 33 in
+    let makes : Option Client → Stepped = made state1 128 (0x6F ∷ 0x75 ∷ 0x74 ∷ []) readable.0 in
     taken state1 128 create_out (makes (FinMap.get clients1 128)) (done state2 Done) refl (creates-port [] state1 0 128 0 (0x6F ∷ 0x75 ∷ 0x74 ∷ []) readable)
     second-allowed (ap makes source-there)
 
@@ -168,7 +168,7 @@ third =
 
 fourth : step [] state3 (input_at_start 129 create_in) ≡ done state4 Done
 fourth =
-    let makes : Option Client → Stepped = made state3 129 (0x69 ∷ 0x6E ∷ []) 66 in
+    let makes : Option Client → Stepped = made state3 129 (0x69 ∷ 0x6E ∷ []) writable.0 in
     taken state3 129 create_in (makes (FinMap.get clients3 129)) (done state4 Done) refl (creates-port [] state3 0 129 0 (0x69 ∷ 0x6E ∷ []) writable)
     fourth-allowed (ap makes sink-there)
 
@@ -234,6 +234,3 @@ said_next e e' s k actor n command command' is next who what =
 
 pub unwrapped : (o : Option ℕ) (x n : ℕ) → o ≡ Some x → IfSome o (λ c. c ≡ n) → x ≡ n
 unwrapped o x n e h = let is : IfSome (Some x) (λ c. c ≡ n) = subst (λ (p : Option ℕ). IfSome p (λ c. c ≡ n)) e h in is
-
-pub caps_unwrapped : (o : Option Caps) (x : Caps) (n : ℕ) → o ≡ Some x → IfSome o (λ c. c.0 ≡ n) → x ≡ record { 0 = n }
-caps_unwrapped o x n e h = let is : IfSome (Some x) (λ c. c.0 ≡ n) = subst (λ (p : Option Caps). IfSome p (λ c. c.0 ≡ n)) e h in ap (λ (m : ℕ). record { 0 = m }) is

@@ -14,7 +14,7 @@ use Rattle.seq_state.specs.State.{State, start}
 use Rattle.seq_state.specs.Step.{step, state_after}
 use Rattle.seq_engine.specs.Seen.{Seen}
 use Rattle.tool_text.specs.Stream.{message_lines}
-use Rattle.tool_text.specs.Thru.{input_at_start, most_piece, passage, passage_line, thru_line, fed_stream, joining, after_input, IsJoined, IsPassing, IsFed}
+use Rattle.tool_text.specs.Thru.{input_at_start, most_piece, passage, passage_line, thru_line, fed_stream, engine_joined, after_input, IsJoined, IsPassing, IsFed}
 use Rattle.tool_text.proofs.Fed.{fed_delivers, passed_joined, passed_stream}
 use Rattle.tool_text.proofs.Few.{piece-few}
 use Rattle.tool_text.proofs.Joined.{joined-state, joined-stream}
@@ -77,7 +77,7 @@ module _ (first e : Seen) (piece left old new : List ℕ) (w : IsOnTheWay first 
 
 -- ---- from the beginning on
 
-pub fed_nothing : (e : Seen) → e ≡ record { files = []; state = state_after [] start joining; moment = 0; steps = 5; failed = false } → IsFed e []
+pub fed_nothing : (e : Seen) → e ≡ engine_joined → IsFed e []
 unfolding rest
 fed_nothing e is =
     let steps : e.steps ≡ 5 = ap (λ (x : Seen). x.steps) is in

@@ -2,12 +2,14 @@
 use Rattle.std.specs.Prelude.{◌≡◌, ◌+◌, ◌*◌, ◌≤◌, ℕ, zero, suc, true, false, List, [], ◌∷◌, ◌++◌, codes, length, take, drop, Some, is_some}
 use Rattle.std.specs.List.{flat_map}
 use Rattle.std.specs.Int.{div_ceil}
+use Rattle.std.specs.Int.RustNames.{bit_or}
 use Rattle.std.specs.Fmt.{decimal}
 use Rattle.std.specs.FinMap
 use Rattle.cell_pools.specs.Pools.{empty_pool, most_waiting}
 use Rattle.midi_wire.specs.Readings.{rest}
 use Rattle.node_table.specs.Text.{addr_text}
 use Rattle.node_table.specs.declared.caps.Caps.{Caps}
+use Rattle.node_table.specs.declared.caps.TheConstants.Caps.{READ, WRITE, SUBS_READ, SUBS_WRITE}
 use Rattle.node_table.specs.declared.number.Node.TheVariants.{Port}
 use Rattle.node_table.specs.declared.number.PortAddr.{PortAddr}
 use Rattle.patch_graph.specs.Edges.{edge}
@@ -17,8 +19,8 @@ use Rattle.seq_state.specs.declared.input.Input.{Input}
 use Rattle.seq_state.specs.declared.log.Delivery.{Delivery}
 use Rattle.seq_state.specs.Laws.{deliveries_of}
 use Rattle.seq_state.specs.Own.{has_port, port_of, fed_of}
-use Rattle.seq_state.specs.State.{State}
-use Rattle.seq_state.specs.Step.{port_addr, step, plain}
+use Rattle.seq_state.specs.State.{State, start}
+use Rattle.seq_state.specs.Step.{port_addr, step, state_after, plain}
 use Rattle.seq_engine.specs.Seen.{Seen}
 use Rattle.text_forms.specs.Hex.{spaced}
 use Rattle.tool_text.specs.Stream.{message_lines}
@@ -29,13 +31,13 @@ use Rattle.tool_text.specs.Stream.{message_lines}
 abbrev pub input_at_start : ℕ → Command → Input
 input_at_start client command = record { moment = 0; actor = client; command = command }
 
--- READ and SUBS_READ, 1 and 32: others may subscribe to the port
+-- others may subscribe to the port
 abbrev pub readable : Caps
-readable = record { 0 = 33 }
+readable = record { 0 = bit_or READ.0 SUBS_READ.0 }
 
--- WRITE and SUBS_WRITE, 2 and 64: others may subscribe the port
+-- others may subscribe the port
 abbrev pub writable : Caps
-writable = record { 0 = 66 }
+writable = record { 0 = bit_or WRITE.0 SUBS_WRITE.0 }
 
 -- clients "source" and "sink" with ports "out" and "in"; the second subscribes its port to the
 -- first's, and as many messages may wait for it as may for any client
@@ -107,6 +109,14 @@ pub record IsJoined (s : State) : Type 0 where
   pub edges : s.edges ≡ edge (port_addr 128 0) (port_addr 129 0) ∷ []
   pub pending : s.pending ≡ []
   pub stream : rest (fed_stream s) ≡ fed_stream s
+
+-- an engine that has taken no input
+abbrev pub engine_at_start : Seen
+engine_at_start = record { files = []; state = start; moment = 0; steps = 0; failed = false }
+
+-- an engine in which the clients are joined
+abbrev pub engine_joined : Seen
+engine_joined = record { files = []; state = state_after [] start joining; moment = 0; steps = 5; failed = false }
 
 -- an engine after an input at moment 0
 abbrev pub after_input : Seen → Input → Seen

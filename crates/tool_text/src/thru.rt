@@ -4,17 +4,19 @@ ghost use Rattle.std.specs.Prelude.{◌≡◌, ◌≤◌, ◌<◌, ◌+◌, ◌*
 ghost use Rattle.std.specs.List.{flat_map};
 ghost use Rattle.midi_wire.specs.Readings.{rest};
 ghost use Rattle.smf_grammar.specs.Chunks.{most_bytes};
-ghost use Rattle.seq_state.specs.State.{start};
-ghost use Rattle.seq_state.specs.Step.{port_addr, step, state_after};
+ghost use Rattle.std.specs.FinMap as map;
+ghost use Rattle.std.specs.Int.RustNames.{bit_or};
+ghost use Rattle.seq_state.specs.Step.{port_addr, step};
 ghost use Rattle.tool_text.specs.Faults.{IsOfStream};
 ghost use Rattle.tool_text.specs.Stream.{message_lines, HasRoom, StopsShort};
-ghost use Rattle.tool_text.specs.Thru.{passage_line, thru_line, thru_text, fed_stream, input_at_start, joining};
+ghost use Rattle.tool_text.specs.Thru.{passage_line, thru_line, thru_text, fed_stream, input_at_start, engine_at_start, engine_joined};
 ghost use Rattle.tool_text.specs.Thru.{most_piece, after_input, IsPassing, IsFed};
 
 use crate::fault::ToolFault;
 use crate::heading::Heading;
 use crate::printing::{Printer, print_stream};
-use agenda_heap::HeapAgenda;
+use agenda_heap::{Agenda, HeapAgenda};
+use bitflags::Flags;
 use byte_io::{Sink, Source};
 use cell_pools::MOST_WAITING;
 use memory::{Items, OutOfMemory};
@@ -26,12 +28,6 @@ use text_forms::push_spaced;
 /// How many bytes are passed on at once. Each completes at most two messages, so that a piece completes no more than
 /// `MOST_WAITING`, for which the second client has room.
 const MOST_PIECE: usize = 1000;
-
-/// READ and SUBS_READ, 1 and 32: others may subscribe to the port.
-const READABLE: u8 = 33;
-
-/// WRITE and SUBS_WRITE, 2 and 64: others may subscribe the port.
-const WRITABLE: u8 = 66;
 
 /// Passes the MIDI stream that `input` gives from the first of two clients of a sequencer to the second, and prints
 /// each message that comes there: its moment, the port that it came to, and its bytes.
@@ -64,33 +60,34 @@ pub fn thru_text<R: Source, W: Sink>(
     ensures unwritten { IsErrOf result ToolFault.OutOfMemory → W.failed out.new ≡ false }
     ensures only { IfErr result IsOfStream }
 {
-    let mut passage = Passage::new(alloc)?;
+    let mut passage = Passage::new(alloc, HeapAgenda::new(alloc))?;
     print_stream(alloc, &mut passage, input, out)
 }
 
 /// A sequencer that a stream is passed through.
 #[derive(Drop)]
-struct Passage<'b> {
+struct Passage<'b, A: Agenda> {
     alloc: Global,
-    engine: Engine<'b, 'b, HeapAgenda>,
+    engine: Engine<'b, 'b, A>,
     bytes: Vec<u8>,
 }
 
-impl<'b> Passage<'b> {
+impl<'b, A: Agenda + Drop> Passage<'b, A> {
     /// No byte has passed.
-    fn new(alloc: Global) -> Result<Passage<'b>, ToolFault>
+    fn new(alloc: Global, agenda: A) -> Result<Passage<'b, A>, ToolFault>
+        requires { A.content agenda ≡ map.empty }
         ensures fed { IfOk result (λ p. IsFed p.engine []) }
         ensures only { IfErr result (λ e. e ≡ ToolFault.OutOfMemory) }
     {
         Ok(Passage {
             alloc,
-            engine: joined(alloc)?,
+            engine: joined(alloc, agenda)?,
             bytes: Vec::new(alloc),
         })
     }
 }
 
-impl<'b> Printer for Passage<'b> {
+impl<'b, A: Agenda> Printer for Passage<'b, A> {
     ghost use Rattle.tool_text.specs.Stream.{message_lines};
     ghost use Rattle.tool_text.specs.Thru.{thru_line, IsFed};
 
@@ -104,33 +101,49 @@ impl<'b> Printer for Passage<'b> {
 }
 
 /// A sequencer with two clients, the second of which has subscribed its port to the first's.
-fn joined<'b>(alloc: Global) -> Result<Engine<'b, 'b, HeapAgenda>, ToolFault>
-    ensures joined { IfOk result (λ e. e ≡ record {
-      files = [];
-      state = state_after [] start joining;
-      moment = 0;
-      steps = 5;
-      failed = false;
-    }) }
+fn joined<'b, A: Agenda + Drop>(
+    alloc: Global,
+    agenda: A,
+) -> Result<Engine<'b, 'b, A>, ToolFault>
+    requires { A.content agenda ≡ map.empty }
+    ensures joined { IfOk result (λ e. e ≡ engine_joined) }
+    ensures only { IfErr result (λ e. e ≡ ToolFault.OutOfMemory) }
+{
+    let mut engine = Engine::new(alloc, &[], agenda);
+    join(alloc, &mut engine)?;
+    Ok(engine)
+}
+
+/// Opens the two clients, and subscribes the port of the second to that of the first.
+fn join<'b, A: Agenda>(alloc: Global, engine: &mut Engine<'b, 'b, A>) -> Result<(), ToolFault>
+    requires { engine.old ≡ engine_at_start }
+    ensures joined { OnOk result (engine.new ≡ engine_joined) }
     ensures only { IfErr result (λ e. e ≡ ToolFault.OutOfMemory) }
 {
     let source = ClientId::new(128).unwrap();
     let sink = ClientId::new(129).unwrap();
     let port = PortNo::new(0).unwrap();
-    let mut engine = Engine::new(alloc, &[], HeapAgenda::new(alloc));
-    say(&mut engine, source, opening(alloc, b"source", 1)?)?;
-    let out = Caps::new(READABLE).unwrap();
-    say(&mut engine, source, creation(alloc, port, b"out", out)?)?;
-    say(&mut engine, sink, opening(alloc, b"sink", MOST_WAITING)?)?;
-    let into = Caps::new(WRITABLE).unwrap();
-    say(&mut engine, sink, creation(alloc, port, b"in", into)?)?;
-    say(&mut engine, sink, connection(source, sink, port))?;
-    Ok(engine)
+    let readable = both(Caps::READ, Caps::SUBS_READ);
+    let writable = both(Caps::WRITE, Caps::SUBS_WRITE);
+    say(engine, source, opening(alloc, b"source", 1)?)?;
+    say(engine, source, creation(alloc, port, b"out", readable)?)?;
+    say(engine, sink, opening(alloc, b"sink", MOST_WAITING)?)?;
+    say(engine, sink, creation(alloc, port, b"in", writable)?)?;
+    say(engine, sink, connection(source, sink, port))
+}
+
+/// All that two sets of capabilities have.
+fn both(one: Caps, other: Caps) -> Caps
+    ensures { result.0 ≡ bit_or one.0 other.0 }
+{
+    let mut caps = one;
+    caps.insert(other);
+    caps
 }
 
 /// Takes a command at moment 0, of which nothing comes to a port.
-fn say<'b>(
-    engine: &mut Engine<'b, 'b, HeapAgenda>,
+fn say<'b, A: Agenda>(
+    engine: &mut Engine<'b, 'b, A>,
     actor: ClientId,
     command: Command,
 ) -> Result<(), ToolFault>
@@ -145,8 +158,8 @@ fn say<'b>(
 }
 
 /// Takes a command at moment 0, and gives what comes to ports.
-fn take<'b>(
-    engine: &mut Engine<'b, 'b, HeapAgenda>,
+fn take<'b, A: Agenda>(
+    engine: &mut Engine<'b, 'b, A>,
     actor: ClientId,
     command: Command,
 ) -> Result<Items<Delivery>, ToolFault>
@@ -216,9 +229,9 @@ fn piece_of(alloc: Global, piece: &[u8]) -> Result<Command, OutOfMemory>
 
 /// Feeds the first client's port, and adds a line for each message that comes to the second's. What was in `bytes` is
 /// lost.
-fn pass_on<'b>(
+fn pass_on<'b, A: Agenda>(
     alloc: Global,
-    engine: &mut Engine<'b, 'b, HeapAgenda>,
+    engine: &mut Engine<'b, 'b, A>,
     piece: &[u8],
     bytes: &mut Vec<u8>,
     text: &mut Vec<u8>,
@@ -242,9 +255,9 @@ fn pass_on<'b>(
 
 /// The same for so few bytes that what they complete finds room, after which the second client takes all that waits for
 /// it: so there is room for the next.
-fn pass_part<'b>(
+fn pass_part<'b, A: Agenda>(
     alloc: Global,
-    engine: &mut Engine<'b, 'b, HeapAgenda>,
+    engine: &mut Engine<'b, 'b, A>,
     part: &[u8],
     bytes: &mut Vec<u8>,
     text: &mut Vec<u8>,

@@ -36,12 +36,12 @@ fn ran_with(
 ) -> Result<RunLog, Fail> {
     assert!(rt; is_timed(inputs, until));
     let (log, sorted) = run_under_both(alloc, files, inputs, until)?;
-    assert_eq!(rt; log.entries.len(), sorted.entries.len());
+    assert!(rt; log.entries.len() == sorted.entries.len());
     for client in 128..132 {
         let heard = heard_by(alloc, &sorted, client)?;
         assert_log(rt, alloc, &log, client, heard.as_str())?;
     }
-    assert_eq!(rt; log.listing.as_slice(), sorted.listing.as_slice());
+    assert!(rt; log.listing.as_slice() == sorted.listing.as_slice());
     Ok(log)
 }
 
@@ -142,7 +142,7 @@ pub fn assert_log(
     wanted: &str,
 ) -> Result<(), Fail> {
     let heard = heard_by(alloc, log, client)?;
-    assert_eq!(rt; heard.as_str(), wanted);
+    assert!(rt; heard.as_str() == wanted);
     Ok(())
 }
 
@@ -162,6 +162,6 @@ pub fn assert_bytes(rt: &impl Abort, log: &RunLog, client: u8, wanted: &[u8]) ->
         port: PortNo::new(0).ok_or("a port number")?,
     };
     let bytes = log.port_bytes(port)?;
-    assert_eq!(rt; bytes.as_slice(), wanted);
+    assert!(rt; bytes.as_slice() == wanted);
     Ok(())
 }

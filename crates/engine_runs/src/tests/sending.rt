@@ -23,7 +23,7 @@ fn first_note(rt: HostRuntime) -> Result<(), Fail> {
     assert_bytes(&rt, &log, 129, b"\x90\x3C\x40")?;
     let listing =
         b"client 128 a in 8 out 8\nport 128:p0 out 33\nclient 129 b in 8 out 8\nport 129:p0 in 66\nedge 128:p0 129:p0\n";
-    assert_eq!(rt; log.listing.as_slice(), listing.as_slice());
+    assert!(rt; log.listing.as_slice() == listing.as_slice());
     Ok(())
 }
 

@@ -17,12 +17,12 @@ fn settles_with_nothing_due(rt: HostRuntime) -> Result<(), Fail> {
 
 /// A new engine has nothing to send.
 fn assert_idle(rt: &impl Abort, engine: &mut Engine<'_, '_, HeapAgenda>) -> Result<(), Fail> {
-    assert_eq!(rt; engine.now(), 0);
-    assert_eq!(rt; engine.steps(), 0);
-    assert_eq!(rt; engine.settle(10)?.len(), 0);
-    assert_eq!(rt; engine.now(), 10);
-    assert_eq!(rt; engine.steps(), 0);
-    assert_eq!(rt; engine.listing()?.len(), 0);
+    assert!(rt; engine.now() == 0);
+    assert!(rt; engine.steps() == 0);
+    assert!(rt; engine.settle(10)?.len() == 0);
+    assert!(rt; engine.now() == 10);
+    assert!(rt; engine.steps() == 0);
+    assert!(rt; engine.listing()?.len() == 0);
     Ok(())
 }
 
@@ -57,8 +57,8 @@ fn assert_taken(
     for input in lines.inputs()? {
         assert_step(rt, engine, input)?;
     }
-    assert_eq!(rt; engine.now(), 9);
-    assert_eq!(rt; engine.steps(), 9);
+    assert!(rt; engine.now() == 9);
+    assert!(rt; engine.steps() == 9);
     Ok(())
 }
 
@@ -73,8 +73,8 @@ fn assert_step(
     match out.delivered.as_slice() {
         [] => assert!(rt; input.moment < 9),
         [first, second] => {
-            assert_eq!(rt; first.moment, 6);
-            assert_eq!(rt; second.moment, 9);
+            assert!(rt; first.moment == 6);
+            assert!(rt; second.moment == 9);
         }
         _ => panic!(rt; "one delivery, or more than two"),
     }
@@ -86,21 +86,20 @@ fn assert_step(
 fn nobody_says_anything(rt: HostRuntime) -> Result<(), Fail> {
     let alloc = rt.alloc();
     let log = run(alloc, &[], HeapAgenda::new(alloc), &[], u64::MAX)?;
-    assert_eq!(rt; log.entries.len(), 0);
-    assert_eq!(rt; log.listing.len(), 0);
-    assert_eq!(rt; heard_by(alloc, &log, 128)?.as_str(), "");
+    assert!(rt; log.entries.len() == 0);
+    assert!(rt; log.listing.len() == 0);
+    assert!(rt; heard_by(alloc, &log, 128)?.as_str() == "");
     Ok(())
 }
 
 #[test]
 fn faults_print(rt: HostRuntime) -> Result<(), Fail> {
-    assert_eq!(rt;
-        format!(in rt.alloc(); "{}", EngineFault::OutOfMemory)?.as_str(),
-        "out of memory"
+    assert!(rt;
+        format!(in rt.alloc(); "{}", EngineFault::OutOfMemory)?.as_str() == "out of memory"
     );
-    assert_eq!(rt;
-        format!(in rt.alloc(); "{}", EngineFault::Failed)?.as_str(),
-        "an earlier call found no memory"
+    assert!(rt;
+        format!(in rt.alloc(); "{}", EngineFault::Failed)?.as_str()
+            == "an earlier call found no memory"
     );
     Ok(())
 }

@@ -42,7 +42,7 @@ fn reader_that_fails(rt: HostRuntime) -> Result<(), Fail> {
     }
     let fault = run_to_fault(alloc, &mut devices)?;
     let client = client(131)?;
-    assert_eq!(rt; fault, Some(SessionFault::Read { client }));
+    assert!(rt; fault == Some(SessionFault::Read { client }));
     for log in devices.logs.iter() {
         assert_text(&rt, log.bytes(), "");
     }
@@ -61,7 +61,7 @@ fn log_that_fails(rt: HostRuntime) -> Result<(), Fail> {
     }
     let fault = run_to_fault(alloc, &mut devices)?;
     let client = client(129)?;
-    assert_eq!(rt; fault, Some(SessionFault::Write { client }));
+    assert!(rt; fault == Some(SessionFault::Write { client }));
     let wanted = [SENDER.log, "0 line 1 o", ""];
     for (log, wanted) in devices.logs.iter().zip(wanted.iter()) {
         assert_text(&rt, log.bytes(), wanted);
@@ -77,7 +77,7 @@ fn listing_that_takes_nothing(rt: HostRuntime) -> Result<(), Fail> {
     let mut devices = devices(alloc)?;
     devices.listing.piece(0);
     let fault = run_to_fault(alloc, &mut devices)?;
-    assert_eq!(rt; fault, Some(SessionFault::WriteListing));
+    assert!(rt; fault == Some(SessionFault::WriteListing));
     let wanted = [SENDER.log, LISTENER.log, ""];
     for (log, wanted) in devices.logs.iter().zip(wanted.iter()) {
         assert_text(&rt, log.bytes(), wanted);
@@ -113,12 +113,12 @@ fn bytewise_sink(alloc: Global, room: usize) -> Result<MemSink, Fail> {
 /// A sink has taken the first bytes of a text, so many of them.
 fn assert_front(rt: &impl Abort, sink: &MemSink, text: &[u8], count: usize) {
     let count = count.min(text.len());
-    assert_eq!(rt; sink.bytes(), &text[..count]);
+    assert!(rt; sink.bytes() == &text[..count]);
 }
 
 /// The logs before a place are whole, that one has so many bytes, and the later ones have none.
 fn assert_logs(rt: &impl Abort, devices: &Devices, plain: &Devices, place: usize, count: usize) {
-    assert_eq!(rt; devices.logs.len(), plain.logs.len());
+    assert!(rt; devices.logs.len() == plain.logs.len());
     for (at, (log, whole)) in devices.logs.iter().zip(plain.logs.iter()).enumerate() {
         let text = whole.bytes();
         let taken = if at < place {
@@ -143,7 +143,7 @@ fn assert_reads(rt: &impl Abort, alloc: Global, session: &Session) -> Result<(),
             }
             let fault = run_to(alloc, &mut devices, session.until)?;
             let client = client(part.client)?;
-            assert_eq!(rt; fault, Some(SessionFault::Read { client }));
+            assert!(rt; fault == Some(SessionFault::Read { client }));
             assert_logs(rt, &devices, &plain, 0, 0);
             assert_front(rt, &devices.listing, b"", 0);
         }
@@ -162,7 +162,7 @@ fn assert_log_writes(rt: &impl Abort, alloc: Global, session: &Session) -> Resul
             }
             let fault = run_to(alloc, &mut devices, session.until)?;
             let client = client(part.client)?;
-            assert_eq!(rt; fault, Some(SessionFault::Write { client }));
+            assert!(rt; fault == Some(SessionFault::Write { client }));
             assert_logs(rt, &devices, &plain, place, write);
             assert_front(rt, &devices.listing, b"", 0);
         }
@@ -179,7 +179,7 @@ fn assert_listing_writes(rt: &impl Abort, alloc: Global, session: &Session) -> R
         devices.listing.fail_at(write as u64);
         let fault = run_to(alloc, &mut devices, session.until)?;
         if write < listing.len() {
-            assert_eq!(rt; fault, Some(SessionFault::WriteListing));
+            assert!(rt; fault == Some(SessionFault::WriteListing));
         } else {
             assert!(rt; fault.is_none());
         }

@@ -80,7 +80,7 @@ pub fn assert_played(
 }
 
 fn assert_texts(rt: &impl Abort, session: &Session, devices: &Devices) {
-    assert_eq!(rt; devices.logs.len(), session.parts.len());
+    assert!(rt; devices.logs.len() == session.parts.len());
     for (part, log) in session.parts.iter().zip(devices.logs.iter()) {
         assert_text(rt, log.bytes(), part.log);
     }
@@ -90,5 +90,5 @@ fn assert_texts(rt: &impl Abort, session: &Session, devices: &Devices) {
 }
 
 pub fn assert_text(rt: &impl Abort, text: &[u8], wanted: &str) {
-    assert_eq!(rt; str::from_utf8(text), Ok(wanted));
+    assert!(rt; str::from_utf8(text) == Ok(wanted));
 }

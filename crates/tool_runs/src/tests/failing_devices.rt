@@ -40,14 +40,14 @@ fn assert_writes(
         out.piece(1);
         out.fail_at(write as u64);
         let outcome = tool.print(alloc, &mut input, &mut out);
-        assert_eq!(rt; outcome, Err(ToolFault::Write));
-        assert_eq!(rt; out.bytes(), &text[..write]);
+        assert!(rt; outcome == Err(ToolFault::Write));
+        assert!(rt; out.bytes() == &text[..write]);
     }
     let mut input = source(alloc, bytes)?;
     let mut out = MemSink::new(alloc, text.len())?;
     out.piece(1);
-    assert_eq!(rt; tool.print(alloc, &mut input, &mut out), Ok(()));
-    assert_eq!(rt; out.bytes(), text);
+    assert!(rt; tool.print(alloc, &mut input, &mut out) == Ok(()));
+    assert!(rt; out.bytes() == text);
     Ok(())
 }
 
@@ -66,15 +66,15 @@ fn assert_reads(
         input.fail_at(read);
         let mut out = MemSink::new(alloc, text.len())?;
         let outcome = tool.print(alloc, &mut input, &mut out);
-        assert_eq!(rt; outcome, Err(ToolFault::Read));
+        assert!(rt; outcome == Err(ToolFault::Read));
         assert!(rt; text.starts_with(out.bytes()));
         assert!(rt; tool != Tool::Dump || out.bytes().is_empty());
     }
     let mut input = source(alloc, bytes)?;
     input.fail_at(reads);
     let mut out = MemSink::new(alloc, text.len())?;
-    assert_eq!(rt; tool.print(alloc, &mut input, &mut out), Ok(()));
-    assert_eq!(rt; out.bytes(), text);
+    assert!(rt; tool.print(alloc, &mut input, &mut out) == Ok(()));
+    assert!(rt; out.bytes() == text);
     Ok(())
 }
 
@@ -161,8 +161,8 @@ fn the_last_write_of_a_long_line_fails(rt: HostRuntime) -> Result<(), Fail> {
     let mut out = MemSink::new(alloc, text.len())?;
     out.fail_at(7);
     let outcome = Tool::Wire.print(alloc, &mut input, &mut out);
-    assert_eq!(rt; outcome, Err(ToolFault::Write));
-    assert_eq!(rt; out.bytes(), text.as_slice());
+    assert!(rt; outcome == Err(ToolFault::Write));
+    assert!(rt; out.bytes() == text.as_slice());
     Ok(())
 }
 

@@ -23,7 +23,7 @@ fn sink(alloc: Global) -> Result<MemSink, OutOfMemory>
 #[test]
 fn passes_a_note_on(rt: HostRuntime) -> Result<(), Fail> {
     let text = printed(rt.alloc(), Tool::Thru, &[0x90, 0x3C, 0x40])?;
-    assert_eq!(rt; text.as_slice(), b"0 129:p0 90 3C 40\n".as_slice());
+    assert!(rt; text.as_slice() == b"0 129:p0 90 3C 40\n".as_slice());
     Ok(())
 }
 
@@ -37,7 +37,7 @@ fn passes_more_than_may_wait(rt: HostRuntime) -> Result<(), Fail> {
         lines.extend_from_slice(b"0 129:p0 F8\n")?;
     }
     let text = printed(alloc, Tool::Thru, stream.as_slice())?;
-    assert_eq!(rt; text.as_slice(), lines.as_slice());
+    assert!(rt; text.as_slice() == lines.as_slice());
     Ok(())
 }
 
@@ -51,7 +51,7 @@ fn passes_many_requests_that_end_an_exclusive(rt: HostRuntime) -> Result<(), Fai
         lines.extend_from_slice(b"0 129:p0 F6\n")?;
     }
     let text = printed(alloc, Tool::Thru, stream.as_slice())?;
-    assert_eq!(rt; text.as_slice(), lines.as_slice());
+    assert!(rt; text.as_slice() == lines.as_slice());
     Ok(())
 }
 
@@ -59,9 +59,8 @@ fn passes_many_requests_that_end_an_exclusive(rt: HostRuntime) -> Result<(), Fai
 fn writes_back_with_running_status(rt: HostRuntime) -> Result<(), Fail> {
     let stream = [0x90, 0x3C, 0x40, 0xF8, 0x3E, 0xF8, 0x40];
     let text = printed(rt.alloc(), Tool::Wire, &stream)?;
-    assert_eq!(rt;
-        text.as_slice(),
-        b"90 3C 40\nF8\nF8\n90 3E 40\nwritten 90 3C 40 F8 F8 3E 40\n".as_slice()
+    assert!(rt;
+        text.as_slice() == b"90 3C 40\nF8\nF8\n90 3E 40\nwritten 90 3C 40 F8 F8 3E 40\n".as_slice()
     );
     Ok(())
 }
@@ -73,10 +72,7 @@ fn gives_real_time_before_the_exclusive_around_it(rt: HostRuntime) -> Result<(),
         Tool::Wire,
         &[0xF0, 0x7D, 0x01, 0xFE, 0x02, 0xF7],
     )?;
-    assert_eq!(rt;
-        text.as_slice(),
-        b"FE\nF0 7D 01 02 F7\nwritten FE F0 7D 01 02 F7\n".as_slice()
-    );
+    assert!(rt; text.as_slice() == b"FE\nF0 7D 01 02 F7\nwritten FE F0 7D 01 02 F7\n".as_slice());
     Ok(())
 }
 
@@ -87,9 +83,8 @@ fn ends_an_exclusive_at_another_status(rt: HostRuntime) -> Result<(), Fail> {
         Tool::Wire,
         &[0xF0, 0x7D, 0x01, 0x90, 0x3C, 0x40],
     )?;
-    assert_eq!(rt;
-        text.as_slice(),
-        b"F0 7D 01 F7\n90 3C 40\nwritten F0 7D 01 F7 90 3C 40\n".as_slice()
+    assert!(rt;
+        text.as_slice() == b"F0 7D 01 F7\n90 3C 40\nwritten F0 7D 01 F7 90 3C 40\n".as_slice()
     );
     Ok(())
 }
@@ -97,7 +92,7 @@ fn ends_an_exclusive_at_another_status(rt: HostRuntime) -> Result<(), Fail> {
 #[test]
 fn prints_the_last_line_of_no_message(rt: HostRuntime) -> Result<(), Fail> {
     let text = printed(rt.alloc(), Tool::Wire, b"")?;
-    assert_eq!(rt; text.as_slice(), b"written\n".as_slice());
+    assert!(rt; text.as_slice() == b"written\n".as_slice());
     Ok(())
 }
 
@@ -107,15 +102,15 @@ fn tells_of_a_failed_read(rt: HostRuntime) -> Result<(), Fail> {
     let mut input = source(rt.alloc(), &[0x90, 0x3C, 0x40])?;
     input.fail_at(0);
     let outcome = thru_text(rt.alloc(), &mut input, &mut out);
-    assert_eq!(rt; outcome, Err(ToolFault::Read));
-    assert_eq!(rt; out.bytes(), b"".as_slice());
+    assert!(rt; outcome == Err(ToolFault::Read));
+    assert!(rt; out.bytes() == b"".as_slice());
 
     let mut out = sink(rt.alloc())?;
     let mut input = source(rt.alloc(), &[0x90, 0x3C, 0x40])?;
     input.fail_at(0);
     let outcome = wire_text(rt.alloc(), &mut input, &mut out);
-    assert_eq!(rt; outcome, Err(ToolFault::Read));
-    assert_eq!(rt; out.bytes(), b"".as_slice());
+    assert!(rt; outcome == Err(ToolFault::Read));
+    assert!(rt; out.bytes() == b"".as_slice());
     Ok(())
 }
 
@@ -124,14 +119,14 @@ fn writes_to_a_sink_that_takes_little(rt: HostRuntime) -> Result<(), Fail> {
     let mut out = sink(rt.alloc())?;
     out.piece(3);
     let mut input = source(rt.alloc(), &[0x90, 0x3C, 0x40])?;
-    assert_eq!(rt; thru_text(rt.alloc(), &mut input, &mut out), Ok(()));
-    assert_eq!(rt; out.bytes(), b"0 129:p0 90 3C 40\n".as_slice());
+    assert!(rt; thru_text(rt.alloc(), &mut input, &mut out) == Ok(()));
+    assert!(rt; out.bytes() == b"0 129:p0 90 3C 40\n".as_slice());
 
     let mut out = sink(rt.alloc())?;
     out.piece(3);
     let mut input = source(rt.alloc(), &[0x90, 0x3C, 0x40])?;
-    assert_eq!(rt; wire_text(rt.alloc(), &mut input, &mut out), Ok(()));
-    assert_eq!(rt; out.bytes(), b"90 3C 40\nwritten 90 3C 40\n".as_slice());
+    assert!(rt; wire_text(rt.alloc(), &mut input, &mut out) == Ok(()));
+    assert!(rt; out.bytes() == b"90 3C 40\nwritten 90 3C 40\n".as_slice());
     Ok(())
 }
 
@@ -141,12 +136,12 @@ fn tells_of_a_failed_write(rt: HostRuntime) -> Result<(), Fail> {
     out.fail_at(0);
     let mut input = source(rt.alloc(), &[0x90, 0x3C, 0x40])?;
     let outcome = thru_text(rt.alloc(), &mut input, &mut out);
-    assert_eq!(rt; outcome, Err(ToolFault::Write));
+    assert!(rt; outcome == Err(ToolFault::Write));
 
     let mut out = sink(rt.alloc())?;
     out.fail_at(0);
     let mut input = source(rt.alloc(), &[0x90, 0x3C, 0x40])?;
     let outcome = wire_text(rt.alloc(), &mut input, &mut out);
-    assert_eq!(rt; outcome, Err(ToolFault::Write));
+    assert!(rt; outcome == Err(ToolFault::Write));
     Ok(())
 }

@@ -5,7 +5,7 @@ use Rattle.tool_text.proofs.OnTheWay.{goes-on, arrives}
 use Rattle.tool_text.proofs.thru.pass_on.Goals as goal
 
 pub loop-part-preserved : goal.loop-part-preserved
-loop-part-preserved c =
+loop-part-preserved g c =
     let steps = c.in-Some.ensures.steps in
     let kept = steps.0 ∙ c.loop-part.invariant.size in
     let some : 0 < length c.in-Some.part.now = omega (arith, steps.1.1, steps.1.2, c.loop-part.invariant.size) in
@@ -19,4 +19,4 @@ loop-part-preserved c =
     }
 
 pub returns-clause-text : goal.returns-clause-text
-returns-clause-text c = arrives _ _ _ _ _ _ c.loop-part.invariant.way (nil_from_length (chunks_rest c.loop-part.part-iterator) c.in-None.ensures.steps.1.0)
+returns-clause-text g c = arrives _ _ _ _ _ _ c.loop-part.invariant.way (nil_from_length (chunks_rest c.loop-part.part-iterator) c.in-None.ensures.steps.1.0)

@@ -5,7 +5,7 @@ use Rattle.tool_text.proofs.OnTheWay.{part-lines, part-passing, part-stream}
 use Rattle.tool_text.proofs.thru.pass_part.Goals as goal
 
 pub returns-clause-text : goal.returns-clause-text
-returns-clause-text c =
+returns-clause-text g c =
     let source : c.unwrap-source.result ≡ 128 = unwrapped _ _ _ c.unwrap-source.ensures c.new.ensures.value in
     on-ok c.say.result (λ _. c.in_ok-add_lines.ensures
     ∙ ap (λ t. c.args.text.now.items ++ t)
@@ -14,7 +14,7 @@ returns-clause-text c =
     c.say.ensures.state
 
 pub returns-clause-stream : goal.returns-clause-stream
-returns-clause-stream c =
+returns-clause-stream g c =
     let source : c.unwrap-source.result ≡ 128 = unwrapped _ _ _ c.unwrap-source.ensures c.new.ensures.value in
     let sink : c.unwrap-sink.result ≡ 129 = unwrapped _ _ _ c.unwrap-sink.ensures c.new-2.ensures.value in
     on-ok c.say.result (λ e. part-stream c.args.engine.now c.take.new.engine c.say.new.engine c.unwrap-source.result c.unwrap-sink.result c.in_ok-piece_of.field-0 c.args.part.now c.requires.passing
@@ -22,7 +22,7 @@ returns-clause-stream c =
     c.say.ensures.state
 
 pub returns-clause-passing : goal.returns-clause-passing
-returns-clause-passing c =
+returns-clause-passing g c =
     let source : c.unwrap-source.result ≡ 128 = unwrapped _ _ _ c.unwrap-source.ensures c.new.ensures.value in
     let sink : c.unwrap-sink.result ≡ 129 = unwrapped _ _ _ c.unwrap-sink.ensures c.new-2.ensures.value in
     on-ok c.say.result (λ e. part-passing c.args.engine.now c.take.new.engine c.say.new.engine c.unwrap-source.result c.unwrap-sink.result c.in_ok-piece_of.field-0 c.args.part.now c.requires.passing
