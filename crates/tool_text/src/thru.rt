@@ -101,10 +101,7 @@ impl<'b, A: Agenda> Printer for Passage<'b, A> {
 }
 
 /// A sequencer with two clients, the second of which has subscribed its port to the first's.
-fn joined<'b, A: Agenda + Drop>(
-    alloc: Global,
-    agenda: A,
-) -> Result<Engine<'b, 'b, A>, ToolFault>
+fn joined<'b, A: Agenda + Drop>(alloc: Global, agenda: A) -> Result<Engine<'b, 'b, A>, ToolFault>
     requires { A.content agenda ≡ map.empty }
     ensures joined { IfOk result (λ e. e ≡ engine_joined) }
     ensures only { IfErr result (λ e. e ≡ ToolFault.OutOfMemory) }
