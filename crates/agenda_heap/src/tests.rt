@@ -28,9 +28,9 @@ fn stale_entries(rt: HostRuntime) -> Result<(), OutOfMemory> {
         agenda.rekey(cell, at(turn + 1))?;
         assert!(rt; agenda.stored() <= 66);
     }
-    assert_eq!(rt; agenda.pop_due(999), None);
-    assert_eq!(rt; agenda.pop_due(1000), Some((cell, at(1000))));
-    assert_eq!(rt; agenda.len(), 0);
+    assert!(rt; agenda.pop_due(999) == None);
+    assert!(rt; agenda.pop_due(1000) == Some((cell, at(1000))));
+    assert!(rt; agenda.len() == 0);
     Ok(())
 }
 
@@ -117,13 +117,13 @@ fn turn(
             heap.remove(cell);
             sorted.remove(cell);
         }
-        1 => assert_eq!(rt; heap.pop_due(moment), sorted.pop_due(moment)),
+        1 => assert!(rt; heap.pop_due(moment) == sorted.pop_due(moment)),
         _ => {
             heap.set(cell, moment)?;
             sorted.set(cell, moment)?;
         }
     }
-    assert_eq!(rt; heap.agenda.len(), sorted.agenda.len());
+    assert!(rt; heap.agenda.len() == sorted.agenda.len());
     assert!(rt; heap.agenda.stored() <= 2 * CELLS + 64);
     Ok(())
 }
@@ -138,8 +138,8 @@ fn both_bodies_agree(rt: HostRuntime) -> Result<(), OutOfMemory> {
         turn(&rt, &mut heap, &mut sorted, count / 4, chance)?;
     }
     for _cell in 0..=CELLS {
-        assert_eq!(rt; heap.pop_due(u64::MAX), sorted.pop_due(u64::MAX));
+        assert!(rt; heap.pop_due(u64::MAX) == sorted.pop_due(u64::MAX));
     }
-    assert_eq!(rt; heap.agenda.len(), 0);
+    assert!(rt; heap.agenda.len() == 0);
     Ok(())
 }

@@ -16,11 +16,11 @@ fn source(alloc: Global, bytes: &[u8]) -> Result<MemSource, OutOfMemory>
 fn gives_bytes_in_pieces(rt: HostRuntime) -> Result<(), Fail> {
     let mut input = source(rt.alloc(), b"hello")?;
     let mut buffer = [0u8; 3];
-    assert_eq!(rt; input.read(&mut buffer), Ok(3));
-    assert_eq!(rt; buffer.as_slice(), b"hel".as_slice());
-    assert_eq!(rt; input.read(&mut buffer), Ok(2));
-    assert_eq!(rt; buffer.as_slice(), b"lol".as_slice());
-    assert_eq!(rt; input.read(&mut buffer), Ok(0));
+    assert!(rt; input.read(&mut buffer) == Ok(3));
+    assert!(rt; buffer.as_slice() == b"hel".as_slice());
+    assert!(rt; input.read(&mut buffer) == Ok(2));
+    assert!(rt; buffer.as_slice() == b"lol".as_slice());
+    assert!(rt; input.read(&mut buffer) == Ok(0));
     assert!(rt; !input.has_failed());
     Ok(())
 }
@@ -28,18 +28,9 @@ fn gives_bytes_in_pieces(rt: HostRuntime) -> Result<(), Fail> {
 #[test]
 fn reads_up_to_a_limit(rt: HostRuntime) -> Result<(), Fail> {
     let mut input = source(rt.alloc(), b"hello")?;
-    assert_eq!(rt;
-        read_to(rt.alloc(), &mut input, 4)?.as_slice(),
-        b"hell".as_slice()
-    );
-    assert_eq!(rt;
-        read_to(rt.alloc(), &mut input, 4)?.as_slice(),
-        b"o".as_slice()
-    );
-    assert_eq!(rt;
-        read_to(rt.alloc(), &mut input, 4)?.as_slice(),
-        b"".as_slice()
-    );
+    assert!(rt; read_to(rt.alloc(), &mut input, 4)?.as_slice() == b"hell".as_slice());
+    assert!(rt; read_to(rt.alloc(), &mut input, 4)?.as_slice() == b"o".as_slice());
+    assert!(rt; read_to(rt.alloc(), &mut input, 4)?.as_slice() == b"".as_slice());
     Ok(())
 }
 
@@ -49,10 +40,10 @@ fn fails_in_mid_stream(rt: HostRuntime) -> Result<(), Fail> {
     input.fail_at(1);
     match read_to(rt.alloc(), &mut input, 20000) {
         Ok(_) => assert!(rt; false, "the second read fails"),
-        Err(fault) => assert_eq!(rt; fault, DeviceFault::Broken),
+        Err(fault) => assert!(rt; fault == DeviceFault::Broken),
     }
     assert!(rt; input.has_failed());
-    assert_eq!(rt; input.read(&mut [0u8; 4]), Err(DeviceFault::Broken));
+    assert!(rt; input.read(&mut [0u8; 4]) == Err(DeviceFault::Broken));
     Ok(())
 }
 
@@ -60,10 +51,10 @@ fn fails_in_mid_stream(rt: HostRuntime) -> Result<(), Fail> {
 fn takes_bytes_in_pieces(rt: HostRuntime) -> Result<(), Fail> {
     let mut out = MemSink::new(rt.alloc(), 5)?;
     out.piece(3);
-    assert_eq!(rt; out.write(b"hello"), Ok(3));
-    assert_eq!(rt; write_all(&mut out, b"lo"), Ok(()));
-    assert_eq!(rt; write_all(&mut out, b", there"), Ok(()));
-    assert_eq!(rt; out.bytes(), b"hello, there".as_slice());
+    assert!(rt; out.write(b"hello") == Ok(3));
+    assert!(rt; write_all(&mut out, b"lo") == Ok(()));
+    assert!(rt; write_all(&mut out, b", there") == Ok(()));
+    assert!(rt; out.bytes() == b"hello, there".as_slice());
     assert!(rt; !out.has_failed());
     Ok(())
 }
@@ -74,11 +65,11 @@ fn keeps_a_front_where_a_write_fails(rt: HostRuntime) -> Result<(), Fail> {
     out.piece(3);
     out.fail_at(2);
     let fault = WriteFault::Device(DeviceFault::Broken);
-    assert_eq!(rt; write_all(&mut out, b"hello, there"), Err(fault));
-    assert_eq!(rt; out.bytes(), b"hello,".as_slice());
+    assert!(rt; write_all(&mut out, b"hello, there") == Err(fault));
+    assert!(rt; out.bytes() == b"hello,".as_slice());
     assert!(rt; out.has_failed());
-    assert_eq!(rt; out.write(b"!"), Err(DeviceFault::Broken));
-    assert_eq!(rt; out.bytes(), b"hello,".as_slice());
+    assert!(rt; out.write(b"!") == Err(DeviceFault::Broken));
+    assert!(rt; out.bytes() == b"hello,".as_slice());
     Ok(())
 }
 
@@ -86,8 +77,8 @@ fn keeps_a_front_where_a_write_fails(rt: HostRuntime) -> Result<(), Fail> {
 fn tells_where_no_byte_was_taken(rt: HostRuntime) -> Result<(), Fail> {
     let mut out = MemSink::new(rt.alloc(), 8)?;
     out.piece(0);
-    assert_eq!(rt; write_all(&mut out, b""), Ok(()));
-    assert_eq!(rt; write_all(&mut out, b"hello"), Err(WriteFault::TookNothing));
+    assert!(rt; write_all(&mut out, b"") == Ok(()));
+    assert!(rt; write_all(&mut out, b"hello") == Err(WriteFault::TookNothing));
     assert!(rt; !out.has_failed());
     Ok(())
 }
@@ -95,10 +86,7 @@ fn tells_where_no_byte_was_taken(rt: HostRuntime) -> Result<(), Fail> {
 #[test]
 fn reads_a_reader_of_std(rt: HostRuntime) -> Result<(), Fail> {
     let mut input = StdSource::new(Cursor::new(b"hello"));
-    assert_eq!(rt;
-        read_to(rt.alloc(), &mut input, 100)?.as_slice(),
-        b"hello".as_slice()
-    );
+    assert!(rt; read_to(rt.alloc(), &mut input, 100)?.as_slice() == b"hello".as_slice());
     assert!(rt; !input.has_failed());
     Ok(())
 }
@@ -107,11 +95,11 @@ fn reads_a_reader_of_std(rt: HostRuntime) -> Result<(), Fail> {
 fn writes_to_a_writer_of_std(rt: HostRuntime) -> Result<(), Fail> {
     let mut written = Vec::new(rt.alloc());
     let mut out = StdSink::new(BufWriter::new(rt.alloc(), &mut written)?);
-    assert_eq!(rt; write_all(&mut out, b"hello"), Ok(()));
-    assert_eq!(rt; out.flush(), Ok(()));
+    assert!(rt; write_all(&mut out, b"hello") == Ok(()));
+    assert!(rt; out.flush() == Ok(()));
     assert!(rt; !out.has_failed());
     drop(out);
-    assert_eq!(rt; written.as_slice(), b"hello".as_slice());
+    assert!(rt; written.as_slice() == b"hello".as_slice());
     Ok(())
 }
 
@@ -154,17 +142,17 @@ impl io::Write for Once {
 fn passes_on_an_error_of_std(rt: HostRuntime) {
     let mut input = StdSource::new(Once { done: false });
     let mut buffer = [0u8; 4];
-    assert_eq!(rt; input.read(&mut buffer), Ok(4));
+    assert!(rt; input.read(&mut buffer) == Ok(4));
     for _ in 0..2 {
-        assert_eq!(rt; input.read(&mut buffer), Err(DeviceFault::Broken));
+        assert!(rt; input.read(&mut buffer) == Err(DeviceFault::Broken));
         assert!(rt; input.has_failed());
     }
 
     let mut out = StdSink::new(Once { done: false });
-    assert_eq!(rt; out.write(b"four"), Ok(4));
-    assert_eq!(rt; out.flush(), Err(DeviceFault::Broken));
+    assert!(rt; out.write(b"four") == Ok(4));
+    assert!(rt; out.flush() == Err(DeviceFault::Broken));
     assert!(rt; out.has_failed());
-    assert_eq!(rt; out.write(b"four"), Err(DeviceFault::Broken));
+    assert!(rt; out.write(b"four") == Err(DeviceFault::Broken));
 }
 
 #[test]
@@ -185,7 +173,7 @@ fn shows_each_fault(rt: HostRuntime) -> Result<(), Fail> {
         ),
     ];
     for (text, wanted) in &faults {
-        assert_eq!(rt; text.as_str(), *wanted);
+        assert!(rt; text.as_str() == *wanted);
     }
     Ok(())
 }

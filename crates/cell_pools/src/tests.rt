@@ -12,11 +12,11 @@ fn client(rt: &impl Abort, number: u8) -> ClientId {
 fn pools_have_limits(rt: HostRuntime) {
     for size in [0, 2001, u32::MAX] {
         let refused = InPool::<u8>::new(rt.alloc(), size).err();
-        assert_eq!(rt; refused, Some(PoolFault::BadSize), "{size}");
+        assert!(rt; refused == Some(PoolFault::BadSize));
     }
     for size in [1, 2000] {
         let pool = InPool::<u8>::new(rt.alloc(), size).ok().map(|p| p.size());
-        assert_eq!(rt; pool, Some(size));
+        assert!(rt; pool == Some(size));
     }
 }
 
@@ -45,27 +45,27 @@ fn count_up(items: &[u32], first: u32, count: usize) -> bool {
 
 fn full_pool(rt: &impl Abort, alloc: Global) -> InPool<u32> {
     let mut pool = InPool::new(alloc, 2000).ok().expect(rt, "memory");
-    assert_eq!(rt; offered(&mut pool, 0, 2000), 2000);
+    assert!(rt; offered(&mut pool, 0, 2000) == 2000);
     pool
 }
 
 #[test]
 fn a_full_pool_drops_and_counts(rt: HostRuntime) {
     let mut pool = full_pool(&rt, rt.alloc());
-    assert_eq!(rt; (pool.waiting(), pool.lost()), (2000, 0));
-    assert_eq!(rt; offered(&mut pool, 5000, 10), 0);
-    assert_eq!(rt; (pool.waiting(), pool.lost()), (2000, 10));
+    assert!(rt; (pool.waiting(), pool.lost()) == (2000, 0));
+    assert!(rt; offered(&mut pool, 5000, 10) == 0);
+    assert!(rt; (pool.waiting(), pool.lost()) == (2000, 10));
 }
 
 #[test]
 fn a_pool_drains_in_pieces(rt: HostRuntime) -> Result<(), Fail> {
     let mut pool = full_pool(&rt, rt.alloc());
     assert!(rt; count_up(pool.take(700)?.as_slice(), 0, 700));
-    assert_eq!(rt; offered(&mut pool, 2000, 800), 700);
+    assert!(rt; offered(&mut pool, 2000, 800) == 700);
     assert!(rt; count_up(pool.take(1)?.as_slice(), 700, 1));
     assert!(rt; count_up(pool.take(2000)?.as_slice(), 701, 1999));
     assert!(rt; pool.take(2000)?.is_empty());
-    assert_eq!(rt; (pool.waiting(), pool.lost(), pool.size()), (0, 100, 2000));
+    assert!(rt; (pool.waiting(), pool.lost(), pool.size()) == (0, 100, 2000));
     Ok(())
 }
 
@@ -74,15 +74,15 @@ fn a_store_puts_and_takes(rt: HostRuntime) -> Result<(), Fail> {
     let mut store = CellStore::new(rt.alloc());
     let one = client(&rt, 128);
     store.set_size(one, 1);
-    assert_eq!(rt; (store.size(one), store.used(one)), (1, 0));
+    assert!(rt; (store.size(one), store.used(one)) == (1, 0));
     let key = store.put(one, 'a').ok().ok_or("full")?;
-    assert_eq!(rt; store.client_of(key), Some(one));
+    assert!(rt; store.client_of(key) == Some(one));
     if let Some(value) = store.get_mut(key) {
         *value = 'b';
     }
-    assert_eq!(rt; store.get(key).copied(), Some('b'));
-    assert_eq!(rt; store.take(key), Some('b'));
-    assert_eq!(rt; store.take(key), None);
+    assert!(rt; store.get(key).copied() == Some('b'));
+    assert!(rt; store.take(key) == Some('b'));
+    assert!(rt; store.take(key) == None);
     assert!(rt; store.get(key).is_none() && store.get_mut(key).is_none());
     Ok(())
 }
@@ -101,15 +101,15 @@ fn each_client_has_its_own_size(rt: HostRuntime) {
     let mut store = CellStore::new(rt.alloc());
     let (one, other) = (client(&rt, 128), client(&rt, 191));
     store.set_size(one, 2);
-    assert_eq!(rt; answer(store.put(other, 1)), ('f', 1));
-    assert_eq!(rt; answer(store.put(one, 2)), ('-', 0));
-    assert_eq!(rt; answer(store.put(one, 3)), ('-', 0));
-    assert_eq!(rt; answer(store.put(one, 4)), ('f', 4));
+    assert!(rt; answer(store.put(other, 1)) == ('f', 1));
+    assert!(rt; answer(store.put(one, 2)) == ('-', 0));
+    assert!(rt; answer(store.put(one, 3)) == ('-', 0));
+    assert!(rt; answer(store.put(one, 4)) == ('f', 4));
     store.set_size(other, 1);
-    assert_eq!(rt; answer(store.put(other, 5)), ('-', 0));
+    assert!(rt; answer(store.put(other, 5)) == ('-', 0));
     store.set_size(one, 1);
-    assert_eq!(rt; answer(store.put(one, 6)), ('f', 6));
-    assert_eq!(rt; (store.used(one), store.used(other)), (2, 1));
+    assert!(rt; answer(store.put(one, 6)) == ('f', 6));
+    assert!(rt; (store.used(one), store.used(other)) == (2, 1));
 }
 
 // Puts a value for each of these clients, the values counting up from 0.
@@ -118,7 +118,7 @@ fn filled(rt: &impl Abort, alloc: Global, numbers: &[u8]) -> CellStore<u32> {
     let mut value = 0u32;
     for number in numbers {
         store.set_size(client(rt, *number), 10);
-        assert_eq!(rt; answer(store.put(client(rt, *number), value)), ('-', 0));
+        assert!(rt; answer(store.put(client(rt, *number), value)) == ('-', 0));
         value = value.wrapping_add(1);
     }
     store
@@ -136,11 +136,11 @@ fn sum_under(store: &CellStore<u32>, keys: &[CellKey]) -> u32 {
 fn keys_are_listed(rt: HostRuntime) -> Result<(), Fail> {
     let store = filled(&rt, rt.alloc(), &[128, 191, 128, 191, 150]);
     let ones = store.keys_of(client(&rt, 128))?;
-    assert_eq!(rt; (ones.len(), sum_under(&store, &ones)), (2, 2));
+    assert!(rt; (ones.len(), sum_under(&store, &ones)) == (2, 2));
     let others = store.keys_of(client(&rt, 191))?;
-    assert_eq!(rt; (others.len(), sum_under(&store, &others)), (2, 4));
+    assert!(rt; (others.len(), sum_under(&store, &others)) == (2, 4));
     let all = store.keys()?;
-    assert_eq!(rt; (all.len(), sum_under(&store, &all)), (5, 10));
+    assert!(rt; (all.len(), sum_under(&store, &all)) == (5, 10));
     assert!(rt; store.keys_of(client(&rt, 151))?.is_empty());
     assert!(rt; CellStore::<u8>::new(rt.alloc()).keys()?.is_empty());
     Ok(())
@@ -166,23 +166,20 @@ fn a_walk_takes_what_it_comes_to(rt: HostRuntime) {
         rt.alloc(),
         &[128, 128, 128, 191, 128, 191, 128, 128, 128],
     );
-    assert_eq!(rt; take_odd(&mut store, client(&rt, 128)), 8);
-    assert_eq!(rt; take_odd(&mut store, client(&rt, 128)), 0);
-    assert_eq!(rt; store.used(client(&rt, 128)), 5);
-    assert_eq!(rt; take_odd(&mut store, client(&rt, 191)), 8);
-    assert_eq!(rt; store.used(client(&rt, 191)), 0);
+    assert!(rt; take_odd(&mut store, client(&rt, 128)) == 8);
+    assert!(rt; take_odd(&mut store, client(&rt, 128)) == 0);
+    assert!(rt; store.used(client(&rt, 128)) == 5);
+    assert!(rt; take_odd(&mut store, client(&rt, 191)) == 8);
+    assert!(rt; store.used(client(&rt, 191)) == 0);
 }
 
 #[test]
 fn a_client_is_emptied(rt: HostRuntime) -> Result<(), Fail> {
     let mut store = filled(&rt, rt.alloc(), &[128, 191, 128, 128, 191]);
     take_all(&mut store, client(&rt, 128));
-    assert_eq!(rt;
-        (store.used(client(&rt, 128)), store.used(client(&rt, 191))),
-        (0, 2)
-    );
+    assert!(rt; (store.used(client(&rt, 128)), store.used(client(&rt, 191))) == (0, 2));
     let left = store.keys()?;
-    assert_eq!(rt; (left.len(), sum_under(&store, &left)), (2, 5));
+    assert!(rt; (left.len(), sum_under(&store, &left)) == (2, 5));
     Ok(())
 }
 
@@ -221,21 +218,21 @@ impl Twins {
         let of = client(rt, number);
         match self.store.put(of, value) {
             Ok(key) => assert!(rt; self.list.push((number, key, value)).is_ok()),
-            Err(_) => assert_eq!(rt; self.count(number), self.store.size(of) as usize),
+            Err(_) => assert!(rt; self.count(number) == self.store.size(of) as usize),
         }
     }
 
     fn take(&mut self, rt: &impl Abort, index: u64) {
         if (index as usize) < self.list.len() {
             let (number, key, value) = self.list.swap_remove(index as usize);
-            assert_eq!(rt; self.store.client_of(key), Some(client(rt, number)));
-            assert_eq!(rt; self.store.take(key), Some(value));
+            assert!(rt; self.store.client_of(key) == Some(client(rt, number)));
+            assert!(rt; self.store.take(key) == Some(value));
         }
     }
 
     fn agree(&self, rt: &impl Abort, number: u8) {
         let used = self.store.used(client(rt, number));
-        assert_eq!(rt; used as usize, self.count(number));
+        assert!(rt; used as usize == self.count(number));
     }
 }
 
@@ -262,13 +259,9 @@ fn counts_follow_the_cells(rt: HostRuntime) {
 
 #[test]
 fn faults_print(rt: HostRuntime) -> Result<(), Fail> {
-    assert_eq!(rt;
-        format!(in rt.alloc(); "{}", PoolFault::BadSize)?.as_str(),
-        "a pool's size is 1 to 2000"
+    assert!(rt;
+        format!(in rt.alloc(); "{}", PoolFault::BadSize)?.as_str() == "a pool's size is 1 to 2000"
     );
-    assert_eq!(rt;
-        format!(in rt.alloc(); "{}", PoolFault::OutOfMemory)?.as_str(),
-        "out of memory"
-    );
+    assert!(rt; format!(in rt.alloc(); "{}", PoolFault::OutOfMemory)?.as_str() == "out of memory");
     Ok(())
 }

@@ -4,10 +4,10 @@ use std::test::Fail;
 #[test]
 fn items_give_back_their_vector(rt: HostRuntime) -> Result<(), Fail> {
     let items = Items::new([1u8, 2, 3].to_vec(rt.alloc())?);
-    assert_eq!(rt; items.len(), 3);
+    assert!(rt; items.len() == 3);
     assert!(rt; !items.is_empty());
-    assert_eq!(rt; items.as_slice(), [1, 2, 3].as_slice());
-    assert_eq!(rt; items.into_vec().as_slice(), [1, 2, 3].as_slice());
+    assert!(rt; items.as_slice() == [1, 2, 3].as_slice());
+    assert!(rt; items.into_vec().as_slice() == [1, 2, 3].as_slice());
     assert!(rt; Items::<u8>::new(Vec::new(rt.alloc())).is_empty());
     Ok(())
 }
@@ -27,6 +27,6 @@ fn items_are_equal_by_their_elements(rt: HostRuntime) -> Result<(), Fail> {
 #[test]
 fn a_refused_growth_has_its_words(rt: HostRuntime) -> Result<(), Fail> {
     let text = OutOfMemory.to_string(rt.alloc())?;
-    assert_eq!(rt; text.as_str(), "out of memory");
+    assert!(rt; text.as_str() == "out of memory");
     Ok(())
 }

@@ -47,16 +47,13 @@ fn check_reading(
     expected: &[u8],
 ) -> Result<(), Fail> {
     let single = read_pieces(alloc, stream, 1)?;
-    assert_eq!(rt; single.len(), count);
-    assert_eq!(rt; full_bytes(alloc, single.as_slice())?.as_slice(), expected);
+    assert!(rt; single.len() == count);
+    assert!(rt; full_bytes(alloc, single.as_slice())?.as_slice() == expected);
     for cut in 0..=stream.len() {
         let (front, back) = stream.split_at(cut);
         let messages = read_two(alloc, front, back)?;
-        assert_eq!(rt; messages.len(), count);
-        assert_eq!(rt;
-            full_bytes(alloc, messages.as_slice())?.as_slice(),
-            expected
-        );
+        assert!(rt; messages.len() == count);
+        assert!(rt; full_bytes(alloc, messages.as_slice())?.as_slice() == expected);
     }
     Ok(())
 }
@@ -74,7 +71,7 @@ fn check_writing(
     for message in messages.as_slice() {
         writer.write(message, &mut bytes)?;
     }
-    assert_eq!(rt; bytes.as_slice(), expected);
+    assert!(rt; bytes.as_slice() == expected);
     Ok(())
 }
 
@@ -84,7 +81,7 @@ fn check_cuts(rt: &impl Abort, alloc: Global, stream: &[u8]) -> Result<(), Fail>
     for cut in 0..=stream.len() {
         let (front, back) = stream.split_at(cut);
         let messages = read_two(alloc, front, back)?;
-        assert_eq!(rt; messages.as_slice(), whole.as_slice());
+        assert!(rt; messages.as_slice() == whole.as_slice());
     }
     Ok(())
 }
@@ -172,29 +169,29 @@ fn exclusive_bound(rt: HostRuntime) -> Result<(), Fail> {
         parser.feed(&data, &mut messages)?;
     }
     parser.feed(&[0xF7], &mut messages)?;
-    assert_eq!(rt; messages.len(), 1);
-    assert_eq!(rt; full_bytes(rt.alloc(), messages.as_slice())?.len(), 65538);
+    assert!(rt; messages.len() == 1);
+    assert!(rt; full_bytes(rt.alloc(), messages.as_slice())?.len() == 65538);
     parser.feed(&[0xF0, 0x01], &mut messages)?;
     for _part in 0..16 {
         parser.feed(&data, &mut messages)?;
     }
     parser.feed(&[0xF7], &mut messages)?;
-    assert_eq!(rt; messages.len(), 1);
+    assert!(rt; messages.len() == 1);
     Ok(())
 }
 
 #[test]
 fn channel_messages(rt: HostRuntime) -> Result<(), Fail> {
     let bend = Message::channel(Kind::PitchBend, 5, 0x00, 0x40).ok_or("a message")?;
-    assert_eq!(rt; bend.kind(), Kind::PitchBend);
-    assert_eq!(rt; bend.status(), 0xE5);
-    assert_eq!(rt; bend.channel_of(), Some(5));
-    assert_eq!(rt; bend.len(), 3);
-    assert_eq!(rt; bend.byte_at(2), Some(0x40));
-    assert_eq!(rt; bend.byte_at(3), None);
+    assert!(rt; bend.kind() == Kind::PitchBend);
+    assert!(rt; bend.status() == 0xE5);
+    assert!(rt; bend.channel_of() == Some(5));
+    assert!(rt; bend.len() == 3);
+    assert!(rt; bend.byte_at(2) == Some(0x40));
+    assert!(rt; bend.byte_at(3) == None);
     let program = Message::channel(Kind::ProgramChange, 15, 0x7F, 0).ok_or("a message")?;
-    assert_eq!(rt; program.status(), 0xCF);
-    assert_eq!(rt; program.len(), 2);
+    assert!(rt; program.status() == 0xCF);
+    assert!(rt; program.len() == 2);
     assert!(rt; Message::channel(Kind::ProgramChange, 0, 1, 1).is_none());
     assert!(rt; Message::channel(Kind::NoteOn, 16, 0x3C, 0x40).is_none());
     assert!(rt; Message::channel(Kind::NoteOn, 0, 0x80, 0x40).is_none());
@@ -205,17 +202,14 @@ fn channel_messages(rt: HostRuntime) -> Result<(), Fail> {
 #[test]
 fn messages_from_bytes(rt: HostRuntime) -> Result<(), Fail> {
     let song = Message::from_bytes(rt.alloc(), &[0xF2, 0x10, 0x01])?.ok_or("a message")?;
-    assert_eq!(rt; song.kind(), Kind::SystemCommon);
-    assert_eq!(rt; song.channel_of(), None);
+    assert!(rt; song.kind() == Kind::SystemCommon);
+    assert!(rt; song.channel_of() == None);
     let bytes = [0xF0, 0x7E, 0x7F, 0x06, 0x01, 0xF7];
     let inquiry = Message::from_bytes(rt.alloc(), &bytes)?.ok_or("a message")?;
     let copy = inquiry.duplicate()?;
-    assert_eq!(rt; copy.kind(), Kind::Exclusive);
-    assert_eq!(rt; copy.byte_at(5), Some(0xF7));
-    assert_eq!(rt;
-        full_bytes(rt.alloc(), &[copy])?.as_slice(),
-        bytes.as_slice()
-    );
+    assert!(rt; copy.kind() == Kind::Exclusive);
+    assert!(rt; copy.byte_at(5) == Some(0xF7));
+    assert!(rt; full_bytes(rt.alloc(), &[copy])?.as_slice() == bytes.as_slice());
     assert!(rt; Message::from_bytes(rt.alloc(), &[0x90, 0x3C])?.is_none());
     assert!(rt; Message::from_bytes(rt.alloc(), &[0xF6, 0x00])?.is_none());
     assert!(rt; Message::from_bytes(rt.alloc(), &[0xF4])?.is_none());
@@ -228,8 +222,8 @@ fn equal_messages(rt: HostRuntime) -> Result<(), Fail> {
     let song = Message::from_bytes(rt.alloc(), &[0xF2, 0x10, 0x01])?.ok_or("a message")?;
     let bytes = [0xF0, 0x7E, 0x7F, 0x06, 0x01, 0xF7];
     let inquiry = Message::from_bytes(rt.alloc(), &bytes)?.ok_or("a message")?;
-    assert_eq!(rt; inquiry.duplicate()?, inquiry);
-    assert_ne!(rt; song, inquiry);
+    assert!(rt; inquiry.duplicate()? == inquiry);
+    assert!(rt; song != inquiry);
     Ok(())
 }
 
@@ -239,10 +233,10 @@ fn refused_growth(rt: HostRuntime) {
     let mut parser = StreamParser::new(rt.alloc());
     let mut messages = Vec::new(rt.alloc());
     match parser.feed(&[0xF0, 0x7D, 0xF7, 0xFE], &mut messages) {
-        Ok(count) => assert_eq!(rt; count, 2),
+        Ok(count) => assert!(rt; count == 2),
         Err(fault) => {
-            assert_eq!(rt; fault, WireFault::OutOfMemory);
-            assert_eq!(rt; parser.feed(&[], &mut messages), Err(WireFault::Failed));
+            assert!(rt; fault == WireFault::OutOfMemory);
+            assert!(rt; parser.feed(&[], &mut messages) == Err(WireFault::Failed));
         }
     }
 }
@@ -256,22 +250,19 @@ fn many_messages_in_one_piece(rt: HostRuntime) -> Result<(), Fail> {
     }
     let mut parser = StreamParser::new(rt.alloc());
     let mut messages = Vec::new(rt.alloc());
-    assert_eq!(rt; parser.feed(stream.as_slice(), &mut messages)?, 10_000);
-    assert_eq!(rt; messages.len(), 10_000);
+    assert!(rt; parser.feed(stream.as_slice(), &mut messages)? == 10_000);
+    assert!(rt; messages.len() == 10_000);
     let last = full_bytes(rt.alloc(), &messages.as_slice()[9_999..])?;
-    assert_eq!(rt; last.as_slice(), [0x90, 0x3C, 0x40].as_slice());
+    assert!(rt; last.as_slice() == [0x90, 0x3C, 0x40].as_slice());
     Ok(())
 }
 
 #[test]
 fn faults_print(rt: HostRuntime) -> Result<(), Fail> {
-    assert_eq!(rt;
-        format!(in rt.alloc(); "{}", WireFault::OutOfMemory)?.as_str(),
-        "out of memory"
-    );
-    assert_eq!(rt;
-        format!(in rt.alloc(); "{}", WireFault::Failed)?.as_str(),
-        "an earlier call found no memory"
+    assert!(rt; format!(in rt.alloc(); "{}", WireFault::OutOfMemory)?.as_str() == "out of memory");
+    assert!(rt;
+        format!(in rt.alloc(); "{}", WireFault::Failed)?.as_str()
+            == "an earlier call found no memory"
     );
     Ok(())
 }

@@ -35,35 +35,29 @@ fn body(table: &NodeTable<u32>, addr: &Addr) -> Option<u32> {
 fn numbers_have_limits(rt: HostRuntime) {
     for number in 0..=255u8 {
         let client = (128..192).contains(&number);
-        assert_eq!(rt; ClientId::new(number).is_some(), client, "at {number}");
-        assert_eq!(rt; PortNo::new(number).is_some(), number < 16, "at {number}");
-        assert_eq!(rt; FilterNo::new(number).is_some(), number < 16, "at {number}");
-        assert_eq!(rt; QueueNo::new(number).is_some(), number < 8, "at {number}");
+        assert!(rt; ClientId::new(number).is_some() == client);
+        assert!(rt; PortNo::new(number).is_some() == number < 16);
+        assert!(rt; FilterNo::new(number).is_some() == number < 16);
+        assert!(rt; QueueNo::new(number).is_some() == number < 8);
     }
-    assert_eq!(rt; client(&rt, 191).number(), 191);
-    assert_eq!(rt;
-        port(&rt, 128, 15).node.port().map(|p| p.number()),
-        Some(15)
-    );
+    assert!(rt; client(&rt, 191).number() == 191);
+    assert!(rt; port(&rt, 128, 15).node.port().map(|p| p.number()) == Some(15));
     assert!(rt; port(&rt, 128, 15).node.filter().is_none());
-    assert_eq!(rt;
-        filter(&rt, 128, 3).node.filter().map(|f| f.number()),
-        Some(3)
-    );
+    assert!(rt; filter(&rt, 128, 3).node.filter().map(|f| f.number()) == Some(3));
     assert!(rt; filter(&rt, 128, 3).node.port().is_none());
-    assert_eq!(rt; QueueNo::new(7).map(|q| q.number()), Some(7));
+    assert!(rt; QueueNo::new(7).map(|q| q.number()) == Some(7));
 }
 
 #[test]
 fn each_place_has_an_address(rt: HostRuntime) {
     for place in 0..PLACES {
         if let Some(addr) = addr_at(place) {
-            assert_eq!(rt; place_of(&addr), place);
-            assert_eq!(rt; addr.is_filter(), place % 32 >= 16);
+            assert!(rt; place_of(&addr) == place);
+            assert!(rt; addr.is_filter() == place % 32 >= 16);
         }
     }
-    assert_eq!(rt; place_of(&port(&rt, 128, 0)), 0);
-    assert_eq!(rt; place_of(&filter(&rt, 191, 15)), 2047);
+    assert!(rt; place_of(&port(&rt, 128, 0)) == 0);
+    assert!(rt; place_of(&filter(&rt, 191, 15)) == 2047);
     assert!(rt; addr_at(PLACES).is_none());
 }
 
@@ -71,32 +65,26 @@ fn each_place_has_an_address(rt: HostRuntime) {
 fn a_table_is_made_once(rt: HostRuntime) -> Result<(), Fail> {
     let mut table = Vec::new(rt.alloc());
     make_places(&mut table, 7u8)?;
-    assert_eq!(rt; table.len(), PLACES);
+    assert!(rt; table.len() == PLACES);
     assert!(rt; table.iter().all(|value| *value == 7));
     make_places(&mut table, 8)?;
-    assert_eq!(rt; table.len(), PLACES);
+    assert!(rt; table.len() == PLACES);
     assert!(rt; table.iter().all(|value| *value == 7));
     Ok(())
 }
 
 #[test]
 fn addresses_print(rt: HostRuntime) -> Result<(), Fail> {
-    assert_eq!(rt;
-        format!(in rt.alloc(); "{}", port(&rt, 128, 0))?.as_str(),
-        "128:p0"
-    );
-    assert_eq!(rt;
-        format!(in rt.alloc(); "{}", filter(&rt, 129, 3))?.as_str(),
-        "129:f3"
-    );
+    assert!(rt; format!(in rt.alloc(); "{}", port(&rt, 128, 0))?.as_str() == "128:p0");
+    assert!(rt; format!(in rt.alloc(); "{}", filter(&rt, 129, 3))?.as_str() == "129:f3");
     let addr = PortAddr {
         client: client(&rt, 191),
         port: PortNo::new(15).expect(&rt, "a port's number"),
     };
-    assert_eq!(rt; format!(in rt.alloc(); "{addr}")?.as_str(), "191:p15");
-    assert_eq!(rt;
-        format!(in rt.alloc(); "{}", QueueNo::new(7).expect(&rt, "a queue's number"))?.as_str(),
-        "7"
+    assert!(rt; format!(in rt.alloc(); "{addr}")?.as_str() == "191:p15");
+    assert!(rt;
+        format!(in rt.alloc(); "{}", QueueNo::new(7).expect(&rt, "a queue's number"))?.as_str()
+            == "7"
     );
     Ok(())
 }
@@ -117,11 +105,11 @@ fn names_are_visible_ascii(rt: HostRuntime) {
 fn open_refuses_in_order(rt: HostRuntime) -> Result<(), Fail> {
     let mut table: NodeTable<u32> = NodeTable::new(rt.alloc());
     let one = client(&rt, 128);
-    assert_eq!(rt; table.open_client(one, b""), Err(OpenFault::BadName));
+    assert!(rt; table.open_client(one, b"") == Err(OpenFault::BadName));
     assert!(rt; !table.is_open(one));
-    assert_eq!(rt; table.open_client(one, b"one"), Ok(()));
-    assert_eq!(rt; table.open_client(one, b""), Err(OpenFault::AlreadyOpen));
-    assert_eq!(rt; table.client_name(one), Some(b"one".as_slice()));
+    assert!(rt; table.open_client(one, b"one") == Ok(()));
+    assert!(rt; table.open_client(one, b"") == Err(OpenFault::AlreadyOpen));
+    assert!(rt; table.client_name(one) == Some(b"one".as_slice()));
     assert!(rt; table.client_name(client(&rt, 129)).is_none());
     Ok(())
 }
@@ -131,7 +119,7 @@ fn a_client_with_no_nodes_has_none(rt: HostRuntime) -> Result<(), Fail> {
     let mut table: NodeTable<u32> = NodeTable::new(rt.alloc());
     let one = client(&rt, 191);
     assert!(rt; !table.close_client(one));
-    assert_eq!(rt; table.open_client(one, b"one"), Ok(()));
+    assert!(rt; table.open_client(one, b"one") == Ok(()));
     assert!(rt; table.find(&port(&rt, 191, 15)).is_none());
     assert!(rt; table.body_mut(&port(&rt, 191, 15)).is_none());
     assert!(rt; table.delete(filter(&rt, 191, 15)).is_none());
@@ -166,15 +154,15 @@ fn create_refuses_in_order(rt: HostRuntime) -> Result<(), Fail> {
     ];
     for (addr, name, want) in calls {
         let body = if want.1 == 0 { 2 } else { want.1 };
-        assert_eq!(rt; answer(table.create(addr, name, all, body)), want, "{addr}");
+        assert!(rt; answer(table.create(addr, name, all, body)) == want);
     }
-    assert_eq!(rt; body(&table, &port(&rt, 128, 0)), Some(2));
+    assert!(rt; body(&table, &port(&rt, 128, 0)) == Some(2));
     Ok(())
 }
 
 // Opens a client with a filter 0 and the ports 2, 0 and 15, whose bodies count up from `first`.
 fn fill(rt: &impl Abort, table: &mut NodeTable<u32>, number: u8, first: u32) {
-    assert_eq!(rt; table.open_client(client(rt, number), b"c"), Ok(()));
+    assert!(rt; table.open_client(client(rt, number), b"c") == Ok(()));
     let nodes = [
         (filter(rt, number, 0), b"".as_slice(), 3),
         (port(rt, number, 2), b"p".as_slice(), 1),
@@ -183,10 +171,7 @@ fn fill(rt: &impl Abort, table: &mut NodeTable<u32>, number: u8, first: u32) {
     ];
     let mut body = first;
     for (addr, name, bits) in nodes {
-        assert_eq!(rt;
-            answer(table.create(addr, name, caps(rt, bits), body)),
-            ('-', 0)
-        );
+        assert!(rt; answer(table.create(addr, name, caps(rt, bits), body)) == ('-', 0));
         body = body.wrapping_add(1);
     }
 }
@@ -207,11 +192,11 @@ fn writes_and_deletes_one_node(rt: HostRuntime) {
         *body = 30;
     }
     assert!(rt; table.body_mut(&port(&rt, 128, 1)).is_none());
-    assert_eq!(rt; body(&table, &one), Some(30));
-    assert_eq!(rt; table.delete(one), Some(30));
-    assert_eq!(rt; table.delete(one), None);
-    assert_eq!(rt; body(&table, &filter(&rt, 128, 0)), Some(1));
-    assert_eq!(rt; body(&table, &port(&rt, 191, 0)), Some(7));
+    assert!(rt; body(&table, &one) == Some(30));
+    assert!(rt; table.delete(one) == Some(30));
+    assert!(rt; table.delete(one) == None);
+    assert!(rt; body(&table, &filter(&rt, 128, 0)) == Some(1));
+    assert!(rt; body(&table, &port(&rt, 191, 0)) == Some(7));
 }
 
 #[test]
@@ -220,9 +205,9 @@ fn closes_one_client(rt: HostRuntime) {
     let one = client(&rt, 128);
     assert!(rt; table.close_client(one));
     assert!(rt; !table.close_client(one));
-    assert_eq!(rt; body(&table, &filter(&rt, 128, 0)), None);
-    assert_eq!(rt; body(&table, &filter(&rt, 191, 0)), Some(5));
-    assert_eq!(rt; table.open_client(one, b"again"), Ok(()));
+    assert!(rt; body(&table, &filter(&rt, 128, 0)) == None);
+    assert!(rt; body(&table, &filter(&rt, 191, 0)) == Some(5));
+    assert!(rt; table.open_client(one, b"again") == Ok(()));
     assert!(rt; table.next_port(one, 0).is_none());
     assert!(rt; table.next_filter(one, 0).is_none());
 }
@@ -239,16 +224,16 @@ fn lists_in_order_of_number(rt: HostRuntime) {
     ] {
         match table.next_port(one, from) {
             Some((port, node)) => {
-                assert_eq!(rt; Some((port.number(), *node.body())), want, "from {from}");
-                assert_eq!(rt; node.name(), b"p".as_slice());
-                assert_eq!(rt; node.caps(), Caps::READ);
+                assert!(rt; Some((port.number(), *node.body())) == want);
+                assert!(rt; node.name() == b"p".as_slice());
+                assert!(rt; node.caps() == Caps::READ);
             }
             None => assert!(rt; want.is_none(), "from {from}"),
         }
     }
     match table.next_filter(one, 0) {
         Some((filter, node)) => {
-            assert_eq!(rt; (filter.number(), *node.body()), (0, 5));
+            assert!(rt; (filter.number(), *node.body()) == (0, 5));
             assert!(rt; node.name().is_empty());
         }
         None => assert!(rt; false, "there is a filter"),
@@ -307,7 +292,7 @@ fn follows_table(rt: &impl Abort, of_source: u8, of_target: u8) {
                 write & 128 != 0,
             );
         let may = permitted(actor, &source, caps(rt, read), &target, caps(rt, write));
-        assert_eq!(rt; may, want, "{of_source} {read} {of_target} {write}");
+        assert!(rt; may == want);
     }
 }
 
@@ -330,13 +315,13 @@ fn the_table_knows_capabilities(rt: HostRuntime) {
     let (one, other) = (client(&rt, 128), client(&rt, 191));
     let from = port(&rt, 128, 0);
     let to = filter(&rt, 191, 0);
-    assert_eq!(rt; may(&table, one, &from, &to), Some(false));
-    assert_eq!(rt; may(&table, one, &from, &filter(&rt, 128, 0)), Some(true));
-    assert_eq!(rt; table.delete(to), Some(5));
-    assert_eq!(rt; may(&table, one, &from, &to), None);
-    assert_eq!(rt; answer(table.create(to, b"", caps(&rt, 66), 50)), ('-', 0));
-    assert_eq!(rt; may(&table, one, &from, &to), Some(true));
-    assert_eq!(rt; may(&table, other, &from, &to), Some(false));
+    assert!(rt; may(&table, one, &from, &to) == Some(false));
+    assert!(rt; may(&table, one, &from, &filter(&rt, 128, 0)) == Some(true));
+    assert!(rt; table.delete(to) == Some(5));
+    assert!(rt; may(&table, one, &from, &to) == None);
+    assert!(rt; answer(table.create(to, b"", caps(&rt, 66), 50)) == ('-', 0));
+    assert!(rt; may(&table, one, &from, &to) == Some(true));
+    assert!(rt; may(&table, other, &from, &to) == Some(false));
 }
 
 #[test]
@@ -344,7 +329,7 @@ fn addresses_of_queues_have_their_text(rt: HostRuntime) -> Result<(), Fail> {
     let client = ClientId::new(128).expect(&rt, "a client's number");
     let queue = QueueNo::new(7).expect(&rt, "a queue's number");
     let text = QueueAddr { client, queue }.to_string(rt.alloc())?;
-    assert_eq!(rt; text.as_str(), "128:q7");
+    assert!(rt; text.as_str() == "128:q7");
     Ok(())
 }
 
@@ -352,7 +337,7 @@ fn addresses_of_queues_have_their_text(rt: HostRuntime) -> Result<(), Fail> {
 fn a_full_house_has_room_for_all(rt: HostRuntime) -> Result<(), Fail> {
     let mut table: NodeTable<u32> = NodeTable::new(rt.alloc());
     for number in 128..192 {
-        assert_eq!(rt; table.open_client(client(&rt, number), b"full"), Ok(()));
+        assert!(rt; table.open_client(client(&rt, number), b"full") == Ok(()));
     }
     for place in 0..PLACES {
         if let Some(addr) = addr_at(place) {
@@ -361,37 +346,28 @@ fn a_full_house_has_room_for_all(rt: HostRuntime) -> Result<(), Fail> {
             } else {
                 b"port".as_slice()
             };
-            assert_eq!(rt;
-                answer(table.create(addr, name, caps(&rt, 99), place as u32)),
-                ('-', 0)
-            );
+            assert!(rt; answer(table.create(addr, name, caps(&rt, 99), place as u32)) == ('-', 0));
         }
     }
     for place in 0..PLACES {
         if let Some(addr) = addr_at(place) {
-            assert_eq!(rt; body(&table, &addr), Some(place as u32));
+            assert!(rt; body(&table, &addr) == Some(place as u32));
         }
     }
     assert!(rt; table.close_client(client(&rt, 160)));
-    assert_eq!(rt; body(&table, &port(&rt, 159, 15)), Some(1007));
-    assert_eq!(rt; body(&table, &port(&rt, 160, 0)), None);
-    assert_eq!(rt; body(&table, &port(&rt, 161, 0)), Some(1056));
+    assert!(rt; body(&table, &port(&rt, 159, 15)) == Some(1007));
+    assert!(rt; body(&table, &port(&rt, 160, 0)) == None);
+    assert!(rt; body(&table, &port(&rt, 161, 0)) == Some(1056));
     Ok(())
 }
 
 #[test]
 fn faults_print(rt: HostRuntime) -> Result<(), Fail> {
-    assert_eq!(rt;
-        format!(in rt.alloc(); "{}", OpenFault::AlreadyOpen)?.as_str(),
-        "the client is open already"
+    assert!(rt;
+        format!(in rt.alloc(); "{}", OpenFault::AlreadyOpen)?.as_str()
+            == "the client is open already"
     );
-    assert_eq!(rt;
-        format!(in rt.alloc(); "{}", OpenFault::BadName)?.as_str(),
-        "this is no name"
-    );
-    assert_eq!(rt;
-        format!(in rt.alloc(); "{}", OpenFault::OutOfMemory)?.as_str(),
-        "out of memory"
-    );
+    assert!(rt; format!(in rt.alloc(); "{}", OpenFault::BadName)?.as_str() == "this is no name");
+    assert!(rt; format!(in rt.alloc(); "{}", OpenFault::OutOfMemory)?.as_str() == "out of memory");
     Ok(())
 }

@@ -49,7 +49,7 @@ fn assert_way(rt: &impl Abort, routes: &mut Routes<'_>, nodes: &[Addr]) {
 fn a_new_graph_joins_nobody(rt: HostRuntime) {
     let mut graph = PatchGraph::new(rt.alloc());
     let one = port(&rt, 128, 0);
-    assert_eq!(rt; graph.sources(&one), 0);
+    assert!(rt; graph.sources(&one) == 0);
     assert!(rt; graph.targets(&one).is_empty());
     assert!(rt; graph.routes(&one).next().is_none());
     assert!(rt; !graph.disconnect(&one, &one));
@@ -62,16 +62,13 @@ fn a_new_graph_joins_nobody(rt: HostRuntime) {
 fn the_33rd_source_is_refused(rt: HostRuntime) -> Result<(), Fail> {
     let mut graph = PatchGraph::new(rt.alloc());
     join_ports(&rt, &mut graph, 128)?;
-    assert_eq!(rt; graph.sources(&port(&rt, 150, 0)), 16);
+    assert!(rt; graph.sources(&port(&rt, 150, 0)) == 16);
     join_ports(&rt, &mut graph, 129)?;
-    assert_eq!(rt; graph.sources(&port(&rt, 150, 0)), 32);
+    assert!(rt; graph.sources(&port(&rt, 150, 0)) == 32);
     let next = port(&rt, 130, 0);
-    assert_eq!(rt;
-        graph.connect(next, port(&rt, 150, 0)),
-        Err(EdgeFault::SourcesFull)
-    );
-    assert_eq!(rt; graph.len(), 32);
-    assert_eq!(rt; graph.sources(&port(&rt, 128, 0)), 0);
+    assert!(rt; graph.connect(next, port(&rt, 150, 0)) == Err(EdgeFault::SourcesFull));
+    assert!(rt; graph.len() == 32);
+    assert!(rt; graph.sources(&port(&rt, 128, 0)) == 0);
     Ok(())
 }
 
@@ -82,32 +79,29 @@ fn a_source_comes_back(rt: HostRuntime) -> Result<(), Fail> {
     join_ports(&rt, &mut graph, 129)?;
     let first = port(&rt, 128, 0);
     let target = port(&rt, 150, 0);
-    assert_eq!(rt;
-        graph.connect(first, target),
-        Err(EdgeFault::AlreadyConnected)
-    );
+    assert!(rt; graph.connect(first, target) == Err(EdgeFault::AlreadyConnected));
     assert!(rt; graph.disconnect(&first, &target));
     assert!(rt; !graph.disconnect(&first, &target));
     assert!(rt; !graph.has_edge(&first, &target));
-    assert_eq!(rt; graph.sources(&target), 31);
+    assert!(rt; graph.sources(&target) == 31);
     graph.connect(first, target)?;
-    assert_eq!(rt; graph.sources(&target), 32);
-    assert_eq!(rt; graph.edge(0), Some((port(&rt, 128, 1), target)));
-    assert_eq!(rt; graph.edge(31), Some((first, target)));
-    assert_eq!(rt; graph.edge(32), None);
+    assert!(rt; graph.sources(&target) == 32);
+    assert!(rt; graph.edge(0) == Some((port(&rt, 128, 1), target)));
+    assert!(rt; graph.edge(31) == Some((first, target)));
+    assert!(rt; graph.edge(32) == None);
     Ok(())
 }
 
 #[test]
 fn filters_in_a_cycle_are_refused(rt: HostRuntime) -> Result<(), Fail> {
     let mut graph = PatchGraph::new(rt.alloc());
-    assert_eq!(rt; join_filters(&rt, &mut graph, 0, 0), Err(EdgeFault::Cycle));
+    assert!(rt; join_filters(&rt, &mut graph, 0, 0) == Err(EdgeFault::Cycle));
     join_filters(&rt, &mut graph, 0, 1)?;
-    assert_eq!(rt; join_filters(&rt, &mut graph, 1, 0), Err(EdgeFault::Cycle));
+    assert!(rt; join_filters(&rt, &mut graph, 1, 0) == Err(EdgeFault::Cycle));
     join_filters(&rt, &mut graph, 1, 2)?;
-    assert_eq!(rt; join_filters(&rt, &mut graph, 2, 0), Err(EdgeFault::Cycle));
+    assert!(rt; join_filters(&rt, &mut graph, 2, 0) == Err(EdgeFault::Cycle));
     join_filters(&rt, &mut graph, 0, 2)?;
-    assert_eq!(rt; graph.len(), 3);
+    assert!(rt; graph.len() == 3);
     assert!(rt; graph.reaches(&filter(&rt, 128, 0), &filter(&rt, 128, 2)));
     assert!(rt; !graph.reaches(&filter(&rt, 128, 2), &filter(&rt, 128, 0)));
     assert!(rt; !graph.reaches(&filter(&rt, 128, 0), &filter(&rt, 128, 0)));
@@ -139,7 +133,7 @@ fn both_ways(rt: &impl Abort, graph: &mut PatchGraph) -> Result<(), EdgeFault> {
 fn ports_are_joined_both_ways(rt: HostRuntime) -> Result<(), Fail> {
     let mut graph = PatchGraph::new(rt.alloc());
     both_ways(&rt, &mut graph)?;
-    assert_eq!(rt; graph.len(), 3);
+    assert!(rt; graph.len() == 3);
     let one = port(&rt, 128, 0);
     let mut routes = graph.routes(&one);
     assert_way(&rt, &mut routes, &[port(&rt, 129, 0)]);
@@ -187,13 +181,13 @@ fn chained(rt: &impl Abort, graph: &mut PatchGraph, filters: u8) -> Result<(), E
 fn eight_edges_are_walked(rt: HostRuntime) -> Result<(), Fail> {
     let mut graph = PatchGraph::new(rt.alloc());
     chained(&rt, &mut graph, 7)?;
-    assert_eq!(rt; graph.len(), 8);
+    assert!(rt; graph.len() == 8);
     let paths = graph.walk(&port(&rt, 128, 0))?;
-    assert_eq!(rt; paths.len(), 1);
-    assert_eq!(rt; paths[0].filters.len(), 7);
-    assert_eq!(rt; paths[0].filters.as_slice()[6], filter(&rt, 128, 6));
-    assert_eq!(rt; paths[0].last.client.number(), 129);
-    assert_eq!(rt; paths[0].last.port.number(), 0);
+    assert!(rt; paths.len() == 1);
+    assert!(rt; paths[0].filters.len() == 7);
+    assert!(rt; paths[0].filters.as_slice()[6] == filter(&rt, 128, 6));
+    assert!(rt; paths[0].last.client.number() == 129);
+    assert!(rt; paths[0].last.port.number() == 0);
     Ok(())
 }
 
@@ -201,15 +195,15 @@ fn eight_edges_are_walked(rt: HostRuntime) -> Result<(), Fail> {
 fn nine_edges_are_not_walked(rt: HostRuntime) -> Result<(), Fail> {
     let mut graph = PatchGraph::new(rt.alloc());
     chained(&rt, &mut graph, 8)?;
-    assert_eq!(rt; graph.len(), 9);
-    assert_eq!(rt; graph.walk(&port(&rt, 128, 0))?.len(), 0);
+    assert!(rt; graph.len() == 9);
+    assert!(rt; graph.walk(&port(&rt, 128, 0))?.len() == 0);
     assert!(rt; graph.routes(&port(&rt, 128, 0)).next().is_none());
     let mut shorter = graph.routes(&filter(&rt, 128, 0));
     let way = shorter
         .next()
         .expect(&rt, "eight edges from the first filter");
-    assert_eq!(rt; way.filters().len(), 7);
-    assert_eq!(rt; way.last().client.number(), 129);
+    assert!(rt; way.filters().len() == 7);
+    assert!(rt; way.last().client.number() == 129);
     Ok(())
 }
 
@@ -218,21 +212,12 @@ fn a_node_goes_with_its_edges(rt: HostRuntime) -> Result<(), Fail> {
     let mut graph = PatchGraph::new(rt.alloc());
     crossed(&rt, &mut graph)?;
     graph.remove_node(&filter(&rt, 128, 1));
-    assert_eq!(rt; graph.len(), 4);
-    assert_eq!(rt;
-        graph.edge(0),
-        Some((filter(&rt, 128, 0), port(&rt, 129, 1)))
-    );
-    assert_eq!(rt;
-        graph.edge(1),
-        Some((filter(&rt, 128, 0), port(&rt, 129, 0)))
-    );
-    assert_eq!(rt; graph.edge(2), Some((port(&rt, 128, 0), port(&rt, 129, 2))));
-    assert_eq!(rt;
-        graph.edge(3),
-        Some((port(&rt, 128, 0), filter(&rt, 128, 0)))
-    );
-    assert_eq!(rt; graph.sources(&port(&rt, 129, 1)), 1);
+    assert!(rt; graph.len() == 4);
+    assert!(rt; graph.edge(0) == Some((filter(&rt, 128, 0), port(&rt, 129, 1))));
+    assert!(rt; graph.edge(1) == Some((filter(&rt, 128, 0), port(&rt, 129, 0))));
+    assert!(rt; graph.edge(2) == Some((port(&rt, 128, 0), port(&rt, 129, 2))));
+    assert!(rt; graph.edge(3) == Some((port(&rt, 128, 0), filter(&rt, 128, 0))));
+    assert!(rt; graph.sources(&port(&rt, 129, 1)) == 1);
     let left = [port(&rt, 129, 2), filter(&rt, 128, 0)];
     assert!(rt; *graph.targets(&port(&rt, 128, 0)) == *left.as_slice());
     assert!(rt; graph.targets(&filter(&rt, 128, 1)).is_empty());
@@ -247,12 +232,12 @@ fn a_client_goes_with_its_edges(rt: HostRuntime) -> Result<(), Fail> {
     graph.connect(port(&rt, 130, 0), port(&rt, 128, 0))?;
     graph.connect(port(&rt, 130, 0), port(&rt, 131, 0))?;
     graph.remove_client(client(&rt, 128));
-    assert_eq!(rt; graph.len(), 2);
-    assert_eq!(rt; graph.edge(0), Some((port(&rt, 130, 1), port(&rt, 131, 0))));
-    assert_eq!(rt; graph.edge(1), Some((port(&rt, 130, 0), port(&rt, 131, 0))));
+    assert!(rt; graph.len() == 2);
+    assert!(rt; graph.edge(0) == Some((port(&rt, 130, 1), port(&rt, 131, 0))));
+    assert!(rt; graph.edge(1) == Some((port(&rt, 130, 0), port(&rt, 131, 0))));
     let left = [port(&rt, 131, 0)];
     assert!(rt; *graph.targets(&port(&rt, 130, 0)) == *left.as_slice());
-    assert_eq!(rt; graph.sources(&port(&rt, 129, 0)), 0);
+    assert!(rt; graph.sources(&port(&rt, 129, 0)) == 0);
     graph.remove_client(client(&rt, 131));
     assert!(rt; graph.is_empty());
     Ok(())
@@ -269,12 +254,11 @@ fn a_full_house_of_ports_has_32_sources_at_each(rt: HostRuntime) -> Result<(), F
             }
         }
     }
-    assert_eq!(rt; graph.len(), 32_768);
+    assert!(rt; graph.len() == 32_768);
     for number in 128..192 {
-        assert_eq!(rt; graph.sources(&port(&rt, number, 15)), 32);
-        assert_eq!(rt;
-            graph.connect(port(&rt, 130, 0), port(&rt, number, 15)),
-            Err(EdgeFault::SourcesFull)
+        assert!(rt; graph.sources(&port(&rt, number, 15)) == 32);
+        assert!(rt;
+            graph.connect(port(&rt, 130, 0), port(&rt, number, 15)) == Err(EdgeFault::SourcesFull)
         );
     }
     let mut routes = graph.routes(&port(&rt, 129, 3));
@@ -289,21 +273,13 @@ fn a_full_house_of_ports_has_32_sources_at_each(rt: HostRuntime) -> Result<(), F
 
 #[test]
 fn faults_print(rt: HostRuntime) -> Result<(), Fail> {
-    assert_eq!(rt;
-        format!(in rt.alloc(); "{}", EdgeFault::AlreadyConnected)?.as_str(),
-        "already connected"
+    assert!(rt;
+        format!(in rt.alloc(); "{}", EdgeFault::AlreadyConnected)?.as_str() == "already connected"
     );
-    assert_eq!(rt;
-        format!(in rt.alloc(); "{}", EdgeFault::SourcesFull)?.as_str(),
-        "too many sources"
+    assert!(rt;
+        format!(in rt.alloc(); "{}", EdgeFault::SourcesFull)?.as_str() == "too many sources"
     );
-    assert_eq!(rt;
-        format!(in rt.alloc(); "{}", EdgeFault::Cycle)?.as_str(),
-        "a cycle of filters"
-    );
-    assert_eq!(rt;
-        format!(in rt.alloc(); "{}", EdgeFault::OutOfMemory)?.as_str(),
-        "out of memory"
-    );
+    assert!(rt; format!(in rt.alloc(); "{}", EdgeFault::Cycle)?.as_str() == "a cycle of filters");
+    assert!(rt; format!(in rt.alloc(); "{}", EdgeFault::OutOfMemory)?.as_str() == "out of memory");
     Ok(())
 }

@@ -104,9 +104,9 @@ fn records_at_ticks(rt: HostRuntime) -> Result<(), Fail> {
     let log = ran(&rt, alloc, inputs.as_slice(), 1_000_000_000)?;
     let file = record_file(alloc, &log, port_at(129)?)?;
     // 960 ticks are 87 40 as a delta time.
-    assert_eq!(rt;
-        file.as_slice(),
-        &b"MThd\x00\x00\x00\x06\x00\x00\x00\x01\x01\xE0MTrk\x00\x00\x00\x14\
+    assert!(rt;
+        file.as_slice()
+            == &b"MThd\x00\x00\x00\x06\x00\x00\x00\x01\x01\xE0MTrk\x00\x00\x00\x14\
         \x00\xFF\x51\x03\x07\xA1\x20\x00\x90\x3C\x40\x87\x40\x90\x3C\x00\x00\xFF\x2F\x00"[..]
     );
     Ok(())
@@ -119,13 +119,13 @@ fn recording(rt: HostRuntime) -> Result<(), Fail> {
     let inputs = fed(alloc, 5, b"\x90\x3C\x40")?;
     let log = ran(&rt, alloc, inputs.as_slice(), 10)?;
     let file = record_file(alloc, &log, port_at(129)?)?;
-    assert_eq!(rt;
-        file.as_slice(),
-        &b"MThd\x00\x00\x00\x06\x00\x00\x00\x01\x01\xE0MTrk\x00\x00\x00\x0F\
+    assert!(rt;
+        file.as_slice()
+            == &b"MThd\x00\x00\x00\x06\x00\x00\x00\x01\x01\xE0MTrk\x00\x00\x00\x0F\
         \x00\xFF\x51\x03\x07\xA1\x20\x00\x90\x3C\x40\x00\xFF\x2F\x00"[..]
     );
     let raw = log.port_bytes(port_at(129)?)?;
-    assert_eq!(rt; raw.as_slice(), &b"\x90\x3C\x40"[..]);
+    assert!(rt; raw.as_slice() == &b"\x90\x3C\x40"[..]);
     Ok(())
 }
 
@@ -135,9 +135,9 @@ fn records_silence(rt: HostRuntime) -> Result<(), Fail> {
     let inputs = whole_note(alloc)?;
     let log = ran(&rt, alloc, inputs.as_slice(), 1_000_000_000)?;
     let file = record_file(alloc, &log, port_at(128)?)?;
-    assert_eq!(rt;
-        file.as_slice(),
-        &b"MThd\x00\x00\x00\x06\x00\x00\x00\x01\x01\xE0MTrk\x00\x00\x00\x0B\
+    assert!(rt;
+        file.as_slice()
+            == &b"MThd\x00\x00\x00\x06\x00\x00\x00\x01\x01\xE0MTrk\x00\x00\x00\x0B\
         \x00\xFF\x51\x03\x07\xA1\x20\x00\xFF\x2F\x00"[..]
     );
     Ok(())

@@ -85,11 +85,11 @@ fn reads_each_form(rt: HostRuntime) -> Result<(), Fail> {
             assert!(rt; false);
             return Ok(());
         };
-        assert_eq!(rt; script.skips.len(), 0, "at {line}");
-        assert_eq!(rt; script.inputs.len(), 1, "at {line}");
+        assert!(rt; script.skips.len() == 0);
+        assert!(rt; script.inputs.len() == 1);
         for taken in script.inputs.as_slice() {
-            assert_eq!(rt; taken.line, 1, "at {line}");
-            assert_eq!(rt; taken.input.moment, 7, "at {line}");
+            assert!(rt; taken.line == 1);
+            assert!(rt; taken.input.moment == 7);
             assert!(rt;
                 line.starts_with(word_of(&taken.input.command)),
                 "at {line}"
@@ -122,12 +122,12 @@ fn skips_hostile_lines(rt: HostRuntime) -> Result<(), Fail> {
             why: SkipReason::PastEnd,
         },
     ];
-    assert_eq!(rt; script.skips.as_slice(), skips.as_slice());
+    assert!(rt; script.skips.as_slice() == skips.as_slice());
     let mut lines = Vec::new(rt.alloc());
     for taken in script.inputs.as_slice() {
         lines.push(taken.line)?;
     }
-    assert_eq!(rt; lines.as_slice(), [1, 3, 5, 7].as_slice());
+    assert!(rt; lines.as_slice() == [1, 3, 5, 7].as_slice());
     Ok(())
 }
 
@@ -141,19 +141,19 @@ fn reads_the_longest_script(rt: HostRuntime) -> Result<(), Fail> {
         assert!(rt; false);
         return Ok(());
     };
-    assert_eq!(rt; script.inputs.len(), 0);
-    assert_eq!(rt; script.skips.len(), 0);
+    assert!(rt; script.inputs.len() == 0);
+    assert!(rt; script.skips.len() == 0);
     text.push(b'\n')?;
     let Some(script) = read(rt.alloc(), text.as_slice())? else {
         assert!(rt; false);
         return Ok(());
     };
-    assert_eq!(rt; script.inputs.len(), 0);
+    assert!(rt; script.inputs.len() == 0);
     let too_long = [Skip {
         line: 0,
         why: SkipReason::TooLong,
     }];
-    assert_eq!(rt; script.skips.as_slice(), too_long.as_slice());
+    assert!(rt; script.skips.as_slice() == too_long.as_slice());
     Ok(())
 }
 
@@ -167,8 +167,8 @@ fn reads_as_many_lines_as_fit(rt: HostRuntime) -> Result<(), Fail> {
         assert!(rt; false);
         return Ok(());
     };
-    assert_eq!(rt; script.inputs.len(), 131_072);
-    assert_eq!(rt; script.skips.len(), 0);
+    assert!(rt; script.inputs.len() == 131_072);
+    assert!(rt; script.skips.len() == 0);
     Ok(())
 }
 
@@ -181,7 +181,7 @@ fn reasons_have_their_texts(rt: HostRuntime) -> Result<(), Fail> {
         (SkipReason::TooLong, "too-long"),
     ];
     for (why, text) in reasons {
-        assert_eq!(rt; why.to_string(rt.alloc())?.as_str(), text);
+        assert!(rt; why.to_string(rt.alloc())?.as_str() == text);
     }
     Ok(())
 }

@@ -37,12 +37,12 @@ fn a_client_opens_and_closes(rt: HostRuntime) -> Result<(), Fail> {
     let mut clients = one_client(rt.alloc())?;
     assert!(rt; clients.is_open(one));
     assert!(rt; !clients.is_open(client(129)?));
-    assert_eq!(rt; clients.name(one), Some(b"synth".as_slice()));
-    assert_eq!(rt; (clients.in_size(one), clients.out_size(one)), (2, 3));
+    assert!(rt; clients.name(one) == Some(b"synth".as_slice()));
+    assert!(rt; (clients.in_size(one), clients.out_size(one)) == (2, 3));
     clients.close(one);
     assert!(rt; !clients.is_open(one));
-    assert_eq!(rt; clients.name(one), None);
-    assert_eq!(rt; (clients.in_size(one), clients.out_size(one)), (0, 0));
+    assert!(rt; clients.name(one) == None);
+    assert!(rt; (clients.in_size(one), clients.out_size(one)) == (0, 0));
     Ok(())
 }
 
@@ -62,10 +62,10 @@ fn ports_are_made_and_dropped(rt: HostRuntime) -> Result<(), Fail> {
     make_port(&mut clients, one, port(15)?)?;
     assert!(rt; clients.has_port(one, port(15)?));
     assert!(rt; !clients.has_port(one, port(0)?));
-    assert_eq!(rt; clients.port_name(one, port(15)?), Some(b"out".as_slice()));
+    assert!(rt; clients.port_name(one, port(15)?) == Some(b"out".as_slice()));
     let node = Node::Port(port(15)?);
     let caps = clients.caps(&Addr { client: one, node });
-    assert_eq!(rt; caps.map(|c| c.bits()), Some(1));
+    assert!(rt; caps.map(|c| c.bits()) == Some(1));
     clients.delete_port(one, port(15)?);
     assert!(rt; !clients.has_port(one, port(15)?));
     Ok(())
@@ -107,15 +107,9 @@ fn filters_have_rules(rt: HostRuntime) -> Result<(), Fail> {
     make_filter(&mut clients, one, filter(3)?)?;
     assert!(rt; clients.has_filter(one, filter(3)?));
     assert!(rt; !clients.has_port(one, port(3)?));
-    assert_eq!(rt;
-        clients.rule(one, filter(3)?).map(|r| r.args().kinds),
-        Some(1)
-    );
+    assert!(rt; clients.rule(one, filter(3)?).map(|r| r.args().kinds) == Some(1));
     change_filter(&mut clients, one, filter(3)?)?;
-    assert_eq!(rt;
-        clients.rule(one, filter(3)?).map(|r| r.args().kinds),
-        Some(2)
-    );
+    assert!(rt; clients.rule(one, filter(3)?).map(|r| r.args().kinds) == Some(2));
     clients.delete_filter(one, filter(3)?);
     assert!(rt; clients.rule(one, filter(3)?).is_none());
     Ok(())
@@ -140,15 +134,15 @@ fn streams_go_on_between_pieces(rt: HostRuntime) -> Result<(), Fail> {
     let mut clients = one_client(rt.alloc())?;
     make_port(&mut clients, one, port(0)?)?;
     let mut out = Vec::new(rt.alloc());
-    assert_eq!(rt; fed(&mut clients, one, &[0x90, 60], &mut out)?, 0);
-    assert_eq!(rt; fed(&mut clients, one, &[], &mut out)?, 0);
+    assert!(rt; fed(&mut clients, one, &[0x90, 60], &mut out)? == 0);
+    assert!(rt; fed(&mut clients, one, &[], &mut out)? == 0);
     // Running status: the second note has no status of its own.
-    assert_eq!(rt; fed(&mut clients, one, &[64, 62, 64], &mut out)?, 2);
+    assert!(rt; fed(&mut clients, one, &[64, 62, 64], &mut out)? == 2);
     let mut bytes = Vec::new(rt.alloc());
     for message in out.iter() {
         message.append_to(&mut bytes)?;
     }
-    assert_eq!(rt; bytes.as_slice(), [0x90, 60, 64, 0x90, 62, 64].as_slice());
+    assert!(rt; bytes.as_slice() == [0x90, 60, 64, 0x90, 62, 64].as_slice());
     Ok(())
 }
 
@@ -183,9 +177,9 @@ fn queues_are_made_and_shared(rt: HostRuntime) -> Result<(), Fail> {
     assert!(rt; clients.has_queue(one, queue(7)?));
     assert!(rt; !clients.has_queue(one, queue(0)?));
     let addr = queue_addr(7)?;
-    assert_eq!(rt; clients.queue(&addr).map(|q| q.is_shared()), Some(false));
+    assert!(rt; clients.queue(&addr).map(|q| q.is_shared()) == Some(false));
     clients.share(one, queue(7)?);
-    assert_eq!(rt; clients.queue(&addr).map(|q| q.is_shared()), Some(true));
+    assert!(rt; clients.queue(&addr).map(|q| q.is_shared()) == Some(true));
     clients.delete_queue(one, queue(7)?);
     assert!(rt; !clients.has_queue(one, queue(7)?));
     Ok(())
@@ -236,13 +230,13 @@ fn queues_run(rt: HostRuntime) -> Result<(), Fail> {
     let mut clients = one_client(rt.alloc())?;
     make_queue(&mut clients, rt.alloc(), client(128)?, queue(0)?)?;
     let addr = queue_addr(0)?;
-    assert_eq!(rt; shown(&clients, &addr, 5), Some((false, 0)));
+    assert!(rt; shown(&clients, &addr, 5) == Some((false, 0)));
     start(&mut clients, &addr, 10)?;
-    assert_eq!(rt; shown(&clients, &addr, 30), Some((true, 20)));
+    assert!(rt; shown(&clients, &addr, 30) == Some((true, 20)));
     stop(&mut clients, &addr, 110)?;
-    assert_eq!(rt; shown(&clients, &addr, 399), Some((false, 100)));
+    assert!(rt; shown(&clients, &addr, 399) == Some((false, 100)));
     resume(&mut clients, &addr, 400)?;
-    assert_eq!(rt; shown(&clients, &addr, 500), Some((true, 200)));
+    assert!(rt; shown(&clients, &addr, 500) == Some((true, 200)));
     Ok(())
 }
 
@@ -254,7 +248,7 @@ fn a_tempo_is_set(rt: HostRuntime) -> Result<(), Fail> {
     set_tempo(&mut clients, &addr, 0)?;
     // 96 ticks last as long as a quarter note does.
     let nanos = clients.queue(&addr).map(|q| q.clock().map().nanos_at(96));
-    assert_eq!(rt; nanos, Some(250_000_000));
+    assert!(rt; nanos == Some(250_000_000));
     Ok(())
 }
 
@@ -275,10 +269,10 @@ fn pools_fill_and_drain(rt: HostRuntime) -> Result<(), Fail> {
     assert!(rt; clients.offer(one, arrival(rt.alloc(), 10)?));
     assert!(rt; clients.offer(one, arrival(rt.alloc(), 20)?));
     assert!(rt; !clients.offer(one, arrival(rt.alloc(), 30)?));
-    assert_eq!(rt; (clients.waiting(one), clients.lost(one)), (2, 1));
+    assert!(rt; (clients.waiting(one), clients.lost(one)) == (2, 1));
     let taken = clients.receive(one, 1)?;
-    assert_eq!(rt; taken.as_slice().first().map(|a| a.moment), Some(10));
-    assert_eq!(rt; (clients.waiting(one), clients.lost(one)), (1, 1));
+    assert!(rt; taken.as_slice().first().map(|a| a.moment) == Some(10));
+    assert!(rt; (clients.waiting(one), clients.lost(one)) == (1, 1));
     assert!(rt; !clients.offer(client(129)?, arrival(rt.alloc(), 40)?));
     Ok(())
 }

@@ -7,6 +7,7 @@ use seq_clients::Clients;
 use seq_settle::Desk;
 use seq_state::Delivery;
 use std::alloc::Global;
+use std::process::Abort;
 use std::test::Fail;
 use tempo_clock::{Due, TempoEntry, TempoMap};
 
@@ -124,16 +125,20 @@ fn start(clients: &mut Clients, addr: &QueueAddr) -> Result<(), Fail> {
     Ok(())
 }
 
-/// Whether the listing is this text.
-fn is_listed(patchbay: &Patchbay, alloc: Global, wanted: &str) -> Result<bool, Fail> {
-    Ok(patchbay.listing(alloc)?.as_slice() == wanted.as_bytes())
+/// Tests that a listing is this text.
+fn assert_listed(
+    rt: &(impl Abort + AllocGlobal),
+    patchbay: &Patchbay,
+    wanted: &str,
+) -> Result<(), Fail> {
+    assert!(rt; patchbay.listing(rt.alloc())?.as_slice() == wanted.as_bytes());
+    Ok(())
 }
 
 #[test]
 fn nobody_is_listed_at_first(rt: HostRuntime) -> Result<(), Fail> {
     let patchbay = Patchbay::new(rt.alloc());
-    assert!(rt; is_listed(&patchbay, rt.alloc(), "")?);
-    Ok(())
+    assert_listed(&rt, &patchbay, "")
 }
 
 fn open_two(clients: &mut Clients) -> Result<(), Fail> {
@@ -141,13 +146,16 @@ fn open_two(clients: &mut Clients) -> Result<(), Fail> {
     open_synth(clients)
 }
 
+fn two_listed(rt: &(impl Abort + AllocGlobal), patchbay: &mut Patchbay) -> Result<(), Fail> {
+    open_two(patchbay.clients_mut())?;
+    let wanted = "client 128 synth in 2 out 3\nclient 191 drums in 2000 out 1\n";
+    assert_listed(rt, patchbay, wanted)
+}
+
 #[test]
 fn clients_are_listed_by_number(rt: HostRuntime) -> Result<(), Fail> {
     let mut patchbay = Patchbay::new(rt.alloc());
-    open_two(patchbay.clients_mut())?;
-    let wanted = "client 128 synth in 2 out 3\nclient 191 drums in 2000 out 1\n";
-    assert!(rt; is_listed(&patchbay, rt.alloc(), wanted)?);
-    Ok(())
+    two_listed(&rt, &mut patchbay)
 }
 
 fn make_two_ports(clients: &mut Clients) -> Result<(), Fail> {
@@ -156,13 +164,16 @@ fn make_two_ports(clients: &mut Clients) -> Result<(), Fail> {
     make_port(clients, client(128)?, port(0)?)
 }
 
+fn two_ports_listed(rt: &(impl Abort + AllocGlobal), patchbay: &mut Patchbay) -> Result<(), Fail> {
+    make_two_ports(patchbay.clients_mut())?;
+    let wanted = "client 128 synth in 2 out 3\nport 128:p0 out 1\nport 128:p15 out 1\n";
+    assert_listed(rt, patchbay, wanted)
+}
+
 #[test]
 fn ports_are_listed_by_number(rt: HostRuntime) -> Result<(), Fail> {
     let mut patchbay = Patchbay::new(rt.alloc());
-    make_two_ports(patchbay.clients_mut())?;
-    let wanted = "client 128 synth in 2 out 3\nport 128:p0 out 1\nport 128:p15 out 1\n";
-    assert!(rt; is_listed(&patchbay, rt.alloc(), wanted)?);
-    Ok(())
+    two_ports_listed(&rt, &mut patchbay)
 }
 
 fn make_two_filters(clients: &mut Clients) -> Result<(), Fail> {
@@ -171,15 +182,21 @@ fn make_two_filters(clients: &mut Clients) -> Result<(), Fail> {
     make_filter(clients, client(128)?, filter(0)?, octave_down())
 }
 
-#[test]
-fn filters_are_listed_with_their_rules(rt: HostRuntime) -> Result<(), Fail> {
-    let mut patchbay = Patchbay::new(rt.alloc());
+fn two_filters_listed(
+    rt: &(impl Abort + AllocGlobal),
+    patchbay: &mut Patchbay,
+) -> Result<(), Fail> {
     make_two_filters(patchbay.clients_mut())?;
     let wanted = "client 128 synth in 2 out 3\n\
         filter 128:f0 2 65535 1023 12 127 -12\n\
         filter 128:f3 2 1 3 0 127 0 15\n";
-    assert!(rt; is_listed(&patchbay, rt.alloc(), wanted)?);
-    Ok(())
+    assert_listed(rt, patchbay, wanted)
+}
+
+#[test]
+fn filters_are_listed_with_their_rules(rt: HostRuntime) -> Result<(), Fail> {
+    let mut patchbay = Patchbay::new(rt.alloc());
+    two_filters_listed(&rt, &mut patchbay)
 }
 
 /// Queue 1 runs, queue 0 is held, queue 7 is held and shared.
@@ -194,14 +211,20 @@ fn make_queues(clients: &mut Clients, alloc: Global) -> Result<(), Fail> {
     Ok(())
 }
 
-#[test]
-fn queues_are_listed(rt: HostRuntime) -> Result<(), Fail> {
-    let mut patchbay = Patchbay::new(rt.alloc());
+fn made_queues_listed(
+    rt: &(impl Abort + AllocGlobal),
+    patchbay: &mut Patchbay,
+) -> Result<(), Fail> {
     make_queues(patchbay.clients_mut(), rt.alloc())?;
     let wanted = "client 128 synth in 2 out 3\n\
         queue 128:q0 stopped\nqueue 128:q1 running\nqueue 128:q7 stopped shared\n";
-    assert!(rt; is_listed(&patchbay, rt.alloc(), wanted)?);
-    Ok(())
+    assert_listed(rt, patchbay, wanted)
+}
+
+#[test]
+fn queues_are_listed(rt: HostRuntime) -> Result<(), Fail> {
+    let mut patchbay = Patchbay::new(rt.alloc());
+    made_queues_listed(&rt, &mut patchbay)
 }
 
 fn run_shared_queue(clients: &mut Clients, alloc: Global) -> Result<(), Fail> {
@@ -212,13 +235,19 @@ fn run_shared_queue(clients: &mut Clients, alloc: Global) -> Result<(), Fail> {
     start(clients, &shared)
 }
 
+fn shared_queue_listed(
+    rt: &(impl Abort + AllocGlobal),
+    patchbay: &mut Patchbay,
+) -> Result<(), Fail> {
+    run_shared_queue(patchbay.clients_mut(), rt.alloc())?;
+    let wanted = "client 128 synth in 2 out 3\nqueue 128:q6 running shared\n";
+    assert_listed(rt, patchbay, wanted)
+}
+
 #[test]
 fn a_shared_queue_may_run(rt: HostRuntime) -> Result<(), Fail> {
     let mut patchbay = Patchbay::new(rt.alloc());
-    run_shared_queue(patchbay.clients_mut(), rt.alloc())?;
-    let wanted = "client 128 synth in 2 out 3\nqueue 128:q6 running shared\n";
-    assert!(rt; is_listed(&patchbay, rt.alloc(), wanted)?);
-    Ok(())
+    shared_queue_listed(&rt, &mut patchbay)
 }
 
 fn make_nodes(clients: &mut Clients) -> Result<(), Fail> {
@@ -244,16 +273,19 @@ fn make_two_ways(patchbay: &mut Patchbay) -> Result<(), Fail> {
     connect(patchbay.graph_mut(), client(128)?, client(129)?)
 }
 
-#[test]
-fn edges_are_listed_at_the_end(rt: HostRuntime) -> Result<(), Fail> {
-    let mut patchbay = Patchbay::new(rt.alloc());
-    make_two_ways(&mut patchbay)?;
+fn two_ways_listed(rt: &(impl Abort + AllocGlobal), patchbay: &mut Patchbay) -> Result<(), Fail> {
+    make_two_ways(patchbay)?;
     let wanted = "client 128 synth in 2 out 3\nport 128:p0 out 1\n\
         filter 128:f3 2 65535 1023 12 127 -12\n\
         client 129 drums in 2000 out 1\nport 129:p0 out 1\nport 129:p1 out 1\n\
         edge 128:f3 129:p0\nedge 128:p0 128:f3\nedge 128:p0 129:p1\n";
-    assert!(rt; is_listed(&patchbay, rt.alloc(), wanted)?);
-    Ok(())
+    assert_listed(rt, patchbay, wanted)
+}
+
+#[test]
+fn edges_are_listed_at_the_end(rt: HostRuntime) -> Result<(), Fail> {
+    let mut patchbay = Patchbay::new(rt.alloc());
+    two_ways_listed(&rt, &mut patchbay)
 }
 
 fn make_one_of_each(clients: &mut Clients, alloc: Global) -> Result<(), Fail> {
@@ -263,14 +295,20 @@ fn make_one_of_each(clients: &mut Clients, alloc: Global) -> Result<(), Fail> {
     make_port(clients, client(128)?, port(7)?)
 }
 
-#[test]
-fn ports_come_before_filters_and_queues(rt: HostRuntime) -> Result<(), Fail> {
-    let mut patchbay = Patchbay::new(rt.alloc());
+fn one_of_each_listed(
+    rt: &(impl Abort + AllocGlobal),
+    patchbay: &mut Patchbay,
+) -> Result<(), Fail> {
     make_one_of_each(patchbay.clients_mut(), rt.alloc())?;
     let wanted = "client 128 synth in 2 out 3\nport 128:p7 out 1\n\
         filter 128:f15 2 1 3 0 127 0 15\nqueue 128:q0 stopped\n";
-    assert!(rt; is_listed(&patchbay, rt.alloc(), wanted)?);
-    Ok(())
+    assert_listed(rt, patchbay, wanted)
+}
+
+#[test]
+fn ports_come_before_filters_and_queues(rt: HostRuntime) -> Result<(), Fail> {
+    let mut patchbay = Patchbay::new(rt.alloc());
+    one_of_each_listed(&rt, &mut patchbay)
 }
 
 /// A note on the first channel, with velocity 64.
@@ -279,44 +317,52 @@ fn note(alloc: Global, number: u8) -> Result<Message, Fail> {
     Ok(message.ok_or("a note")?)
 }
 
-/// Sends from port 0 of client 128.
-fn send(
+/// Sends notes from port 0 of client 128, one after another.
+fn sound(
     patchbay: &mut Patchbay,
-    messages: &[Message],
+    alloc: Global,
+    numbers: &[u8],
     out: &mut Vec<Delivery>,
 ) -> Result<(), Fail> {
-    make_two_ways(patchbay)?;
-    patchbay.send_all(5, client(128)?, port(0)?, messages, out)?;
+    let mut messages = Vec::new(alloc);
+    for number in numbers {
+        messages.push(note(alloc, *number)?)?;
+    }
+    patchbay.send_all(5, client(128)?, port(0)?, messages.as_slice(), out)?;
     Ok(())
 }
 
-/// To which port a delivery went, and the note in it.
-fn heard(out: &[Delivery], index: usize) -> Option<(u8, Option<u8>)> {
-    let delivery = out.get(index)?;
-    Some((delivery.target.port.number(), delivery.message.byte_at(1)))
+/// Whether these notes came, each to this port, and no more.
+fn is_heard(out: &[Delivery], wanted: &[(u8, u8)]) -> bool {
+    let heard = out.iter().map(|d| (d.target.port.number(), d.message.byte_at(1).unwrap_or(0)));
+    heard.eq(wanted.iter().copied())
+}
+
+/// Sends a note, 60, from port 0 of client 128, and tests what comes of it.
+fn assert_sounds(
+    rt: &(impl Abort + AllocGlobal),
+    patchbay: &mut Patchbay,
+    wanted: &[(u8, u8)],
+) -> Result<(), Fail> {
+    let mut out = Vec::new(rt.alloc());
+    sound(patchbay, rt.alloc(), &[60], &mut out)?;
+    assert!(rt; is_heard(out.as_slice(), wanted));
+    Ok(())
+}
+
+fn two_notes_heard(rt: &(impl Abort + AllocGlobal), patchbay: &mut Patchbay) -> Result<(), Fail> {
+    make_two_ways(patchbay)?;
+    let mut out = Vec::new(rt.alloc());
+    // The filter takes no note below 12.
+    sound(patchbay, rt.alloc(), &[60, 11], &mut out)?;
+    assert!(rt; is_heard(out.as_slice(), &[(0, 48), (1, 60), (1, 11)]));
+    Ok(())
 }
 
 #[test]
 fn notes_go_both_ways(rt: HostRuntime) -> Result<(), Fail> {
     let mut patchbay = Patchbay::new(rt.alloc());
-    let mut out = Vec::new(rt.alloc());
-    // The filter takes no note below 12.
-    let messages = [note(rt.alloc(), 60)?, note(rt.alloc(), 11)?];
-    send(&mut patchbay, &messages, &mut out)?;
-    let out = out.as_slice();
-    assert_eq!(rt; heard(out, 0), Some((0, Some(48))));
-    assert_eq!(rt; heard(out, 1), Some((1, Some(60))));
-    assert_eq!(rt; heard(out, 2), Some((1, Some(11))));
-    assert_eq!(rt; heard(out, 3), None);
-    Ok(())
-}
-
-/// Sends a note, 60, from port 0 of client 128, and tells where it came first and as which note.
-fn sound(patchbay: &mut Patchbay, alloc: Global) -> Result<Option<(u8, Option<u8>)>, Fail> {
-    let mut out = Vec::new(alloc);
-    let messages = [note(alloc, 60)?];
-    patchbay.send_all(5, client(128)?, port(0)?, &messages, &mut out)?;
-    Ok(heard(out.as_slice(), 0))
+    two_notes_heard(&rt, &mut patchbay)
 }
 
 /// Gives a filter another rule: the notes 24 to 127, two octaves down.
@@ -334,14 +380,20 @@ fn lower(clients: &mut Clients, one: ClientId, number: FilterNo) -> Result<(), F
     Ok(())
 }
 
+fn heard_before_and_after(
+    rt: &(impl Abort + AllocGlobal),
+    patchbay: &mut Patchbay,
+) -> Result<(), Fail> {
+    make_two_ways(patchbay)?;
+    assert_sounds(rt, patchbay, &[(0, 48), (1, 60)])?;
+    lower(patchbay.clients_mut(), client(128)?, filter(3)?)?;
+    assert_sounds(rt, patchbay, &[(0, 36), (1, 60)])
+}
+
 #[test]
 fn another_rule_counts_at_once(rt: HostRuntime) -> Result<(), Fail> {
     let mut patchbay = Patchbay::new(rt.alloc());
-    make_two_ways(&mut patchbay)?;
-    assert_eq!(rt; sound(&mut patchbay, rt.alloc())?, Some((0, Some(48))));
-    lower(patchbay.clients_mut(), client(128)?, filter(3)?)?;
-    assert_eq!(rt; sound(&mut patchbay, rt.alloc())?, Some((0, Some(36))));
-    Ok(())
+    heard_before_and_after(&rt, &mut patchbay)
 }
 
 /// Port 1 of client 129 listens to filter 3 too, so that the ways part there.
@@ -352,19 +404,17 @@ fn listen_to_the_filter(patchbay: &mut Patchbay) -> Result<(), Fail> {
     Ok(())
 }
 
+fn heard_by_one_more(rt: &(impl Abort + AllocGlobal), patchbay: &mut Patchbay) -> Result<(), Fail> {
+    make_two_ways(patchbay)?;
+    assert_sounds(rt, patchbay, &[(0, 48), (1, 60)])?;
+    listen_to_the_filter(patchbay)?;
+    assert_sounds(rt, patchbay, &[(0, 48), (1, 48), (1, 60)])
+}
+
 #[test]
 fn another_subscription_counts_at_once(rt: HostRuntime) -> Result<(), Fail> {
     let mut patchbay = Patchbay::new(rt.alloc());
-    let mut out = Vec::new(rt.alloc());
-    send(&mut patchbay, &[note(rt.alloc(), 60)?], &mut out)?;
-    assert_eq!(rt; out.len(), 2);
-    listen_to_the_filter(&mut patchbay)?;
-    let messages = [note(rt.alloc(), 60)?];
-    patchbay.send_all(5, client(128)?, port(0)?, &messages, &mut out)?;
-    assert_eq!(rt; heard(out.as_slice(), 2), Some((0, Some(48))));
-    assert_eq!(rt; heard(out.as_slice(), 3), Some((1, Some(48))));
-    assert_eq!(rt; heard(out.as_slice(), 4), Some((1, Some(60))));
-    Ok(())
+    heard_by_one_more(&rt, &mut patchbay)
 }
 
 /// Puts filter 4 of client 128, an octave down too, between filter 3 and what listens to it.
@@ -379,13 +429,16 @@ fn add_a_filter(patchbay: &mut Patchbay) -> Result<(), Fail> {
     Ok(())
 }
 
+fn heard_through_two(rt: &(impl Abort + AllocGlobal), patchbay: &mut Patchbay) -> Result<(), Fail> {
+    make_two_ways(patchbay)?;
+    add_a_filter(patchbay)?;
+    assert_sounds(rt, patchbay, &[(0, 36), (1, 60)])
+}
+
 #[test]
 fn filters_one_after_another_are_one_rule(rt: HostRuntime) -> Result<(), Fail> {
     let mut patchbay = Patchbay::new(rt.alloc());
-    make_two_ways(&mut patchbay)?;
-    add_a_filter(&mut patchbay)?;
-    assert_eq!(rt; sound(&mut patchbay, rt.alloc())?, Some((0, Some(36))));
-    Ok(())
+    heard_through_two(&rt, &mut patchbay)
 }
 
 /// The moment of an event that is due after 90 ns by a queue.
@@ -393,12 +446,16 @@ fn moment_by(patchbay: &Patchbay, number: u8) -> Result<Option<u64>, Fail> {
     Ok(patchbay.moment_of(&queue_at(128, number)?, 0, Due::Nanos(90)))
 }
 
+fn moments_told(rt: &(impl Abort + AllocGlobal), patchbay: &mut Patchbay) -> Result<(), Fail> {
+    make_queues(patchbay.clients_mut(), rt.alloc())?;
+    assert!(rt; moment_by(patchbay, 0)? == None);
+    assert!(rt; moment_by(patchbay, 1)? == Some(100));
+    assert!(rt; moment_by(patchbay, 2)? == None);
+    Ok(())
+}
+
 #[test]
 fn moments_are_of_queues_that_run(rt: HostRuntime) -> Result<(), Fail> {
     let mut patchbay = Patchbay::new(rt.alloc());
-    make_queues(patchbay.clients_mut(), rt.alloc())?;
-    assert_eq!(rt; moment_by(&patchbay, 0)?, None);
-    assert_eq!(rt; moment_by(&patchbay, 1)?, Some(100));
-    assert_eq!(rt; moment_by(&patchbay, 2)?, None);
-    Ok(())
+    moments_told(&rt, &mut patchbay)
 }

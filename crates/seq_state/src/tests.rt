@@ -4,9 +4,9 @@ use std::test::Fail;
 #[test]
 fn refusals_have_their_texts(rt: HostRuntime) -> Result<(), Fail> {
     let first = Refusal::NotOpen.to_string(rt.alloc())?;
-    assert_eq!(rt; first.as_str(), "1 NotOpen");
+    assert!(rt; first.as_str() == "1 NotOpen");
     let last = Refusal::OutFull.to_string(rt.alloc())?;
-    assert_eq!(rt; last.as_str(), "24 OutFull");
+    assert!(rt; last.as_str() == "24 OutFull");
     Ok(())
 }
 
@@ -15,7 +15,7 @@ fn refusals_come_back_from_their_numbers(rt: HostRuntime) {
     for number in 0..=255u8 {
         let refusal = Refusal::from_number(number);
         let there = (1..=24).contains(&number);
-        assert_eq!(rt; refusal.is_some(), there, "at {number}");
+        assert!(rt; refusal.is_some() == there);
     }
-    assert_eq!(rt; Refusal::from_number(14), Some(Refusal::Cycle));
+    assert!(rt; Refusal::from_number(14) == Some(Refusal::Cycle));
 }

@@ -65,8 +65,8 @@ fn check_event(
     let event = event.ok_or("an event")?;
     let mut full = Vec::new(alloc);
     event.message.append_to(&mut full)?;
-    assert_eq!(rt; event.tick, tick);
-    assert_eq!(rt; full.as_slice(), bytes);
+    assert!(rt; event.tick == tick);
+    assert!(rt; full.as_slice() == bytes);
     Ok(())
 }
 
@@ -76,23 +76,23 @@ fn entry(tick: u64, tempo: u32) -> TempoEntry {
 
 #[test]
 fn reads_quantities(rt: HostRuntime) {
-    assert_eq!(rt; quantity(&[0x81, 0x00]), Ok((128, 2)));
-    assert_eq!(rt; quantity(&[0xFF, 0xFF, 0xFF, 0x7F]), Ok((268_435_455, 4)));
-    assert_eq!(rt; quantity(&[0x80, 0x00]), Ok((0, 2)));
+    assert!(rt; quantity(&[0x81, 0x00]) == Ok((128, 2)));
+    assert!(rt; quantity(&[0xFF, 0xFF, 0xFF, 0x7F]) == Ok((268_435_455, 4)));
+    assert!(rt; quantity(&[0x80, 0x00]) == Ok((0, 2)));
     let long = quantity(&[0x80, 0x80, 0x80, 0x80, 0x00]);
-    assert_eq!(rt; long, Err(QuantityFault::Long));
-    assert_eq!(rt; quantity(&[0x81]), Err(QuantityFault::Short));
-    assert_eq!(rt; quantity(&[]), Err(QuantityFault::Short));
+    assert!(rt; long == Err(QuantityFault::Long));
+    assert!(rt; quantity(&[0x81]) == Err(QuantityFault::Short));
+    assert!(rt; quantity(&[]) == Err(QuantityFault::Short));
 }
 
 #[test]
 fn reads_the_small_file(rt: HostRuntime) -> Result<(), Fail> {
     let file = SmfFile::read(rt.alloc(), &SMALL)?;
-    assert_eq!(rt; file.format(), 0);
-    assert_eq!(rt; file.tracks(), 1);
-    assert_eq!(rt; file.division(), 480);
-    assert_eq!(rt; file.tempo_entries(), [entry(0, 500_000)].as_slice());
-    assert_eq!(rt; file.skipped(), 0);
+    assert!(rt; file.format() == 0);
+    assert!(rt; file.tracks() == 1);
+    assert!(rt; file.division() == 480);
+    assert!(rt; file.tempo_entries() == [entry(0, 500_000)].as_slice());
+    assert!(rt; file.skipped() == 0);
     Ok(())
 }
 
@@ -101,9 +101,9 @@ fn plays_the_small_file(rt: HostRuntime) -> Result<(), Fail> {
     let file = SmfFile::read(rt.alloc(), &SMALL)?;
     let mut cursor = file.cursor()?;
     check_event(&rt, rt.alloc(), cursor.next()?, 0, &[0x90, 0x3C, 0x40])?;
-    assert_eq!(rt; cursor.peek_tick(), Some(480));
+    assert!(rt; cursor.peek_tick() == Some(480));
     check_event(&rt, rt.alloc(), cursor.next()?, 480, &[0x90, 0x3C, 0x00])?;
-    assert_eq!(rt; cursor.peek_tick(), None);
+    assert!(rt; cursor.peek_tick() == None);
     assert!(rt; cursor.next()?.is_none());
     Ok(())
 }
@@ -118,29 +118,19 @@ fn tells_cuts(rt: HostRuntime) {
             22 | 23 => SmfFault::Truncated { at: 14 },
             _ => SmfFault::Truncated { at: 24 },
         };
-        assert_eq!(rt;
-            fault_of(rt.alloc(), &SMALL[..cut]),
-            Some(expected),
-            "at {cut}"
-        );
+        assert!(rt; fault_of(rt.alloc(), &SMALL[..cut]) == Some(expected));
     }
 }
 
 #[test]
 fn tells_damage(rt: HostRuntime) -> Result<(), Fail> {
     let patterns = damaged(rt.alloc(), 9, 2)?;
-    assert_eq!(rt;
-        fault_of(rt.alloc(), patterns.as_slice()),
-        Some(SmfFault::Format2)
-    );
+    assert!(rt; fault_of(rt.alloc(), patterns.as_slice()) == Some(SmfFault::Format2));
     let unended = damaged(rt.alloc(), 31, 15)?;
     let front = unended.as_slice().get(..47).ok_or("47 bytes")?;
     let fault = fault_of(rt.alloc(), front);
-    assert_eq!(rt; fault, Some(SmfFault::NoEndOfTrack { track: 0 }));
-    assert_eq!(rt;
-        fault_of(rt.alloc(), &STATUS_GONE),
-        Some(SmfFault::NoStatus { at: 30 })
-    );
+    assert!(rt; fault == Some(SmfFault::NoEndOfTrack { track: 0 }));
+    assert!(rt; fault_of(rt.alloc(), &STATUS_GONE) == Some(SmfFault::NoStatus { at: 30 }));
     Ok(())
 }
 
@@ -151,29 +141,23 @@ fn reads_frames(rt: HostRuntime) -> Result<(), Fail> {
         *place = 40;
     }
     let file = SmfFile::read(rt.alloc(), bytes.as_slice())?;
-    assert_eq!(rt; file.division(), 59_176);
+    assert!(rt; file.division() == 59_176);
     assert!(rt; file.tempo_entries().is_empty());
-    assert_eq!(rt; file.skipped(), 0);
+    assert!(rt; file.skipped() == 0);
     let dropped = damaged(rt.alloc(), 12, 0xE3)?;
-    assert_eq!(rt;
-        fault_of(rt.alloc(), dropped.as_slice()),
-        Some(SmfFault::DropFrame)
-    );
+    assert!(rt; fault_of(rt.alloc(), dropped.as_slice()) == Some(SmfFault::DropFrame));
     let other = damaged(rt.alloc(), 12, 0xE0)?;
-    assert_eq!(rt;
-        fault_of(rt.alloc(), other.as_slice()),
-        Some(SmfFault::SmpteDivision)
-    );
+    assert!(rt; fault_of(rt.alloc(), other.as_slice()) == Some(SmfFault::SmpteDivision));
     Ok(())
 }
 
 #[test]
 fn reads_two_tracks(rt: HostRuntime) -> Result<(), Fail> {
     let file = SmfFile::read(rt.alloc(), &TWO_TRACKS)?;
-    assert_eq!(rt; file.format(), 1);
-    assert_eq!(rt; file.tracks(), 2);
+    assert!(rt; file.format() == 1);
+    assert!(rt; file.tracks() == 2);
     let expected = [entry(0, 250_000), entry(96, 500_000)];
-    assert_eq!(rt; file.tempo_entries(), expected.as_slice());
+    assert!(rt; file.tempo_entries() == expected.as_slice());
     Ok(())
 }
 
@@ -194,15 +178,12 @@ fn tells_missing_tracks(rt: HostRuntime) -> Result<(), Fail> {
     if let Some(place) = bytes.get_mut(11) {
         *place = 3;
     }
-    assert_eq!(rt;
-        fault_of(rt.alloc(), bytes.as_slice()),
-        Some(SmfFault::TrackMissing)
-    );
+    assert!(rt; fault_of(rt.alloc(), bytes.as_slice()) == Some(SmfFault::TrackMissing));
     if let Some(place) = bytes.get_mut(11) {
         *place = 1;
     }
     let file = SmfFile::read(rt.alloc(), bytes.as_slice())?;
-    assert_eq!(rt; file.tracks(), 1);
+    assert!(rt; file.tracks() == 1);
     Ok(())
 }
 
@@ -210,7 +191,7 @@ fn tells_missing_tracks(rt: HostRuntime) -> Result<(), Fail> {
 #[test]
 fn plays_by_tempos(rt: HostRuntime) -> Result<(), Fail> {
     let map = SmfFile::read(rt.alloc(), &TWO_TRACKS)?.tempo_map()?;
-    assert_eq!(rt; map.ppq(), 96);
+    assert!(rt; map.ppq() == 96);
     for (tick, nanos) in [
         (0, 0),
         (1, 2_604_167),
@@ -218,7 +199,7 @@ fn plays_by_tempos(rt: HostRuntime) -> Result<(), Fail> {
         (97, 255_208_334),
         (192, 750_000_000),
     ] {
-        assert_eq!(rt; map.nanos_at(tick), nanos, "at {tick}");
+        assert!(rt; map.nanos_at(tick) == nanos);
     }
     Ok(())
 }
@@ -228,8 +209,8 @@ fn plays_by_one_tempo(rt: HostRuntime) -> Result<(), Fail> {
     let file = SmfFile::read(rt.alloc(), &SMALL)?;
     file.plays_in_order();
     let map = file.tempo_map()?;
-    assert_eq!(rt; map.entries(), [entry(0, 500_000)].as_slice());
-    assert_eq!(rt; map.nanos_at(480), 500_000_000);
+    assert!(rt; map.entries() == [entry(0, 500_000)].as_slice());
+    assert!(rt; map.nanos_at(480) == 500_000_000);
     Ok(())
 }
 
@@ -247,8 +228,8 @@ fn plays_by_frames(rt: HostRuntime) -> Result<(), Fail> {
         }
         let map = SmfFile::read(rt.alloc(), bytes.as_slice())?.tempo_map()?;
         assert!(rt; map.entries().is_empty());
-        assert_eq!(rt; map.nanos_at(1), first, "at {minus_frames}");
-        assert_eq!(rt; map.nanos_at(480), last, "at {minus_frames}");
+        assert!(rt; map.nanos_at(1) == first);
+        assert!(rt; map.nanos_at(480) == last);
     }
     Ok(())
 }
@@ -257,12 +238,12 @@ fn plays_by_frames(rt: HostRuntime) -> Result<(), Fail> {
 #[test]
 fn plays_exclusive_messages(rt: HostRuntime) -> Result<(), Fail> {
     let file = SmfFile::read(rt.alloc(), &EXCLUSIVES)?;
-    assert_eq!(rt; file.skipped(), 2);
+    assert!(rt; file.skipped() == 2);
     let mut cursor = file.cursor()?;
     let first = match cursor.next() {
         Ok(first) => first,
         Err(_) => {
-            assert_eq!(rt; cursor.peek_tick(), Some(0));
+            assert!(rt; cursor.peek_tick() == Some(0));
             cursor.next()?
         }
     };
@@ -320,8 +301,8 @@ fn writes_what_it_reads(rt: HostRuntime) -> Result<(), Fail> {
     let events = all_kinds(rt.alloc())?;
     let bytes = write_format0(rt.alloc(), 480, 250_000, events.as_slice())?;
     let file = SmfFile::read(rt.alloc(), bytes.as_slice())?;
-    assert_eq!(rt; file.tempo_entries(), [entry(0, 250_000)].as_slice());
-    assert_eq!(rt; file.skipped(), 0);
+    assert!(rt; file.tempo_entries() == [entry(0, 250_000)].as_slice());
+    assert!(rt; file.skipped() == 0);
     let mut cursor = file.cursor()?;
     for event in events.as_slice() {
         let mut full = Vec::new(rt.alloc());
@@ -341,7 +322,7 @@ fn writes_one_note(rt: HostRuntime) -> Result<(), Fail> {
         0x54, 0x72, 0x6B, 0x00, 0x00, 0x00, 0x0F, 0x00, 0xFF, 0x51, 0x03, 0x07, 0xA1, 0x20, 0x00,
         0x90, 0x3C, 0x40, 0x00, 0xFF, 0x2F, 0x00,
     ];
-    assert_eq!(rt; bytes.as_slice(), expected.as_slice());
+    assert!(rt; bytes.as_slice() == expected.as_slice());
     Ok(())
 }
 
@@ -353,75 +334,50 @@ fn refuses_real_time(rt: HostRuntime) -> Result<(), Fail> {
         message: clock,
     }];
     let refused = write_format0(rt.alloc(), 480, 500_000, &events).err();
-    assert_eq!(rt; refused, Some(WriteFault::BadEvent { index: 0 }));
+    assert!(rt; refused == Some(WriteFault::BadEvent { index: 0 }));
     let refused = write_format0(rt.alloc(), 0, 0, &events).err();
-    assert_eq!(rt; refused, Some(WriteFault::BadPpq));
+    assert!(rt; refused == Some(WriteFault::BadPpq));
     let refused = write_format0(rt.alloc(), 32_767, 16_777_216, &events).err();
-    assert_eq!(rt; refused, Some(WriteFault::BadTempo));
+    assert!(rt; refused == Some(WriteFault::BadTempo));
     Ok(())
 }
 
 #[test]
 fn faults_print(rt: HostRuntime) -> Result<(), Fail> {
-    assert_eq!(rt;
-        format!(in rt.alloc(); "{}", WriteFault::BadPpq)?.as_str(),
-        "the ticks per quarter note are out of range"
+    assert!(rt;
+        format!(in rt.alloc(); "{}", WriteFault::BadPpq)?.as_str()
+            == "the ticks per quarter note are out of range"
     );
-    assert_eq!(rt;
-        format!(in rt.alloc(); "{}", WriteFault::BadTempo)?.as_str(),
-        "the tempo is out of range"
+    assert!(rt;
+        format!(in rt.alloc(); "{}", WriteFault::BadTempo)?.as_str() == "the tempo is out of range"
     );
-    assert_eq!(rt;
-        format!(in rt.alloc(); "{}", WriteFault::BadEvent { index: 3 })?.as_str(),
-        "event 3 can't be written"
+    assert!(rt;
+        format!(in rt.alloc(); "{}", WriteFault::BadEvent { index: 3 })?.as_str()
+            == "event 3 can't be written"
     );
-    assert_eq!(rt;
-        format!(in rt.alloc(); "{}", WriteFault::TooLarge)?.as_str(),
-        "the file is too large"
+    assert!(rt;
+        format!(in rt.alloc(); "{}", WriteFault::TooLarge)?.as_str() == "the file is too large"
     );
-    assert_eq!(rt;
-        format!(in rt.alloc(); "{}", WriteFault::OutOfMemory)?.as_str(),
-        "out of memory"
+    assert!(rt; format!(in rt.alloc(); "{}", WriteFault::OutOfMemory)?.as_str() == "out of memory");
+    assert!(rt;
+        format!(in rt.alloc(); "{}", QuantityFault::Short)?.as_str() == "the quantity is cut"
     );
-    assert_eq!(rt;
-        format!(in rt.alloc(); "{}", QuantityFault::Short)?.as_str(),
-        "the quantity is cut"
+    assert!(rt;
+        format!(in rt.alloc(); "{}", QuantityFault::Long)?.as_str()
+            == "the quantity has more than four bytes"
     );
-    assert_eq!(rt;
-        format!(in rt.alloc(); "{}", QuantityFault::Long)?.as_str(),
-        "the quantity has more than four bytes"
+    assert!(rt; format!(in rt.alloc(); "{}", PairFault::NoPair)?.as_str() == "no end of track");
+    assert!(rt; format!(in rt.alloc(); "{}", PairFault::Truncated)?.as_str() == "the event is cut");
+    assert!(rt;
+        format!(in rt.alloc(); "{}", PairFault::LongQuantity)?.as_str()
+            == "a quantity has more than four bytes"
     );
-    assert_eq!(rt;
-        format!(in rt.alloc(); "{}", PairFault::NoPair)?.as_str(),
-        "no end of track"
+    assert!(rt; format!(in rt.alloc(); "{}", PairFault::NoStatus)?.as_str() == "no running status");
+    assert!(rt;
+        format!(in rt.alloc(); "{}", PairFault::BadStatus)?.as_str() == "no status of a file"
     );
-    assert_eq!(rt;
-        format!(in rt.alloc(); "{}", PairFault::Truncated)?.as_str(),
-        "the event is cut"
-    );
-    assert_eq!(rt;
-        format!(in rt.alloc(); "{}", PairFault::LongQuantity)?.as_str(),
-        "a quantity has more than four bytes"
-    );
-    assert_eq!(rt;
-        format!(in rt.alloc(); "{}", PairFault::NoStatus)?.as_str(),
-        "no running status"
-    );
-    assert_eq!(rt;
-        format!(in rt.alloc(); "{}", PairFault::BadStatus)?.as_str(),
-        "no status of a file"
-    );
-    assert_eq!(rt;
-        format!(in rt.alloc(); "{}", PairFault::BadData)?.as_str(),
-        "no data byte"
-    );
-    assert_eq!(rt;
-        format!(in rt.alloc(); "{}", ChunkFault::Missing)?.as_str(),
-        "no chunk"
-    );
-    assert_eq!(rt;
-        format!(in rt.alloc(); "{}", ChunkFault::Cut)?.as_str(),
-        "the chunk is cut"
-    );
+    assert!(rt; format!(in rt.alloc(); "{}", PairFault::BadData)?.as_str() == "no data byte");
+    assert!(rt; format!(in rt.alloc(); "{}", ChunkFault::Missing)?.as_str() == "no chunk");
+    assert!(rt; format!(in rt.alloc(); "{}", ChunkFault::Cut)?.as_str() == "the chunk is cut");
     Ok(())
 }

@@ -10,10 +10,7 @@ fn writes_numbers(rt: HostRuntime) -> Result<(), Fail> {
     push_decimal(&mut text, 0)?;
     text.extend_from_slice(b" to ")?;
     push_decimal(&mut text, u64::MAX)?;
-    assert_eq!(rt;
-        text.as_slice(),
-        b"from 0 to 18446744073709551615".as_slice()
-    );
+    assert!(rt; text.as_slice() == b"from 0 to 18446744073709551615".as_slice());
     Ok(())
 }
 
@@ -24,10 +21,7 @@ fn writes_bytes(rt: HostRuntime) -> Result<(), Fail> {
     text.push(b'\n')?;
     push_hex_line(&mut text, &[0xF0, 0x7D, 0xF7])?;
     push_hex_line(&mut text, &[])?;
-    assert_eq!(rt;
-        text.as_slice(),
-        b"written 90 0C AF\nF0 7D F7\n\n".as_slice()
-    );
+    assert!(rt; text.as_slice() == b"written 90 0C AF\nF0 7D F7\n\n".as_slice());
     Ok(())
 }
 
@@ -41,9 +35,8 @@ fn writes_bytes_of_each_count(rt: HostRuntime) -> Result<(), Fail> {
     push_spaced(&mut text, &[0xD0, 0x40])?;
     push_hex_line(&mut text, &[0xF0, 0x01, 0x23, 0x45, 0x67, 0xF7])?;
     push_spaced(&mut text, &[0x89, 0xAB, 0xCD, 0xEF, 0xF7])?;
-    assert_eq!(rt;
-        text.as_slice(),
-        b"F8\n FEC5 07\n D0 40F0 01 23 45 67 F7\n 89 AB CD EF F7".as_slice()
+    assert!(rt;
+        text.as_slice() == b"F8\n FEC5 07\n D0 40F0 01 23 45 67 F7\n 89 AB CD EF F7".as_slice()
     );
     Ok(())
 }
@@ -54,6 +47,6 @@ fn writes_addresses(rt: HostRuntime) -> Result<(), Fail> {
     if let (Some(client), Some(port)) = (ClientId::new(191), PortNo::new(15)) {
         push_port_addr(&mut text, &PortAddr { client, port })?;
     }
-    assert_eq!(rt; text.as_slice(), b"191:p15".as_slice());
+    assert!(rt; text.as_slice() == b"191:p15".as_slice());
     Ok(())
 }
