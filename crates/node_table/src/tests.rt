@@ -36,9 +36,9 @@ fn numbers_have_limits(rt: HostRuntime) {
     for number in 0..=255u8 {
         let client = (128..192).contains(&number);
         assert!(rt; ClientId::new(number).is_some() == client);
-        assert!(rt; PortNo::new(number).is_some() == number < 16);
-        assert!(rt; FilterNo::new(number).is_some() == number < 16);
-        assert!(rt; QueueNo::new(number).is_some() == number < 8);
+        assert!(rt; PortNo::new(number).is_some() == (number < 16));
+        assert!(rt; FilterNo::new(number).is_some() == (number < 16));
+        assert!(rt; QueueNo::new(number).is_some() == (number < 8));
     }
     assert!(rt; client(&rt, 191).number() == 191);
     assert!(rt; port(&rt, 128, 15).node.port().map(|p| p.number()) == Some(15));
@@ -53,7 +53,7 @@ fn each_place_has_an_address(rt: HostRuntime) {
     for place in 0..PLACES {
         if let Some(addr) = addr_at(place) {
             assert!(rt; place_of(&addr) == place);
-            assert!(rt; addr.is_filter() == place % 32 >= 16);
+            assert!(rt; addr.is_filter() == (place % 32 >= 16));
         }
     }
     assert!(rt; place_of(&port(&rt, 128, 0)) == 0);
