@@ -1,11 +1,11 @@
 //! The files of a folder, for a run to play.
 
-ghost use Rattle.std.specs.Prelude.{◌≡◌, ◌≤◌, [], length, OnOk};
+ghost use Rattle.std.specs.Prelude.{◌≡◌, ◌≤◌, length, take, map, string_bytes, IfOk};
 ghost use Rattle.script_text.specs.declared.script.TheConstants.{MOST_FILES};
+ghost use Rattle.session_tools.specs.Folder.{bytes_read, seen_files, AreOpened};
 
 use byte_io::{Source, StdSource, read_to};
-use session_tools::{midi_files, taken_files};
-use smf_files::{SmfFault, SmfFile};
+use session_tools::{FolderFiles, midi_files, open_files, taken_files};
 use std::alloc::Global;
 use std::fs;
 use std::io::{Error, ErrorKind};
@@ -21,8 +21,8 @@ pub(crate) struct Folder {
     /// The names that end in `.mid`, in byte order.
     names: Vec<String>,
     /// What each of the files that a run takes holds; none for one that cannot be read.
-    bytes: Vec<Option<Vec<u8>>>,
-    ghost few: { length bytes.items ≤ MOST_FILES },
+    contents: Vec<Option<Vec<u8>>>,
+    ghost as_many: { length contents.items ≡ length (take MOST_FILES names.items) },
 }
 
 impl Folder {
@@ -31,50 +31,39 @@ impl Folder {
         rt: &(impl Files + AllocGlobal + Clone + Drop),
         dir: Option<&'a str>,
     ) -> Result<Folder, ProgramFault<'a>> {
-        let mut bytes = Vec::new(rt.alloc());
+        let mut contents = Vec::new(rt.alloc());
         let Some(dir) = dir else {
             let names = Vec::new(rt.alloc());
-            return Ok(Folder { names, bytes });
+            return Ok(Folder { names, contents });
         };
         let names = midi_files(names_in(rt, dir)?)?;
         let (taken, _) = taken_files(names.as_slice());
         for name in taken {
-            bytes.push(bytes_of(rt, dir, name.as_str())?)?;
+            contents.push(content_of(rt, dir, name.as_str())?)?;
         }
-        Ok(Folder { names, bytes })
+        Ok(Folder { names, contents })
     }
 
-    /// Adds the name and what it says for each file that is one, and tells of each other that it is left out.
+    /// Opens the files, and tells of each one that is left out.
     pub(crate) fn open<'f>(
         &'f self,
         rt: &(impl Eprint + AllocGlobal),
-        names: &mut Vec<Vec<u8>>,
-        files: &mut Vec<SmfFile<'f>>,
-    ) -> Result<(), ProgramFault<'static>>
-        requires names { names.old.items ≡ [] }
-        requires files { files.old.items ≡ [] }
-        ensures as_many { OnOk result (length names.new.items ≡ length files.new.items) }
-        ensures few { OnOk result (length names.new.items ≤ MOST_FILES) }
+    ) -> Result<FolderFiles<'f>, ProgramFault<'static>>
+        ensures opened { IfOk result (λ o. AreOpened
+            (map string_bytes (take MOST_FILES self.now.names.items))
+            (map bytes_read self.now.contents.items) (seen_files o)) }
+        ensures as_many { IfOk result (λ o. length o.names.items ≡ length o.files.items) }
+        ensures few { IfOk result (λ o. length o.names.items ≤ MOST_FILES) }
     {
-        let alloc = rt.alloc();
-        let mut left = self.names.iter();
-        for bytes in &self.bytes {
-            let Some(name) = left.next() else {
-                break;
-            };
-            match file_of(alloc, bytes)? {
-                Some(file) => {
-                    names.push(Vec::from_slice(alloc, name.as_bytes())?)?;
-                    files.push(file)?;
-                }
-                None => tell_left_out(rt, name.as_str()),
-            }
+        let (taken, rest) = taken_files(self.names.as_slice());
+        let opened = open_files(rt.alloc(), taken, self.contents.as_slice())?;
+        for name in &opened.left_out {
+            tell_left_out(rt, name);
         }
-        let (_, rest) = taken_files(self.names.as_slice());
         for name in rest {
             tell_left_out(rt, name.as_str());
         }
-        Ok(())
+        Ok(opened)
     }
 }
 
@@ -114,7 +103,7 @@ fn listing_fault(kind: ErrorKind, dir: &str) -> ProgramFault<'_> {
 }
 
 /// What a file holds, if it can be read, up to one byte more than a file may have.
-fn bytes_of(
+fn content_of(
     rt: &(impl Files + AllocGlobal),
     dir: &str,
     name: &str,
@@ -132,20 +121,5 @@ fn bytes_of(
             }
             Err(ProgramFault::OutOfMemory)
         }
-    }
-}
-
-/// The file that bytes are, if they were read and are one.
-fn file_of<'b>(
-    alloc: Global,
-    bytes: &'b Option<Vec<u8>>,
-) -> Result<Option<SmfFile<'b>>, ProgramFault<'static>> {
-    let Some(bytes) = bytes else {
-        return Ok(None);
-    };
-    match SmfFile::read(alloc, bytes.as_slice()) {
-        Ok(file) => Ok(Some(file)),
-        Err(SmfFault::OutOfMemory) => Err(ProgramFault::OutOfMemory),
-        Err(_) => Ok(None),
     }
 }

@@ -1,9 +1,13 @@
 //! The subcommands that run scripts.
 
-ghost use Rattle.std.specs.Prelude.{◌≡◌, ◌≤◌, false, length, IfOk, IfSome, OnOk};
+ghost use Rattle.std.specs.Prelude.{◌≡◌, ◌≤◌, true, false, length, map, IfOk, IfSome, OnOk};
+ghost use Rattle.smf_grammar.specs.Played.{played};
+ghost use Rattle.port_record.specs.Recording.{recording_text};
 ghost use Rattle.script_text.specs.declared.script.TheConstants.{MOST_FILES};
+ghost use Rattle.seq_state.specs.Heard.{port_bytes};
 ghost use Rattle.seq_session.specs.Rising.{AreRising};
 ghost use Rattle.seq_session.specs.Devices.{clients, AreSound, AreOpen, reader_of, IsAmong};
+ghost use Rattle.session_tools.specs.Folder.{seen_files};
 ghost use Rattle.midiseq.specs.Sessions.{owners, IsToldAs};
 
 use crate::folder::Folder;
@@ -14,8 +18,7 @@ use node_table::PortAddr;
 use port_record::{WriteFault, record_file};
 use seq_engine::RunLog;
 use seq_session::{NamedFiles, ScriptSource, SessionFault, run_scripts, run_sessions};
-use session_tools::{ScriptWord, port_named, print_logs, scripts_named, until_named};
-use smf_files::SmfFile;
+use session_tools::{FolderFiles, ScriptWord, port_named, print_logs, scripts_named, until_named};
 use std::alloc::Global;
 use std::rt::Files;
 use std::{fs, io};
@@ -99,12 +102,14 @@ impl<'a> Session<'a> {
     }
 }
 
-/// The names and their files.
-fn named<'f, 'b>(names: &'f [Vec<u8>], files: &'f [SmfFile<'b>]) -> NamedFiles<'f, 'b>
-    requires as_many { length names.now ≡ length files.now }
-    requires few { length names.now ≤ MOST_FILES }
+/// The files that a run may play, with their names.
+fn named<'f, 'b>(opened: &'f FolderFiles<'b>) -> NamedFiles<'f, 'b>
+    requires as_many { length opened.now.names.items ≡ length opened.now.files.items }
+    requires few { length opened.now.names.items ≤ MOST_FILES }
+    ensures names { result.names ≡ (seen_files opened.now).names }
+    ensures files { result.files ≡ map played opened.now.files.items }
 {
-    match NamedFiles::new(names, files) {
+    match NamedFiles::new(opened.names.as_slice(), opened.files.as_slice()) {
         Some(files) => files,
         None => unreachable!(),
     }
@@ -118,12 +123,10 @@ pub(crate) fn run<'a>(
     let alloc = rt.alloc();
     let session = Session::of_words(alloc, found)?;
     let folder = Folder::read(rt, session.dir)?;
-    let mut names = Vec::new(alloc);
-    let mut files = Vec::new(alloc);
-    folder.open(rt, &mut names, &mut files)?;
+    let opened = folder.open(rt)?;
     let mut logs = session.logs(alloc)?;
     let mut listing = MemSink::new(alloc, 0)?;
-    let files = named(names.as_slice(), files.as_slice());
+    let files = named(&opened);
     play(rt, &session, &files, logs.as_mut_slice(), &mut listing)?;
     let listed = if found.get_flag("list") {
         Some(listing.bytes())
@@ -194,10 +197,8 @@ pub(crate) fn record<'a>(
         return Err(ProgramFault::NotAPort(word));
     };
     let folder = Folder::read(rt, session.dir)?;
-    let mut names = Vec::new(alloc);
-    let mut files = Vec::new(alloc);
-    folder.open(rt, &mut names, &mut files)?;
-    let files = named(names.as_slice(), files.as_slice());
+    let opened = folder.open(rt)?;
+    let files = named(&opened);
     let log = play_unlogged(rt, &session, &files)?;
     let bytes = recorded(alloc, &log, port, found.get_flag("raw"))?;
     write_file(rt, found.get_str("out").unwrap_or(""), bytes.as_slice())
@@ -226,7 +227,12 @@ fn recorded(
     log: &RunLog,
     port: PortAddr,
     raw: bool,
-) -> Result<Vec<u8>, ProgramFault<'static>> {
+) -> Result<Vec<u8>, ProgramFault<'static>>
+    ensures stream { raw ≡ true
+        → IfOk result (λ bytes. bytes.items ≡ port_bytes port log.now.entries) }
+    ensures file { raw ≡ false
+        → IfOk result (λ bytes. bytes.items ≡ recording_text port log.now.entries) }
+{
     if raw {
         return Ok(log.port_bytes(port)?);
     }

@@ -10,7 +10,7 @@ use Rattle.seq_state.specs.declared.log.LogEntry.{LogEntry}
 use Rattle.seq_state.specs.declared.log.LogEntry.TheVariants.{Delivered, Replied}
 use Rattle.seq_state.specs.Heard.{comes_to}
 use Rattle.smf_grammar.specs.declared.event.Event.{Event}
-use Rattle.smf_grammar.specs.Texts.{stands_in_files}
+use Rattle.smf_grammar.specs.Texts.{stands_in_files, file_text}
 use Rattle.tempo_clock.specs.Ticks.{Tempos, tick_at}
 
 -- 480 ticks per quarter note of half a second: 960 ticks a second
@@ -31,3 +31,7 @@ recorded_event port (Replied place moment client reply) = None
 -- what came to a port, each at the last tick that has come by its moment
 abbrev pub recorded : PortAddr → List LogEntry → List Event
 recorded port log = filter_map (recorded_event port) log
+
+-- the file of them
+abbrev pub recording_text : PortAddr → List LogEntry → List ℕ
+recording_text port log = file_text PPQ TEMPO (recorded port log)

@@ -4,9 +4,8 @@ ghost use Rattle.std.specs.Prelude.{◌≡◌, ◌++◌, None, Some, IfOk, IfErr
 ghost use Rattle.std.specs.Option.{option_to_list};
 ghost use Rattle.smf_files.specs.Refusals.{write_refusal, told_refusal};
 ghost use Rattle.smf_grammar.specs.Laws.{ReadsBack};
-ghost use Rattle.smf_grammar.specs.Texts.{file_text};
 ghost use Rattle.port_record.specs.declared.recording.TheConstants.{PPQ, TEMPO};
-ghost use Rattle.port_record.specs.Recording.{recording_clock, is_recorded, recorded_event, recorded};
+ghost use Rattle.port_record.specs.Recording.{recording_clock, recording_text, is_recorded, recorded_event, recorded};
 
 use memory::OutOfMemory;
 use node_table::PortAddr;
@@ -28,8 +27,7 @@ const TEMPO: u32 = 500_000;
 /// and real time messages have no place in a file. `BadEvent` is told where more than 268,435,455 ticks lie between
 /// two.
 pub fn record_file(alloc: Global, log: &RunLog, port: PortAddr) -> Result<Vec<u8>, WriteFault>
-    ensures text { IfOk result (λ file. file.items
-        ≡ file_text PPQ TEMPO (recorded port log.now.entries)) }
+    ensures text { IfOk result (λ file. file.items ≡ recording_text port log.now.entries) }
     ensures taken { OnOk result (write_refusal PPQ TEMPO (recorded port log.now.entries) ≡ None) }
     ensures refused { IfErr result (λ x. IfSome (told_refusal x) (λ r.
         write_refusal PPQ TEMPO (recorded port log.now.entries) ≡ Some r)) }

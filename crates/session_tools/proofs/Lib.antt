@@ -1,3 +1,4 @@
+mod Found
 mod Fronts
 mod Ordered
 mod Places

@@ -3,10 +3,12 @@
 
 mod folder;
 mod logs;
+mod opening;
 #[cfg(test)]
 mod tests;
 mod words;
 
 pub use folder::{midi_files, taken_files};
 pub use logs::print_logs;
+pub use opening::{FolderFiles, open_files};
 pub use words::{ScriptWord, port_named, scripts_named, until_named};

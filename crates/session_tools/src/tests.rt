@@ -3,7 +3,8 @@
 ghost use Rattle.std.specs.Prelude.{◌≡◌, IfOk, false};
 
 use crate::{
-    ScriptWord, midi_files, port_named, print_logs, scripts_named, taken_files, until_named,
+    ScriptWord, midi_files, open_files, port_named, print_logs, scripts_named, taken_files,
+    until_named,
 };
 use byte_io::{MemSink, write_all};
 use memory::OutOfMemory;
@@ -114,6 +115,38 @@ fn takes_256_files(rt: HostRuntime) -> Result<(), Fail> {
     assert!(rt; left_out.len() == 1);
     for file in left_out {
         assert!(rt; file.as_str() == "z.mid");
+    }
+    Ok(())
+}
+
+/// A file whose one track has nothing but its end.
+const SHORT: &[u8; 26] =
+    b"MThd\x00\x00\x00\x06\x00\x00\x00\x01\x01\xE0MTrk\x00\x00\x00\x04\x00\xFF\x2F\x00";
+
+#[test]
+fn leaves_out_what_is_no_file(rt: HostRuntime) -> Result<(), Fail> {
+    let alloc = rt.alloc();
+    let names = [
+        "a.mid".to_string(alloc)?,
+        "b.mid".to_string(alloc)?,
+        "c.mid".to_string(alloc)?,
+        "d.mid".to_string(alloc)?,
+    ];
+    let contents = [
+        Some(Vec::from_slice(alloc, SHORT)?),
+        None,
+        Some(Vec::from_slice(alloc, b"MThd")?),
+        Some(Vec::from_slice(alloc, SHORT)?),
+    ];
+    let opened = open_files(alloc, &names, &contents)?;
+    assert!(rt; opened.files.len() == 2);
+    assert!(rt; opened.names.len() == 2);
+    for (name, wanted) in opened.names.iter().zip(["a.mid", "d.mid"]) {
+        assert!(rt; name.as_slice() == wanted.as_bytes());
+    }
+    assert!(rt; opened.left_out.len() == 2);
+    for (name, wanted) in opened.left_out.iter().zip(["b.mid", "c.mid"]) {
+        assert!(rt; *name == wanted);
     }
     Ok(())
 }

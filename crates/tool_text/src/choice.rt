@@ -1,10 +1,14 @@
 //! What the program is asked to do.
 
-ghost use Rattle.std.specs.Prelude.{◌≡◌, ◌≢◌, ◌≤◌, ◌<◌, ◌⊎◌, [], true, false, length, IfSome, IfNone, OnOk, IsErrOf};
+ghost use Rattle.std.specs.Prelude.{◌≡◌, ◌≢◌, ◌≤◌, ◌<◌, ◌⊎◌, [], true, false, length, Err, IfSome, IfNone, IfErr, OnOk, OnErr, IsErrOf};
+ghost use Rattle.smf_grammar.specs.declared.fault.SmfFault.{SmfFault};
+ghost use Rattle.smf_grammar.specs.declared.fault.SmfFault.TheVariants as smf;
 ghost use Rattle.smf_grammar.specs.Chunks.{most_bytes};
+ghost use Rattle.smf_grammar.specs.Files.{Fault};
 ghost use Rattle.tool_text.specs.declared.choice.Tool.{Tool};
+ghost use Rattle.tool_text.specs.Dump.{IsRefusedBy};
 ghost use Rattle.tool_text.specs.Program.{tool_name, stream_name, IsNamedBy};
-ghost use Rattle.tool_text.specs.Tools.{IsPrinted};
+ghost use Rattle.tool_text.specs.Tools.{IsPrinted, IsCutShort, MayTell};
 
 use crate::dump::dump_text;
 use crate::fault::ToolFault;
@@ -58,6 +62,8 @@ impl Tool {
     }
 
     /// Prints what the tool makes of the bytes that `input` gives, as `thru_text`, `wire_text` and `dump_text` do.
+    ///
+    /// At a fault the sink has taken a front of the text.
     pub fn print<R: Source, W: Sink>(
         self,
         alloc: Global,
@@ -71,6 +77,14 @@ impl Tool {
         ensures all { R.tells input.old ≡ true → OnOk result (R.left input.new ≡ []) }
         ensures bounded { R.tells input.old ≡ true
             → OnOk result (length (R.left input.old) ≤ most_bytes) }
+        ensures short { R.tells input.old ≡ true → W.tells out.old ≡ true
+            → OnErr result (IsCutShort self (R.left input.old) (W.taken out.old) (W.taken out.new)) }
+
+        // A fault of a file is that of the bytes, and a file that has one is never dumped.
+        ensures told { R.tells input.old ≡ true → IfErr result (MayTell self (R.left input.old)) }
+        ensures refused { R.tells input.old ≡ true → self ≡ Tool.Dump
+            → (x : SmfFault) → Fault (R.left input.old) x → IsRefusedBy result x }
+        ensures memory { result ≢ Err (ToolFault.Smf smf.OutOfMemory) }
         ensures read { IsErrOf result ToolFault.Read → (R.failed input.new ≡ true)
             ⊎ (R.tells input.old ≡ true → most_bytes < length (R.left input.old)) }
         ensures unread { IsErrOf result ToolFault.OutOfMemory → R.failed input.new ≡ false }

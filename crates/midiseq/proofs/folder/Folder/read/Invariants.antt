@@ -2,4 +2,4 @@ use Rattle.std.proofs.Common.{◌≡◌, length}
 use Rattle.midiseq.proofs.folder.Folder.read.Given as goal
 
 abbrev pub invariant-loop-name : goal.invariant-loop-name
-invariant-loop-name g l = length l.bytes.items ≡ l.name-index
+invariant-loop-name g l = length l.contents.items ≡ l.name-index
