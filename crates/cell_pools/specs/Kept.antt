@@ -1,13 +1,14 @@
 -- How a store keeps its cells, and what this stands for.
-use Rattle.std.specs.Prelude.{◌≡◌, ℕ, ◌<◌, ◌≤◌, List, length, Option, Some, None, slice_index_or}
+use Rattle.std.specs.Prelude.{◌≡◌, ℕ, ◌+◌, ◌<◌, ◌≤◌, List, length, Option, Some, None, slice_index_or}
 use Rattle.std.specs.Option.{option_map}
+use Rattle.node_table.specs.Numbers.{first_client, most_clients}
 use Rattle.node_table.specs.Kept.{numbered}
 use Rattle.cell_pools.specs.Cells.{Clients, Cells, keys_in, StandsAt}
 use Rattle.cell_pools.specs.declared.store.Cell.{Cell}
 
 -- the number of a client
 abbrev pub IsClient : ℕ → Type 0
-IsClient n = (128 ≤ n) × (n < 192)
+IsClient n = (first_client ≤ n) × (n < first_client + most_clients)
 
 module _ {T : Type 0} where
   -- what a cell shows: its client and its value

@@ -2,11 +2,12 @@
 
 ghost use Rattle.std.specs.Prelude.{◌≡◌, ◌≤◌, ◌+◌, ◌<◌, ◌^◌, ℕ, [], ◌∷◌, ◌++◌, length, slice_get, slice_index_or, OnOk, OnErr};
 ghost use Rattle.std.specs.List.{swap_remove};
+ghost use Rattle.node_table.specs.Numbers.{first_client, most_clients};
 ghost use Rattle.cell_pools.specs.Cells.{no_cells, held, keys_in, with_its_size, with_its_keys};
 
 use crate::key::CellKey;
 use memory::OutOfMemory;
-use node_table::ClientId;
+use node_table::{ClientId, MOST_CLIENTS, row_of};
 use std::alloc::Global;
 use std::array;
 use std::marker::Model;
@@ -87,12 +88,13 @@ impl ClientCells {
 /// What each client that there may be has.
 #[derive(Drop)]
 pub(crate) struct ClientTable {
-    // By the number of the client, from 128 on.
-    rows: [ClientCells; 64],
+    // By `row_of` the client.
+    rows: [ClientCells; MOST_CLIENTS],
 }
 
 impl Model for ClientTable {
     ghost use Rattle.std.specs.Prelude.{◌≡◌, length, slice_index_or, Some};
+    ghost use Rattle.node_table.specs.Numbers.{first_client, most_clients};
     ghost use Rattle.node_table.specs.Kept.{numbered};
     ghost use Rattle.cell_pools.specs.Cells.{Clients, coded_clients, no_cells};
 
@@ -100,9 +102,10 @@ impl Model for ClientTable {
 
     ghost coded = { coded_clients };
 
-    ghost view = { λ t. numbered 128 64 (λ row. Some (slice_index_or t.rows row no_cells)) };
+    ghost view = { λ t. numbered first_client most_clients
+        (λ row. Some (slice_index_or t.rows row no_cells)) };
 
-    ghost invariant = { λ t. length t.rows ≡ 64 };
+    ghost invariant = { λ t. length t.rows ≡ most_clients };
 }
 
 fn empty_rows<const N: usize>(alloc: Global) -> [ClientCells; N]
@@ -110,13 +113,6 @@ fn empty_rows<const N: usize>(alloc: Global) -> [ClientCells; N]
     ensures none { (i : ℕ) → slice_index_or result i no_cells ≡ no_cells }
 {
     array::from_fn(|_| ClientCells::new(alloc))
-}
-
-fn row_of(client: ClientId) -> usize
-    ensures start { client ≡ 128 + result }
-    ensures small { result < 64 }
-{
-    (client.number() - 128) as usize
 }
 
 impl ClientTable {
@@ -130,8 +126,8 @@ impl ClientTable {
 
     pub(crate) fn get(&self, client: ClientId) -> &ClientCells
         ensures value { result.now ≡ held self.now client }
-        ensures low { 128 ≤ client }
-        ensures high { client < 192 }
+        ensures low { first_client ≤ client }
+        ensures high { client < first_client + most_clients }
     {
         &self.rows[row_of(client)]
     }

@@ -12,7 +12,7 @@ use crate::clients::ClientTable;
 use crate::fault::PutFault;
 use crate::key::CellKey;
 use memory::OutOfMemory;
-use node_table::ClientId;
+use node_table::{ClientId, FIRST_CLIENT, LAST_CLIENT};
 use slab::Slab;
 use std::alloc::{AllocFailed, Global};
 use std::marker::Model;
@@ -234,7 +234,7 @@ impl<T> CellStore<T> {
         ensures { IfOk result (λ keys. AreKeys self.now.cells keys.items) }
     {
         let mut keys = Vec::with_capacity(self.alloc, self.cells.len())?;
-        for number in 128..192u8 {
+        for number in FIRST_CLIENT..LAST_CLIENT + 1 {
             let client = ClientId::new(number).unwrap();
             keys.extend_from_slice(self.clients.get(client).keys())?;
         }

@@ -22,9 +22,13 @@ kind_of_status s =
 abbrev pub kind_of : List ℕ → Kind
 kind_of m = kind_of_status (status_of m)
 
--- the channel of a message, 0 to 15, where it has one
+-- how many channels there are
+abbrev pub channels : ℕ
+channels = 16
+
+-- the channel of a message, where it has one
 abbrev pub channel_number : List ℕ → Option ℕ
-channel_number m = if is_channel (begins (status_of m)) then Some (status_of m % 16) else None
+channel_number m = if is_channel (begins (status_of m)) then Some (status_of m % channels) else None
 
 -- the statuses on channel 0, by how many data bytes they have
 abbrev pub is_base : Width → ℕ → Bool
@@ -33,11 +37,11 @@ is_base Two b = (b == 128) || ((b == 144) || ((b == 160) || ((b == 176) || (b ==
 
 -- a message of a channel with one data byte, and 0 in place of a second
 abbrev pub with_one_data : ℕ → ℕ → ℕ → ℕ → Option (List ℕ)
-with_one_data base channel first second = if nat_lt channel 16 && (nat_lt first 128 && second == 0) then Some ((base + channel) ∷ first ∷ []) else None
+with_one_data base channel first second = if nat_lt channel channels && (nat_lt first 128 && second == 0) then Some ((base + channel) ∷ first ∷ []) else None
 
 -- a message of a channel with two data bytes
 abbrev pub with_two_data : ℕ → ℕ → ℕ → ℕ → Option (List ℕ)
-with_two_data base channel first second = if nat_lt channel 16 && (nat_lt first 128 && nat_lt second 128) then Some ((base + channel) ∷ first ∷ second ∷ []) else None
+with_two_data base channel first second = if nat_lt channel channels && (nat_lt first 128 && nat_lt second 128) then Some ((base + channel) ∷ first ∷ second ∷ []) else None
 
 -- the message of a channel with this kind, channel and data, if there is one
 abbrev pub channel_message : Kind → ℕ → ℕ → ℕ → Option (List ℕ)

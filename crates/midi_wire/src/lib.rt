@@ -20,7 +20,7 @@ pub use fault::WireFault;
 pub use kind::Kind;
 pub use message::Message;
 pub use parser::StreamParser;
-pub use status::{END_OF_EXCLUSIVE, EXCLUSIVE, StatusClass, Width, is_exclusive_tail};
+pub use status::{CHANNELS, END_OF_EXCLUSIVE, EXCLUSIVE, StatusClass, Width, is_exclusive_tail};
 pub use writer::StreamWriter;
 
 /// A list of bytes passes the test of a message exactly where it is one.
@@ -59,7 +59,7 @@ pub fn reads_written()
     ensures { ReadsWritten }
 {}
 
-/// A list of messages may be written in two goes, or one by one.
+/// A list of messages may be written in two parts, or one by one.
 pub fn writes_in_two()
     ensures parts { WritesInTwo }
     ensures one_more { WritesOneMore }

@@ -8,7 +8,7 @@ ghost use Rattle.midi_wire.specs.Kinds.{kind_of, channel_number, is_base, with_o
 ghost use Rattle.midi_wire.specs.Writings.{status_of, tail_of};
 
 use crate::kind::{Kind, kind_of_status};
-use crate::status::{END_OF_EXCLUSIVE, EXCLUSIVE, FIRST_STATUS, StatusClass, is_message};
+use crate::status::{CHANNELS, END_OF_EXCLUSIVE, EXCLUSIVE, FIRST_STATUS, StatusClass, is_message};
 use memory::OutOfMemory;
 use smallvec::SmallVec;
 use std::alloc::Global;
@@ -146,7 +146,7 @@ impl Message {
         requires { IsTrue (is_base One base) }
         ensures { result ≡ with_one_data base channel first second }
     {
-        if channel < 16 && first < FIRST_STATUS && second == 0 {
+        if channel < CHANNELS && first < FIRST_STATUS && second == 0 {
             return Some(Message::with_one(base + channel, first));
         }
         None
@@ -157,7 +157,7 @@ impl Message {
         requires { IsTrue (is_base Two base) }
         ensures { result ≡ with_two_data base channel first second }
     {
-        if channel < 16 && first < FIRST_STATUS && second < FIRST_STATUS {
+        if channel < CHANNELS && first < FIRST_STATUS && second < FIRST_STATUS {
             return Some(Message::with_two(base + channel, first, second));
         }
         None
@@ -225,7 +225,7 @@ impl Message {
     {
         let status = self.status();
         if StatusClass::of(status).is_channel() {
-            Some(status % 16)
+            Some(status % CHANNELS)
         } else {
             None
         }

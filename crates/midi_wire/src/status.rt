@@ -7,6 +7,9 @@ ghost use Rattle.midi_wire.specs.Writings.{is_channel};
 /// The first status byte: bytes below are data.
 pub(crate) const FIRST_STATUS: u8 = 0x80;
 
+/// How many channels there are: the low half of the status of a channel message.
+pub const CHANNELS: u8 = 16;
+
 /// The status of an exclusive message.
 pub const EXCLUSIVE: u8 = 0xF0;
 

@@ -1,10 +1,11 @@
--- How a table keeps clients and nodes, and the map that this stands for. The client 128 + row has the places row * 32 to row * 32 + 31: sixteen ports, then sixteen filters.
+-- How a table keeps clients and nodes, and the map that this stands for. Each client has a row of places, its ports before its filters.
 use Rattle.std.specs.Prelude.{◌≡◌, ℕ, zero, suc, ◌+◌, ◌*◌, ◌<◌, List, length, Option, Some, None, IsSome, slice_index_or}
 use Rattle.std.specs.Option.{option_map}
 use Rattle.std.specs.Ordering.{nat_cmp}
 use Rattle.std.specs.FinMap
 use Rattle.std.specs.FinMap.{FinMap}
 use Rattle.node_table.specs.Nodes.{NodeSeen, ClientNodes}
+use Rattle.node_table.specs.Numbers.{first_client, most_ports, most_filters, most_clients, client_places, places}
 use Rattle.node_table.specs.declared.number.Addr.{Addr}
 use Rattle.node_table.specs.declared.number.Node.{Node}
 use Rattle.node_table.specs.declared.number.Node.TheVariants.{Port, Filter}
@@ -31,30 +32,34 @@ module _ {X : Type 0} where
 -- where a node stands among those of its client
 abbrev pub place_in : Node → ℕ
 place_in (Port n) = n
-place_in (Filter n) = 16 + n
+place_in (Filter n) = most_ports + n
 
 abbrev pub is_small : Node → Type 0
-is_small (Port n) = n < 16
-is_small (Filter n) = n < 16
+is_small (Port n) = n < most_ports
+is_small (Filter n) = n < most_filters
 
 -- the place of an address
 pub record IsPlace (addr : Addr) (row place : ℕ) : Type 0 where
-  pub client : addr.client ≡ 128 + row
-  pub below : row < 64
+  pub client : addr.client ≡ first_client + row
+  pub below : row < most_clients
   pub small : is_small addr.node
-  pub is : place ≡ row * 32 + place_in addr.node
+  pub is : place ≡ row * client_places + place_in addr.node
 
 module _ {P : Type 0} where
   abbrev pub client_kept : (ℕ → Option (NodeSeen P)) → ℕ → List ℕ → ClientNodes P
-  client_kept node row name = record { name = name; ports = numbered 0 16 (λ n. node (row * 32 + n)); filters = numbered 0 16 (λ n. node (row * 32 + (16 + n))) }
+  client_kept node row name = record {
+    name = name;
+    ports = numbered 0 most_ports (λ n. node (row * client_places + n));
+    filters = numbered 0 most_filters (λ n. node (row * client_places + (most_ports + n)));
+  }
 
   -- the clients, of a name for each row and a node for each place
   abbrev pub clients_kept : (ℕ → Option (List ℕ)) → (ℕ → Option (NodeSeen P)) → FinMap nat_cmp (ClientNodes P)
-  clients_kept name node = numbered 128 64 (λ row. option_map (client_kept node row) (name row))
+  clients_kept name node = numbered first_client most_clients (λ row. option_map (client_kept node row) (name row))
 
 -- empty, or with each place
 abbrev pub IsTable : {X : Type 0} → List X → Type 0
-IsTable xs = 0 < length xs → length xs ≡ 2048
+IsTable xs = 0 < length xs → length xs ≡ places
 
 -- the same at each place, where x stands for what is past a list
 abbrev pub ReadsAs : {X : Type 0} → X → List X → List X → Type 0
@@ -67,9 +72,9 @@ IsSomewhere keys key = (i : ℕ) × (slice_index_or keys i None ≡ Some key)
 -- No key stands at two places, and who is not open has none. Something stands under each key that
 -- stands at a place, and nothing under any other.
 pub record AreNodesKept {V X : Type 0} (names : List (Option V)) (keys : List (Option ℕ)) (slots : List (Option X)) : Type 0 where
-  pub rows : length names ≡ 64
+  pub rows : length names ≡ most_clients
   pub places : IsTable keys
   pub full : (i key : ℕ) → slice_index_or keys i None ≡ Some key → IsSome (slice_index_or slots key None)
   pub no_leak : (key : ℕ) → IsSome (slice_index_or slots key None) → IsSomewhere keys key
   pub apart : (i j key : ℕ) → slice_index_or keys i None ≡ Some key → slice_index_or keys j None ≡ Some key → i ≡ j
-  pub closed : (row p : ℕ) → p < 32 → slice_index_or names row None ≡ None → slice_index_or keys (row * 32 + p) None ≡ None
+  pub closed : (row p : ℕ) → p < client_places → slice_index_or names row None ≡ None → slice_index_or keys (row * client_places + p) None ≡ None

@@ -2,7 +2,7 @@
 
 ghost use Rattle.std.specs.Prelude.{◌≡◌, ◌↔◌, IsSome, IfSome};
 ghost use Rattle.std.specs.Int.RustNames.{bit_and};
-ghost use Rattle.node_table.specs.Capabilities.{permits};
+ghost use Rattle.node_table.specs.Capabilities.{known_bits, permits};
 
 use crate::number::{Addr, ClientId};
 use bitflags::{Flag, Flags, bitflag_items};
@@ -51,7 +51,7 @@ impl Caps {
     /// The capabilities with these bits, where each is known: a sum of READ 1, WRITE 2, DUPLEX 16, SUBS_READ 32,
     /// SUBS_WRITE 64 and NO_EXPORT 128.
     pub fn new(bits: u8) -> Option<Caps>
-        ensures known { IsSome result ↔ (bit_and bits 243 ≡ bits) }
+        ensures known { IsSome result ↔ (bit_and bits known_bits ≡ bits) }
         ensures value { IfSome result (λ c. c.0 ≡ bits) }
     {
         Caps::from_bits(bits)

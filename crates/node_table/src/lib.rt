@@ -18,6 +18,9 @@ pub use caps::{Caps, permitted};
 pub use fault::{CreateFault, OpenFault};
 pub use info::NodeInfo;
 pub use name::is_name;
-pub use number::{Addr, ClientId, FilterNo, Node, PortAddr, PortNo, QueueAddr, QueueNo};
-pub use place::{PLACES, addr_at, make_places, place_of};
+pub use number::{
+    Addr, ClientId, FIRST_CLIENT, FilterNo, LAST_CLIENT, MOST_FILTERS, MOST_PORTS, MOST_QUEUES,
+    Node, PortAddr, PortNo, QueueAddr, QueueNo,
+};
+pub use place::{MOST_CLIENTS, PLACES, addr_at, make_places, place_of, row_of};
 pub use table::NodeTable;

@@ -2,9 +2,25 @@
 
 ghost use Rattle.std.specs.Prelude.{◌≡◌, ◌≤◌, ◌<◌, ◌↔◌, ℕ, IsSome, IfSome, IfNone};
 ghost use Rattle.node_table.specs.Addresses.{is_filter};
+ghost use Rattle.node_table.specs.Numbers.{first_client, last_client, most_ports, most_filters, most_queues};
 
 use std::fmt;
 use std::marker::Model;
+
+/// The least number of a client.
+pub const FIRST_CLIENT: u8 = 128;
+
+/// The greatest number of a client.
+pub const LAST_CLIENT: u8 = 191;
+
+/// How many ports a client may have.
+pub const MOST_PORTS: u8 = 16;
+
+/// How many filters a client may have.
+pub const MOST_FILTERS: u8 = 16;
+
+/// How many queues a client may have.
+pub const MOST_QUEUES: u8 = 8;
 
 /// The number of a client, 128 to 191.
 #[derive(Clone, Copy, Debug, PartialEq, Eq, PartialOrd, Ord, Hash)]
@@ -12,22 +28,23 @@ pub struct ClientId(u8);
 
 impl Model for ClientId {
     ghost use Rattle.std.specs.Prelude.{ℕ, ◌≤◌};
+    ghost use Rattle.node_table.specs.Numbers.{first_client, last_client};
 
     ghost Value = { ℕ };
 
     ghost view = { λ c. c.0 };
 
-    ghost invariant = { λ c. (128 ≤ c.0) × (c.0 ≤ 191) };
+    ghost invariant = { λ c. (first_client ≤ c.0) × (c.0 ≤ last_client) };
 
     ghost inverse = { λ n. record { 0 = n } };
 }
 
 impl ClientId {
     pub fn new(number: u8) -> Option<ClientId>
-        ensures valid { IsSome result ↔ ((128 ≤ number) × (number ≤ 191)) }
+        ensures valid { IsSome result ↔ ((first_client ≤ number) × (number ≤ last_client)) }
         ensures value { IfSome result (λ c. c ≡ number) }
     {
-        if (128..=191).contains(&number) {
+        if (FIRST_CLIENT..=LAST_CLIENT).contains(&number) {
             Some(ClientId(number))
         } else {
             None
@@ -36,8 +53,8 @@ impl ClientId {
 
     pub fn number(self) -> u8
         ensures value { result ≡ self }
-        ensures low { 128 ≤ self }
-        ensures high { self ≤ 191 }
+        ensures low { first_client ≤ self }
+        ensures high { self ≤ last_client }
     {
         let ClientId(number) = self;
         number
@@ -62,22 +79,23 @@ pub struct PortNo(u8);
 
 impl Model for PortNo {
     ghost use Rattle.std.specs.Prelude.{ℕ, ◌<◌};
+    ghost use Rattle.node_table.specs.Numbers.{most_ports};
 
     ghost Value = { ℕ };
 
     ghost view = { λ p. p.0 };
 
-    ghost invariant = { λ p. p.0 < 16 };
+    ghost invariant = { λ p. p.0 < most_ports };
 
     ghost inverse = { λ n. record { 0 = n } };
 }
 
 impl PortNo {
     pub fn new(number: u8) -> Option<PortNo>
-        ensures valid { IsSome result ↔ (number < 16) }
+        ensures valid { IsSome result ↔ (number < most_ports) }
         ensures value { IfSome result (λ p. p ≡ number) }
     {
-        if number < 16 {
+        if number < MOST_PORTS {
             Some(PortNo(number))
         } else {
             None
@@ -86,7 +104,7 @@ impl PortNo {
 
     pub fn number(self) -> u8
         ensures value { result ≡ self }
-        ensures small { self < 16 }
+        ensures small { self < most_ports }
     {
         let PortNo(number) = self;
         number
@@ -111,22 +129,23 @@ pub struct FilterNo(u8);
 
 impl Model for FilterNo {
     ghost use Rattle.std.specs.Prelude.{ℕ, ◌<◌};
+    ghost use Rattle.node_table.specs.Numbers.{most_filters};
 
     ghost Value = { ℕ };
 
     ghost view = { λ f. f.0 };
 
-    ghost invariant = { λ f. f.0 < 16 };
+    ghost invariant = { λ f. f.0 < most_filters };
 
     ghost inverse = { λ n. record { 0 = n } };
 }
 
 impl FilterNo {
     pub fn new(number: u8) -> Option<FilterNo>
-        ensures valid { IsSome result ↔ (number < 16) }
+        ensures valid { IsSome result ↔ (number < most_filters) }
         ensures value { IfSome result (λ f. f ≡ number) }
     {
-        if number < 16 {
+        if number < MOST_FILTERS {
             Some(FilterNo(number))
         } else {
             None
@@ -135,7 +154,7 @@ impl FilterNo {
 
     pub fn number(self) -> u8
         ensures value { result ≡ self }
-        ensures small { self < 16 }
+        ensures small { self < most_filters }
     {
         let FilterNo(number) = self;
         number
@@ -160,22 +179,23 @@ pub struct QueueNo(u8);
 
 impl Model for QueueNo {
     ghost use Rattle.std.specs.Prelude.{ℕ, ◌<◌};
+    ghost use Rattle.node_table.specs.Numbers.{most_queues};
 
     ghost Value = { ℕ };
 
     ghost view = { λ q. q.0 };
 
-    ghost invariant = { λ q. q.0 < 8 };
+    ghost invariant = { λ q. q.0 < most_queues };
 
     ghost inverse = { λ n. record { 0 = n } };
 }
 
 impl QueueNo {
     pub fn new(number: u8) -> Option<QueueNo>
-        ensures valid { IsSome result ↔ (number < 8) }
+        ensures valid { IsSome result ↔ (number < most_queues) }
         ensures value { IfSome result (λ q. q ≡ number) }
     {
-        if number < 8 {
+        if number < MOST_QUEUES {
             Some(QueueNo(number))
         } else {
             None
@@ -184,7 +204,7 @@ impl QueueNo {
 
     pub fn number(self) -> u8
         ensures value { result ≡ self }
-        ensures small { self < 8 }
+        ensures small { self < most_queues }
     {
         let QueueNo(number) = self;
         number

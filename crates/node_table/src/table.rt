@@ -14,8 +14,8 @@ use crate::caps::{self, Caps};
 use crate::fault::{CreateFault, OpenFault};
 use crate::info::NodeInfo;
 use crate::name::is_name;
-use crate::number::{Addr, ClientId, FilterNo, Node, PortNo};
-use crate::place::{make_places, place_of, row_of};
+use crate::number::{Addr, ClientId, FilterNo, MOST_FILTERS, MOST_PORTS, Node, PortNo};
+use crate::place::{CLIENT_PLACES, MOST_CLIENTS, make_places, place_of, row_of};
 use memory::OutOfMemory;
 use slab::Slab;
 use std::alloc::{AllocFailed, Global};
@@ -29,8 +29,8 @@ use std::marker::Model;
 #[derive(Drop)]
 pub struct NodeTable<P> {
     alloc: Global,
-    // By the number of the client, from 128 on.
-    names: [Option<Vec<u8>>; 64],
+    // By `row_of` the client.
+    names: [Option<Vec<u8>>; MOST_CLIENTS],
     // By `place_of`: where the node is in `nodes`. It is empty until the first node is made.
     keys: Vec<Option<usize>>,
     nodes: Slab<NodeInfo<P>>,
@@ -138,7 +138,8 @@ impl<P> NodeTable<P> {
             return false;
         }
         let row = row_of(client);
-        for place in row * 32..row * 32 + 32 {
+        let first = row * CLIENT_PLACES;
+        for place in first..first + CLIENT_PLACES {
             if let Some(key) = key_at(&self.keys, place) {
                 self.keys[place] = None;
                 self.nodes.remove(key);
@@ -296,8 +297,8 @@ impl<P> NodeTable<P> {
             (λ r. IsNext (ports_in (map.get self.now client)) from r.0 r.1.now) }
         ensures none { IfNone result (NoneFrom (ports_in (map.get self.now client)) from) }
     {
-        let first = row_of(client) * 32;
-        for number in from..16 {
+        let first = row_of(client) * CLIENT_PLACES;
+        for number in from..MOST_PORTS {
             if let Some(key) = key_at(&self.keys, first + number as usize) {
                 return Some((PortNo::new(number).unwrap(), &self.nodes[key]));
             }
@@ -311,8 +312,8 @@ impl<P> NodeTable<P> {
             (λ r. IsNext (filters_in (map.get self.now client)) from r.0 r.1.now) }
         ensures none { IfNone result (NoneFrom (filters_in (map.get self.now client)) from) }
     {
-        let first = row_of(client) * 32 + 16;
-        for number in from..16 {
+        let first = row_of(client) * CLIENT_PLACES + MOST_PORTS as usize;
+        for number in from..MOST_FILTERS {
             if let Some(key) = key_at(&self.keys, first + number as usize) {
                 return Some((FilterNo::new(number).unwrap(), &self.nodes[key]));
             }

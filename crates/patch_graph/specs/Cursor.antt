@@ -8,6 +8,7 @@ use Rattle.node_table.specs.declared.number.PortAddr.{PortAddr}
 use Rattle.node_table.specs.declared.number.Node.TheVariants.{Port}
 use Rattle.patch_graph.specs.declared.edge.Edge.{Edge}
 use Rattle.patch_graph.specs.declared.path.Path.{Path}
+use Rattle.patch_graph.specs.declared.route.TheConstants.{HOPS}
 use Rattle.patch_graph.specs.Paths.{hops, path_at, past}
 use Rattle.patch_graph.specs.Index.{targets_of}
 
@@ -37,7 +38,7 @@ coming edges nodes left zero = []
 coming edges nodes left (suc depth) = map (λ r. take depth nodes ++ r) (tails (hops - depth) edges (slice_index_or left depth [])) ++ coming edges nodes left depth
 
 pub record IsCursor (nodes : List Addr) (left : List (List Addr)) (depth : ℕ) : Type 0 where
-  pub node_places : length nodes ≡ 8
-  pub left_places : length left ≡ 8
-  pub below : depth ≤ 8
+  pub node_places : length nodes ≡ HOPS
+  pub left_places : length left ≡ HOPS
+  pub below : depth ≤ HOPS
   pub filters : list_all is_filter (take (depth - 1) nodes) ≡ true

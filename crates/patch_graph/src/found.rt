@@ -3,6 +3,7 @@
 ghost use Rattle.std.specs.Prelude.{◌≡◌, ◌≤◌, ℕ, [], false, length, slice_get, slice_index_or};
 ghost use Rattle.std.specs.List.{list_any};
 ghost use Rattle.node_table.specs.Addresses.{same};
+ghost use Rattle.node_table.specs.Numbers.{places};
 ghost use Rattle.patch_graph.specs.Found.{with_found};
 
 use node_table::{Addr, PLACES, place_of};
@@ -74,7 +75,7 @@ impl Found {
     /// The node that was found at this turn, the first at 0.
     pub fn get(&self, turn: usize) -> Option<Addr>
         ensures node { result ≡ slice_get self.now turn }
-        ensures few { length self.now ≤ 2048 }
+        ensures few { length self.now ≤ places }
     {
         self.nodes[..self.count].get(turn).copied()
     }

@@ -5,6 +5,7 @@ ghost use Rattle.std.specs.Option.{option_map};
 ghost use Rattle.std.specs.List.{filter};
 ghost use Rattle.node_table.specs.Kept.{IsTable};
 ghost use Rattle.node_table.specs.declared.number.Addr.{Addr};
+ghost use Rattle.node_table.specs.Numbers.{places};
 ghost use Rattle.patch_graph.specs.Edges.{edge, has_edge, without_edge, touches, touches_client, sources_of, most_sources};
 ghost use Rattle.patch_graph.specs.Chains.{Reaches, makes_cycle};
 ghost use Rattle.patch_graph.specs.Found.{with_filters};
@@ -54,7 +55,7 @@ impl Model for PatchGraph {
 /// Makes the places of a table that has none yet, each with no targets. One that has them stays as it is.
 fn make_targets(alloc: Global, targets: &mut Vec<Vec<Addr>>) -> Result<(), AllocError>
     requires { IsTable targets.old.items }
-    ensures whole { OnOk result (length targets.new.items ≡ 2048) }
+    ensures whole { OnOk result (length targets.new.items ≡ places) }
     ensures err { OnErr result (targets.new.items ≡ targets.old.items) }
     ensures same { SameTargets (λ v. v.items) targets.new.items targets.old.items }
 {

@@ -4,6 +4,7 @@ ghost use Rattle.std.specs.Prelude.{◌≡◌, ◌≤◌, ℕ, List, [], ◌∷�
 ghost use Rattle.std.specs.List.{list_all, filter_map};
 ghost use Rattle.node_table.specs.Addresses.{is_filter};
 ghost use Rattle.node_table.specs.declared.number.Addr.{Addr};
+ghost use Rattle.patch_graph.specs.declared.route.TheConstants.{HOPS};
 ghost use Rattle.patch_graph.specs.Paths.{hops, paths, path_of, routes};
 ghost use Rattle.patch_graph.specs.Cursor.{at_port, is_route, path_from};
 
@@ -27,21 +28,22 @@ pub struct Route {
 impl Model for Route {
     ghost use Rattle.std.specs.Prelude.{◌≡◌, ◌≤◌, List, take, length, true};
     ghost use Rattle.node_table.specs.declared.number.Addr.{Addr};
+    ghost use Rattle.patch_graph.specs.declared.route.TheConstants.{HOPS};
     ghost use Rattle.patch_graph.specs.Cursor.{is_route};
 
     ghost Value = { List Addr };
 
     ghost view = { λ r. take r.count r.nodes };
 
-    ghost invariant = { λ r. (r.count ≤ 8) × (length r.nodes ≡ 8)
+    ghost invariant = { λ r. (r.count ≤ HOPS) × (length r.nodes ≡ HOPS)
         × (is_route (take r.count r.nodes) ≡ true) };
 }
 
 impl Route {
     /// The first `count` of these nodes.
     fn new(nodes: &[Addr], count: usize) -> Route
-        requires whole { length nodes.now ≡ 8 }
-        requires within { count ≤ 8 }
+        requires whole { length nodes.now ≡ HOPS }
+        requires within { count ≤ HOPS }
         requires route { is_route (take count nodes.now) ≡ true }
         ensures { result ≡ take count nodes.now }
     {

@@ -1,6 +1,7 @@
 //! What two filter rules make together, the one after the other.
 
 ghost use Rattle.std.specs.Prelude.{◌≡◌, ◌≤◌, ◌<◌, ◌&&◌, ℕ, List, None, unwrap_or, option_and_then, unsigned_abs, IsTrue, IfSome, IfNone};
+ghost use Rattle.midi_wire.specs.Kinds.{channels};
 ghost use Rattle.midi_wire.specs.Messages.{IsMessage};
 ghost use Rattle.route_filter.specs.Rules.{has_channel, is_channel_choice, is_rule};
 ghost use Rattle.route_filter.specs.Passing.{passed};
@@ -55,7 +56,7 @@ impl RuleArgs {
     /// The channels whose messages both take, this rule having given them its channel before `next` sees them.
     fn channels_then(&self, next: &RuleArgs) -> u16
         requires { IsTrue (is_channel_choice self.now.channel) }
-        ensures { (n : ℕ) → n < 16 → has_channel result n
+        ensures { (n : ℕ) → n < channels → has_channel result n
             ≡ (has_channel self.now.channels n
             && has_channel next.now.channels (unwrap_or self.now.channel n)) }
     {

@@ -9,7 +9,7 @@ ghost use Rattle.route_filter.specs.VoiceBytes.{moved};
 
 use crate::rule_args::RuleArgs;
 use crate::voice::VoiceMessage;
-use midi_wire::Message;
+use midi_wire::{CHANNELS, Message};
 use std::marker::Model;
 
 /// A filter rule: which messages pass, and how they are changed. It is seen as its arguments.
@@ -84,7 +84,7 @@ impl Rule {
         ensures { result ≡ passed self.now voice }
     {
         let status = voice.status;
-        let channel = status % 16;
+        let channel = status % CHANNELS;
         if !self.args.has_voice_kind(status) {
             return None;
         }

@@ -1,10 +1,10 @@
 //! What a rule is made of.
 
 ghost use Rattle.std.specs.Prelude.{◌≡◌, ◌≤◌, ◌<◌};
-ghost use Rattle.midi_wire.specs.Kinds.{kind_of_status};
+ghost use Rattle.midi_wire.specs.Kinds.{channels, kind_of_status};
 ghost use Rattle.route_filter.specs.Rules.{kind_bit, has_kind, has_channel, is_rule};
 
-use midi_wire::Kind;
+use midi_wire::{CHANNELS, Kind};
 
 /// What a filter rule says.
 #[derive(Clone, Copy, Debug, PartialEq, Eq)]
@@ -33,7 +33,7 @@ impl RuleArgs {
             && self.low <= self.high
             && self.high <= 127
             && self.shift.unsigned_abs() <= 127
-            && self.channel.unwrap_or(0) <= 15
+            && self.channel.unwrap_or(0) < CHANNELS
     }
 
     /// Whether the kind is in the set of kinds.
@@ -57,7 +57,7 @@ impl RuleArgs {
     /// Whether the channel is in the mask of channels.
     #[inline]
     pub(crate) fn has_channel(&self, channel: u8) -> bool
-        requires { channel < 16 }
+        requires { channel < channels }
         ensures { result ≡ has_channel self.now.channels channel }
     {
         self.channels & (1 << channel) != 0

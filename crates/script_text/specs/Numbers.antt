@@ -1,9 +1,10 @@
 -- What a word says: numbers, bytes, addresses and times.
-use Rattle.std.specs.Prelude.{ℕ, ℤ, pos, neg_ℤ, ◌+◌, ◌-◌, ◌*◌, ◌==◌, nat_le, Bool, ◌&&◌, if◌then◌else◌, List, [], ◌∷◌, length, Option, Some, None, bit_and}
+use Rattle.std.specs.Prelude.{ℕ, ℤ, pos, neg_ℤ, ◌+◌, ◌-◌, ◌*◌, ◌==◌, nat_le, Bool, ◌&&◌, if◌then◌else◌, List, [], ◌∷◌, length, Option, Some, None}
 use Rattle.std.specs.List.{list_all, slice_split, position_or_len}
 use Rattle.std.specs.Option.{option_map, option_and_then}
 use Rattle.std.specs.Str.{byte, bytes_eq}
 use Rattle.midi_wire.specs.Messages.{is_message}
+use Rattle.node_table.specs.Capabilities.{are_known}
 use Rattle.node_table.specs.declared.caps.Caps.{Caps}
 use Rattle.node_table.specs.declared.number.Addr.{Addr}
 use Rattle.node_table.specs.declared.number.Node.{Node}
@@ -79,7 +80,7 @@ client_number word = only_if (nat_le 128) (up_to 191 word)
 
 -- a sum of capabilities
 abbrev pub caps : List ℕ → Option Caps
-caps word = option_map (λ n. record { 0 = n }) (only_if (λ n. bit_and n 243 == n) (up_to 255 word))
+caps word = option_map (λ n. record { 0 = n }) (only_if are_known (up_to 255 word))
 
 -- ---- bytes
 

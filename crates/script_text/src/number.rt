@@ -3,7 +3,9 @@
 ghost use Rattle.std.specs.Prelude.{◌≡◌, ◌≤◌, ◌<◌, ◌^◌, ℤ};
 ghost use Rattle.script_text.specs.Numbers as says;
 
-use node_table::{Caps, ClientId, FilterNo, PortNo, QueueNo};
+use node_table::{
+    Caps, ClientId, FilterNo, LAST_CLIENT, MOST_FILTERS, MOST_PORTS, MOST_QUEUES, PortNo, QueueNo,
+};
 
 /// The number that 1 to 20 decimal digits say, where it fits.
 pub fn number_of(word: &[u8]) -> Option<u64>
@@ -68,21 +70,21 @@ pub(crate) fn shift_of(word: &[u8]) -> Option<i16>
 pub fn port_of(word: &[u8]) -> Option<PortNo>
     ensures { result ≡ says.node_number word.now }
 {
-    let value = up_to(word, 15)?;
+    let value = up_to(word, MOST_PORTS as u64 - 1)?;
     PortNo::new(value as u8)
 }
 
 pub(crate) fn filter_of(word: &[u8]) -> Option<FilterNo>
     ensures { result ≡ says.node_number word.now }
 {
-    let value = up_to(word, 15)?;
+    let value = up_to(word, MOST_FILTERS as u64 - 1)?;
     FilterNo::new(value as u8)
 }
 
 pub(crate) fn queue_no_of(word: &[u8]) -> Option<QueueNo>
     ensures { result ≡ says.queue_number word.now }
 {
-    let value = up_to(word, 7)?;
+    let value = up_to(word, MOST_QUEUES as u64 - 1)?;
     QueueNo::new(value as u8)
 }
 
@@ -90,7 +92,7 @@ pub(crate) fn queue_no_of(word: &[u8]) -> Option<QueueNo>
 pub fn client_of(word: &[u8]) -> Option<ClientId>
     ensures { result ≡ says.client_number word.now }
 {
-    let value = up_to(word, 191)?;
+    let value = up_to(word, LAST_CLIENT as u64)?;
     ClientId::new(value as u8)
 }
 

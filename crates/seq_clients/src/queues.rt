@@ -7,14 +7,17 @@ ghost use Rattle.seq_clients.specs.Roster.{NoneShared, SomeShared};
 
 use crate::queue::Queue;
 use crate::slots::nothing;
-use node_table::QueueNo;
+use node_table::{MOST_QUEUES, QueueNo};
 use std::marker::Model;
+
+/// One for each queue that a client may have.
+const SLOTS: usize = MOST_QUEUES as usize;
 
 /// The queues of one client.
 #[derive(Drop)]
 pub(crate) struct QueueTable {
     // By the number of the queue.
-    queues: [Option<Queue>; 8],
+    queues: [Option<Queue>; SLOTS],
 }
 
 impl Model for QueueTable {
@@ -22,6 +25,7 @@ impl Model for QueueTable {
     ghost use Rattle.std.specs.Ordering.{nat_cmp};
     ghost use Rattle.std.specs.Coded.{coded_ℕ};
     ghost use Rattle.std.specs.FinMap as map;
+    ghost use Rattle.node_table.specs.Numbers.{most_queues};
     ghost use Rattle.node_table.specs.Kept.{numbered};
     ghost use Rattle.seq_state.specs.State as state;
 
@@ -29,9 +33,9 @@ impl Model for QueueTable {
 
     ghost coded = { map.code coded_ℕ state.coded_queue };
 
-    ghost view = { λ t. numbered 0 8 (λ number. slice_index_or t.queues number None) };
+    ghost view = { λ t. numbered 0 most_queues (λ number. slice_index_or t.queues number None) };
 
-    ghost invariant = { λ t. length t.queues ≡ 8 };
+    ghost invariant = { λ t. length t.queues ≡ most_queues };
 }
 
 impl QueueTable {
@@ -66,7 +70,7 @@ impl QueueTable {
         ensures none { result ≡ false → NoneShared self.now }
         ensures some { result ≡ true → SomeShared self.now }
     {
-        for number in 0..8usize {
+        for number in 0..SLOTS {
             if let Some(queue) = &self.queues[number] {
                 if queue.is_shared() {
                     return true;

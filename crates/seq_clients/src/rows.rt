@@ -9,15 +9,15 @@ ghost use Rattle.seq_clients.specs.Rows.{row_offered};
 
 use crate::row::ClientRow;
 use crate::slots::nothing;
-use node_table::ClientId;
+use node_table::{ClientId, MOST_CLIENTS, row_of};
 use seq_state::Arrival;
 use std::marker::Model;
 
 /// What each client that is open has beside its name and its nodes.
 #[derive(Drop)]
 pub(crate) struct RowTable {
-    // By the number of the client, from 128 on.
-    rows: [Option<Box<ClientRow>>; 64],
+    // By `row_of` the client.
+    rows: [Option<Box<ClientRow>>; MOST_CLIENTS],
 }
 
 impl Model for RowTable {
@@ -26,6 +26,7 @@ impl Model for RowTable {
     ghost use Rattle.std.specs.Ordering.{nat_cmp};
     ghost use Rattle.std.specs.Coded.{coded_ℕ};
     ghost use Rattle.std.specs.FinMap as map;
+    ghost use Rattle.node_table.specs.Numbers.{first_client, most_clients};
     ghost use Rattle.node_table.specs.Kept.{numbered};
     ghost use Rattle.seq_clients.specs.Rows.{coded_row};
     ghost use Rattle.seq_clients.specs.declared.row.ClientRow.{ClientRow};
@@ -35,17 +36,10 @@ impl Model for RowTable {
     ghost coded = { map.code coded_ℕ coded_row };
 
     ghost view = { λ t.
-        numbered 128 64 (λ row. option_map (λ b. b.value) (slice_index_or t.rows row None)) };
+        numbered first_client most_clients
+            (λ row. option_map (λ b. b.value) (slice_index_or t.rows row None)) };
 
-    ghost invariant = { λ t. length t.rows ≡ 64 };
-}
-
-/// The place of a client among all that may be open.
-fn row_of(client: ClientId) -> usize
-    ensures start { client ≡ 128 + result }
-    ensures small { result < 64 }
-{
-    (client.number() - 128) as usize
+    ghost invariant = { λ t. length t.rows ≡ most_clients };
 }
 
 impl RowTable {

@@ -8,7 +8,10 @@ ghost use Rattle.seq_patchbay.specs.Listing.{client_line, port_line, rule_text, 
 use crate::patchbay::Patchbay;
 use bitflags::Flags;
 use memory::OutOfMemory;
-use node_table::{Addr, Caps, ClientId, FilterNo, Node, PortNo, QueueAddr, QueueNo};
+use node_table::{
+    Addr, Caps, ClientId, FIRST_CLIENT, FilterNo, LAST_CLIENT, MOST_FILTERS, MOST_PORTS, MOST_QUEUES, Node,
+    PortNo, QueueAddr, QueueNo,
+};
 use patch_graph::PatchGraph;
 use route_filter::RuleArgs;
 use seq_clients::{Clients, Queue};
@@ -32,7 +35,7 @@ impl Patchbay {
 fn list_clients(alloc: Global, clients: &Clients, out: &mut Vec<u8>) -> Result<(), OutOfMemory>
     ensures { OnOk result (out.new.items ≡ out.old.items ++ client_texts clients.now.clients) }
 {
-    for number in 128..192 {
+    for number in FIRST_CLIENT..LAST_CLIENT + 1 {
         list_client_at(alloc, clients, ClientId::new(number).unwrap(), out)?;
     }
     Ok(())
@@ -85,7 +88,7 @@ fn list_ports(
     ensures { let c = map.get clients.now.clients client in
         OnOk result (out.new.items ≡ out.old.items ++ port_texts client c) }
 {
-    for number in 0..16 {
+    for number in 0..MOST_PORTS {
         list_port_at(alloc, clients, client, PortNo::new(number).unwrap(), out)?;
     }
     Ok(())
@@ -138,7 +141,7 @@ fn list_filters(
     ensures { let c = map.get clients.now.clients client in
         OnOk result (out.new.items ≡ out.old.items ++ filter_texts client c) }
 {
-    for number in 0..16 {
+    for number in 0..MOST_FILTERS {
         list_filter_at(alloc, clients, client, FilterNo::new(number).unwrap(), out)?;
     }
     Ok(())
@@ -218,7 +221,7 @@ fn list_queues(
     ensures { let c = map.get clients.now.clients client in
         OnOk result (out.new.items ≡ out.old.items ++ queue_texts client c) }
 {
-    for number in 0..8 {
+    for number in 0..MOST_QUEUES {
         list_queue_at(alloc, clients, client, QueueNo::new(number).unwrap(), out)?;
     }
     Ok(())

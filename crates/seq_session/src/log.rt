@@ -2,6 +2,7 @@
 
 ghost use Rattle.std.specs.Prelude.{◌≡◌, ◌==◌, ◌<◌, ◌≤◌, ◌+◌, ℕ, count_by, IfOk, OnOk, map, length, get_or, ◌++◌};
 ghost use Rattle.std.specs.List.{position_or_len};
+ghost use Rattle.node_table.specs.Numbers.{first_client, most_clients};
 ghost use Rattle.seq_session.specs.Rising.{AreRising};
 ghost use Rattle.seq_session.specs.AllLogs.{clients_read, hearer, with_text};
 ghost use Rattle.seq_session.specs.Logs.{log_text, skips_text, entry_text, entries_text};
@@ -9,7 +10,7 @@ ghost use Rattle.seq_session.specs.Logs.{log_text, skips_text, entry_text, entri
 use crate::lines::{Scratch, push_entry, push_skips};
 use crate::merged::Merged;
 use memory::OutOfMemory;
-use node_table::ClientId;
+use node_table::{ClientId, FIRST_CLIENT, MOST_CLIENTS, row_of};
 use script_text::ScriptRead;
 use seq_engine::RunLog;
 use seq_state::LogEntry;
@@ -84,14 +85,14 @@ pub fn log_texts(
     Ok(texts)
 }
 
-/// How many entries each client hears of, by its number from 128 on.
-fn entries_heard(entries: &[LogEntry]) -> [usize; 64]
-    ensures { (k : ℕ) → k < 64 →
-        get_or result k 0 ≡ count_by (λ e. hearer e == (128 + k)) entries.now }
+/// How many entries each client hears of, by `row_of`.
+fn entries_heard(entries: &[LogEntry]) -> [usize; MOST_CLIENTS]
+    ensures { (k : ℕ) → k < most_clients →
+        get_or result k 0 ≡ count_by (λ e. hearer e == (first_client + k)) entries.now }
 {
-    let mut counts = [0usize; 64];
+    let mut counts = [0usize; MOST_CLIENTS];
     for entry in entries {
-        counts[(hearer(entry).number() - 128) as usize] += 1;
+        counts[row_of(hearer(entry))] += 1;
     }
     counts
 }
@@ -100,14 +101,14 @@ fn entries_heard(entries: &[LogEntry]) -> [usize; 64]
 fn started(
     alloc: Global,
     reads: &[ScriptRead],
-    heard: &[usize; 64],
+    heard: &[usize; MOST_CLIENTS],
 ) -> Result<Vec<Vec<u8>>, OutOfMemory>
     ensures { IfOk result (λ ts. map (λ t. t.items) ts.items
         ≡ map (λ r. skips_text r.skips) reads.now) }
 {
     let mut texts = Vec::new(alloc);
     for read in reads {
-        let lines = heard[(read.client.number() - 128) as usize];
+        let lines = heard[row_of(read.client)];
         let mut text = Vec::with_capacity(alloc, lines.saturating_mul(LINE))?;
         push_skips(&mut text, read.skips.as_slice())?;
         texts.push(text)?;
@@ -137,21 +138,21 @@ fn seat_of(reads: &[ScriptRead], client: u8) -> usize
     seat
 }
 
-/// Where each client's script stands, by the client's number from 128 on.
-fn seats_of(reads: &[ScriptRead]) -> [usize; 64]
-    ensures { (k : ℕ) → k < 64 →
-        get_or result k 0 ≡ position_or_len (λ r. r.client == (128 + k)) reads.now }
+/// Where each client's script stands, by `row_of`.
+fn seats_of(reads: &[ScriptRead]) -> [usize; MOST_CLIENTS]
+    ensures { (k : ℕ) → k < most_clients →
+        get_or result k 0 ≡ position_or_len (λ r. r.client == (first_client + k)) reads.now }
 {
-    let mut seats = [0usize; 64];
-    for k in 0..64u8 {
-        seats[k as usize] = seat_of(reads, 128 + k);
+    let mut seats = [0usize; MOST_CLIENTS];
+    for k in 0..MOST_CLIENTS {
+        seats[k] = seat_of(reads, FIRST_CLIENT + k as u8);
     }
     seats
 }
 
 /// Adds each entry to the log of the client that hears of it.
 fn push_all(
-    seats: &[usize; 64],
+    seats: &[usize; MOST_CLIENTS],
     reads: &[ScriptRead],
     texts: &mut Vec<Vec<u8>>,
     scratch: &mut Scratch,
@@ -159,8 +160,8 @@ fn push_all(
     entries: &[LogEntry],
 ) -> Result<(), OutOfMemory>
     requires rising { AreRising (clients_read reads.now) }
-    requires seats { (k : ℕ) → k < 64 →
-        get_or seats.now k 0 ≡ position_or_len (λ r. r.client == (128 + k)) reads.now }
+    requires seats { (k : ℕ) → k < most_clients →
+        get_or seats.now k 0 ≡ position_or_len (λ r. r.client == (first_client + k)) reads.now }
     requires started { map (λ t. t.items) texts.old.items
         ≡ map (λ r. skips_text r.skips) reads.now }
     ensures { OnOk result (map (λ t. t.items) texts.new.items
@@ -168,7 +169,7 @@ fn push_all(
 {
     for entry in entries {
         let client = hearer(entry);
-        let seat = seats[(client.number() - 128) as usize];
+        let seat = seats[row_of(client)];
         push_at(texts, seat, scratch, client, lines, entry)?;
     }
     Ok(())

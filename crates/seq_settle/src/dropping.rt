@@ -15,7 +15,7 @@ use crate::playing::Playing;
 use crate::which::Which;
 use agenda_heap::Agenda;
 use cell_pools::{CellKey, CellStore};
-use node_table::ClientId;
+use node_table::{ClientId, FIRST_CLIENT, LAST_CLIENT};
 
 /// Drops what goes with a client, or with something of a client's. It takes no memory.
 ///
@@ -47,7 +47,7 @@ pub fn drop_playbacks<A: Agenda>(
         return;
     }
     cells.cells_are_of_clients();
-    for number in 128..192u8 {
+    for number in FIRST_CLIENT..LAST_CLIENT + 1 {
         let owner = ClientId::new(number).unwrap();
         drop_of(cells, agenda, owner, client, which);
     }

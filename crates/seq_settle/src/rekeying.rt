@@ -17,7 +17,7 @@ use crate::playing::Playing;
 use agenda_heap::Agenda;
 use cell_pools::CellStore;
 use memory::OutOfMemory;
-use node_table::{ClientId, QueueAddr};
+use node_table::{ClientId, FIRST_CLIENT, LAST_CLIENT, QueueAddr};
 
 /// Gives all cells on a queue the keys that they have by the queue as it is now.
 ///
@@ -44,7 +44,7 @@ pub fn rekey_all<D: Desk, A: Agenda>(
         return rekey_of(desk, cells, agenda, steps, queue.client, queue);
     }
     cells.cells_are_of_clients();
-    for number in 128..192u8 {
+    for number in FIRST_CLIENT..LAST_CLIENT + 1 {
         let owner = ClientId::new(number).unwrap();
         rekey_of(desk, cells, agenda, steps, owner, queue)?;
     }

@@ -20,7 +20,7 @@ use bitflags::Flags;
 use byte_io::{Sink, Source};
 use cell_pools::MOST_WAITING;
 use memory::{Items, OutOfMemory};
-use node_table::{Addr, Caps, ClientId, Node, PortNo};
+use node_table::{Addr, Caps, ClientId, FIRST_CLIENT, Node, PortNo};
 use seq_engine::{Command, Delivery, Engine, Input, StepOut};
 use std::alloc::Global;
 use text_forms::push_spaced;
@@ -117,8 +117,8 @@ fn join<'b, A: Agenda>(alloc: Global, engine: &mut Engine<'b, 'b, A>) -> Result<
     ensures joined { OnOk result (engine.new ≡ engine_joined) }
     ensures only { IfErr result (λ e. e ≡ ToolFault.OutOfMemory) }
 {
-    let source = ClientId::new(128).unwrap();
-    let sink = ClientId::new(129).unwrap();
+    let source = ClientId::new(FIRST_CLIENT).unwrap();
+    let sink = ClientId::new(FIRST_CLIENT + 1).unwrap();
     let port = PortNo::new(0).unwrap();
     let readable = both(Caps::READ, Caps::SUBS_READ);
     let writable = both(Caps::WRITE, Caps::SUBS_WRITE);
@@ -271,8 +271,8 @@ fn pass_part<'b, A: Agenda>(
     ensures counted { OnOk result (engine.new.steps ≡ engine.old.steps + 2) }
     ensures only { IfErr result (λ e. e ≡ ToolFault.OutOfMemory) }
 {
-    let source = ClientId::new(128).unwrap();
-    let sink = ClientId::new(129).unwrap();
+    let source = ClientId::new(FIRST_CLIENT).unwrap();
+    let sink = ClientId::new(FIRST_CLIENT + 1).unwrap();
     let delivered = take(engine, source, piece_of(alloc, part)?)?;
     add_lines(alloc, delivered, bytes, text)?;
     say(engine, sink, Command::Receive { max: MOST_WAITING })
