@@ -37,7 +37,7 @@ impl Model for RowTable {
 
     ghost view = { λ t.
         numbered first_client most_clients
-            (λ row. option_map (λ b. b.value) (slice_index_or t.rows row None)) };
+        (λ row. option_map (λ b. b.value) (slice_index_or t.rows row None)) };
 
     ghost invariant = { λ t. length t.rows ≡ most_clients };
 }

@@ -9,8 +9,8 @@ use crate::patchbay::Patchbay;
 use bitflags::Flags;
 use memory::OutOfMemory;
 use node_table::{
-    Addr, Caps, ClientId, FIRST_CLIENT, FilterNo, LAST_CLIENT, MOST_FILTERS, MOST_PORTS, MOST_QUEUES, Node,
-    PortNo, QueueAddr, QueueNo,
+    Addr, Caps, ClientId, FIRST_CLIENT, FilterNo, LAST_CLIENT, MOST_FILTERS, MOST_PORTS,
+    MOST_QUEUES, Node, PortNo, QueueAddr, QueueNo,
 };
 use patch_graph::PatchGraph;
 use route_filter::RuleArgs;
