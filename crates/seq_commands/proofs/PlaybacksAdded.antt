@@ -123,8 +123,3 @@ pub in-order : (es : List files.Event) → are_in_order (map file_event es) ≡ 
 in-order [] = refl
 in-order (e ∷ es) =
     ap (λ b. b && are_in_order (map file_event es)) (list_all-map (λ x. due_le (file_event e).due x.due) file_event es) ∙ ap (λ b. list_all (λ x. nat_le e.tick x.tick) es && b) (in-order es)
-
--- three facts of what succeeds
-pub on-ok-three : {T E P Q R S : Type 0} (r : Result T E) → (P → Q → R → S) → OnOk r P → OnOk r Q → OnOk r R → OnOk r S
-on-ok-three (Ok x) f p q s = f p q s
-on-ok-three (Err x) f p q s = p

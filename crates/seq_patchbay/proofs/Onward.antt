@@ -106,7 +106,7 @@ module _ (clients : FinMap nat_cmp Client) (edges : List Edge) (moment : ℕ) wh
 abbrev pub SameFilters : FinMap nat_cmp Client → FinMap nat_cmp Client → Type 0
 SameFilters a b = (c : ℕ) → filters_of (FinMap.get a c) ≡ filters_of (FinMap.get b c)
 
-flat_map-same : {X Y : Type 0} (f g : X → List Y) → ((x : X) → f x ≡ g x) → (xs : List X) → flat_map f xs ≡ flat_map g xs
+pub flat_map-same : {X Y : Type 0} (f g : X → List Y) → ((x : X) → f x ≡ g x) → (xs : List X) → flat_map f xs ≡ flat_map g xs
 flat_map-same f g same [] = refl
 flat_map-same f g same (x ∷ xs) = ap (λ ys. ys ++ flat_map f xs) (same x) ∙ ap (λ ys. g x ++ ys) (flat_map-same f g same xs)
 
@@ -162,14 +162,6 @@ kept-apart clients edges table actor n o kept a row place ways at e =
     ways-same clients after (λ c. sym (ports-apart clients actor n o c)) edges (targets_of edges a) ways (kept a row place ways at e)
 
 -- what holds after every answer
-pub on_ok : {T E : Type 0} (r : Result T E) {P Q : Type 0} → (P → Q) → OnOk r P → OnOk r Q
-on_ok (Ok x) f p = f p
-on_ok (Err x) f p = p
-
-pub on_err : {T E : Type 0} (r : Result T E) {P Q : Type 0} → (P → Q) → OnErr r P → OnErr r Q
-on_err (Ok x) f p = p
-on_err (Err x) f p = f p
-
 pub in-both : {T E : Type 0} (r : Result T E) (P : Type 0) → OnOk r P → OnErr r P → P
 in-both (Ok x) P ok err = ok
 in-both (Err x) P ok err = err

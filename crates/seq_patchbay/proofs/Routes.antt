@@ -1,5 +1,5 @@
 -- The copies of a message that goes on from node to node are those of its paths.
-use Rattle.std.proofs.Common.{◌≡◌, ℕ, zero, suc, Bool, true, false, if◌then◌else◌, List, [], ◌∷◌, ◌++◌, map, Option, Some, None, refl, sym, ap, ◌∙◌, append-nil, append_assoc}
+use Rattle.std.proofs.Common.{◌≡◌, ℕ, zero, suc, Bool, true, false, if◌then◌else◌, List, [], ◌∷◌, ◌++◌, length, map, Option, Some, None, refl, sym, ap, ◌∙◌, append-nil, append_assoc}
 use Rattle.std.specs.List.{filter_map, flat_map}
 use Rattle.std.specs.Option.{option_and_then, option_to_list}
 use Rattle.std.specs.Ordering.{nat_cmp}
@@ -19,7 +19,9 @@ use Rattle.seq_state.specs.declared.log.Delivery.{Delivery}
 use Rattle.seq_state.specs.Copies.{filter_at, passed_by, carried, copy, copies}
 use Rattle.seq_settle.specs.Sends.{copies_of}
 use Rattle.seq_state.specs.Step.{port_addr}
-use Rattle.seq_patchbay.specs.Carrying.{of_some, copies_by, spread}
+use Rattle.seq_patchbay.specs.Carrying.{of_some, copies_by, spread, copies_of_all}
+use Rattle.seq_patchbay.specs.Ways.{spread_all}
+use Rattle.seq_patchbay.proofs.Onward.{flat_map-same, to-nobody}
 
 -- ---- along a path
 
@@ -137,3 +139,17 @@ spread-copies clients edges moment client port targets message bytes e f =
     ∙ sym (spread-tails clients edges moment hops (targets_of edges source) source message)
     ∙ ap (filter_map (copy_along clients moment source message)) (sym (routes-tails edges source))
     ∙ sym (copies-routes (record { clients = clients; pools = FinMap.empty; edges = edges; pending = [] }) moment source message)
+
+-- messages that go to the targets of a port one after another come to what all its paths make of them
+pub all-copies : (clients : FinMap nat_cmp Client) (edges : List Edge) (moment client port : ℕ) (messages : List (List ℕ)) →
+    spread_all clients edges moment (targets_of edges (port_addr client port)) messages ≡ copies_of_all clients edges moment client port messages
+unfolding hops
+all-copies clients edges moment client port messages =
+    flat_map-same _ _ (λ m. spread-copies clients edges moment client port (targets_of edges (port_addr client port)) m m refl refl) messages
+
+-- nothing comes of them, where it has none
+pub none-to-nobody : (clients : FinMap nat_cmp Client) (edges : List Edge) (moment : ℕ) (targets : List Addr) (messages : List (List ℕ)) → length targets ≡ 0 →
+    spread_all clients edges moment targets messages ≡ []
+none-to-nobody clients edges moment targets [] e = refl
+none-to-nobody clients edges moment targets (m ∷ ms) e =
+    ap (λ ds. ds ++ spread_all clients edges moment targets ms) (to-nobody clients edges moment hops targets m e) ∙ none-to-nobody clients edges moment targets ms e

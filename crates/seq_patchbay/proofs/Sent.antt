@@ -21,8 +21,7 @@ use Rattle.seq_state.specs.Copies.{filter_at, passed_by, delivery, copy}
 use Rattle.seq_state.specs.Step.{pool_has_room, arrival, offer, offered, delivered}
 use Rattle.seq_state.proofs.Lists.{flat_map-append}
 use Rattle.seq_state.proofs.Settling.{offered-append, delivered-append}
-use Rattle.seq_settle.specs.Sends.{copies_of}
-use Rattle.seq_patchbay.specs.Carrying.{let_through, of_some, copies_by, copies_to, spread, copies_of_all}
+use Rattle.seq_patchbay.specs.Carrying.{let_through, of_some, copies_by, copies_to, spread}
 
 -- ---- one copy
 
@@ -114,27 +113,19 @@ sent-one f targets i t now l e same pools pools' all out out' whole o s p q =
 
 -- ---- message by message
 
-module _ (clients : FinMap nat_cmp Client) (edges : List Edge) (moment client port : ℕ) (messages : List (List ℕ)) where
-  copies-more : (i : ℕ) (m : List ℕ) → i < length messages → m ≡ get_or messages i m →
-      copies_of_all clients edges moment client port (take (i + 1) messages) ≡ copies_of_all clients edges moment client port (take i messages) ++ copies_of clients edges moment client port m
-  copies-more i m l e =
-      let f : List ℕ → List Delivery = copies_of clients edges moment client port in
-      ap (flat_map f) (take_more messages i m l ∙ ap (λ x. take i messages ++ x ∷ []) (sym e))
-      ∙ flat_map-append f (take i messages) (m ∷ []) ∙ ap (λ xs. flat_map f (take i messages) ++ xs) (append-nil (f m))
+module _ {X : Type 0} (f : X → List Delivery) (xs : List X) (i : ℕ) (x : X) (within : i < length xs) (is : x ≡ get_or xs i x) where
+  one-more : flat_map f (take (i + 1) xs) ≡ flat_map f (take i xs) ++ f x
+  one-more =
+      ap (flat_map f) (take_more xs i x within ∙ ap (λ y. take i xs ++ y ∷ []) (sym is))
+      ∙ flat_map-append f (take i xs) (x ∷ []) ∙ ap (λ ys. flat_map f (take i xs) ++ ys) (append-nil (f x))
 
-  pub offered-more : (i : ℕ) (m : List ℕ) → i < length messages → m ≡ get_or messages i m → (was now after : FinMap nat_cmp ClientPool) →
-      now ≡ offered was (copies_of_all clients edges moment client port (take i messages)) → after ≡ offered now (copies_of clients edges moment client port m) →
-      after ≡ offered was (copies_of_all clients edges moment client port (take (i + 1) messages))
-  offered-more i m l e was now after a b =
-      b ∙ ap (λ p. offered p (copies_of clients edges moment client port m)) a
-      ∙ offered-append was (copies_of_all clients edges moment client port (take i messages)) (copies_of clients edges moment client port m) ∙ ap (offered was) (sym (copies-more i m l e))
+  pub offered-more : (was now after : FinMap nat_cmp ClientPool) → now ≡ offered was (flat_map f (take i xs)) → after ≡ offered now (f x) → after ≡ offered was (flat_map f (take (i + 1) xs))
+  offered-more was now after a b =
+      b ∙ ap (λ p. offered p (f x)) a ∙ offered-append was (flat_map f (take i xs)) (f x) ∙ ap (offered was) (sym one-more)
 
-  pub delivered-more : (i : ℕ) (m : List ℕ) → i < length messages → m ≡ get_or messages i m → (was now : FinMap nat_cmp ClientPool) (out out' out'' : List Delivery) →
-      now ≡ offered was (copies_of_all clients edges moment client port (take i messages)) → out' ≡ out ++ delivered was (copies_of_all clients edges moment client port (take i messages)) →
-      out'' ≡ out' ++ delivered now (copies_of clients edges moment client port m) →
-      out'' ≡ out ++ delivered was (copies_of_all clients edges moment client port (take (i + 1) messages))
-  delivered-more i m l e was now out out' out'' p a b =
-      let before : List Delivery = copies_of_all clients edges moment client port (take i messages) in
-      let more : List Delivery = copies_of clients edges moment client port m in
-      b ∙ ap (λ ds. ds ++ delivered now more) a ∙ append_assoc out (delivered was before) (delivered now more)
-      ∙ ap (λ ds. out ++ ds) (ap (λ q. delivered was before ++ delivered q more) p ∙ delivered-append was before more ∙ ap (delivered was) (sym (copies-more i m l e)))
+  pub delivered-more : (was now : FinMap nat_cmp ClientPool) (out out' out'' : List Delivery) → now ≡ offered was (flat_map f (take i xs)) →
+      out' ≡ out ++ delivered was (flat_map f (take i xs)) → out'' ≡ out' ++ delivered now (f x) → out'' ≡ out ++ delivered was (flat_map f (take (i + 1) xs))
+  delivered-more was now out out' out'' p a b =
+      let before : List Delivery = flat_map f (take i xs) in
+      b ∙ ap (λ ds. ds ++ delivered now (f x)) a ∙ append_assoc out (delivered was before) (delivered now (f x))
+      ∙ ap (λ ds. out ++ ds) (ap (λ q. delivered was before ++ delivered q (f x)) p ∙ delivered-append was before (f x) ∙ ap (delivered was) (sym one-more))

@@ -31,9 +31,9 @@ copies_on clients edges moment message Nowhere = []
 abbrev pub copies_along : FinMap nat_cmp Client → List Edge → ℕ → List Way → List ℕ → List Delivery
 copies_along clients edges moment ways message = flat_map (copies_on clients edges moment message) ways
 
--- the copies of a message that leaves a port
-abbrev pub copies_behind : Network → ℕ → Addr → List ℕ → List Delivery
-copies_behind n moment source message = spread n.clients.clients n.graph moment hops (targets_of n.graph source) message
+-- the copies of messages that go one after another to the nodes behind a port
+abbrev pub spread_all : FinMap nat_cmp Client → List Edge → ℕ → List Addr → List (List ℕ) → List Delivery
+spread_all clients edges moment targets messages = flat_map (spread clients edges moment hops targets) messages
 
 -- the way to the first node behind a port: each message comes to the same by it
 abbrev pub IsWay : FinMap nat_cmp Client → List Edge → Addr → Way → Type 0

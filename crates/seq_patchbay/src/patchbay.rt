@@ -3,28 +3,25 @@
 ghost use Rattle.std.specs.Prelude.{◌≡◌, true, [], ◌++◌, length, IsOk, IfOk, OnOk, OnErr};
 ghost use Rattle.std.specs.Borrow.{sem};
 ghost use Rattle.std.specs.FinMap.{get};
-ghost use Rattle.midi_wire.specs.Messages.{IsMessage};
 ghost use Rattle.midi_wire.specs.Readings.{reading};
 ghost use Rattle.seq_state.specs.Own.{has_port, port_of, fed_of, port_fed, put_port, with_change, oldest, without_oldest};
 ghost use Rattle.seq_state.specs.Step.{offered, delivered};
 ghost use Rattle.seq_clients.specs.Roster.{nobody, with_client, with_pool};
 ghost use Rattle.seq_patchbay.specs.Carrying.{copies_of_all};
 ghost use Rattle.seq_patchbay.specs.Lends.{LendsClients, LendsGraph};
-ghost use Rattle.seq_patchbay.specs.Ways.{copies_behind};
 
-use crate::carried::Carried;
-use crate::sending::send_along;
+use crate::sending::send_each;
 use crate::ways::{WayTable, ways_to};
 use memory::OutOfMemory;
 use midi_wire::Message;
 use node_table::{Addr, ClientId, Node, PortNo, QueueAddr};
 use patch_graph::PatchGraph;
-use route_filter::VoiceMessage;
 use seq_clients::Clients;
 use seq_settle::Desk;
 use seq_state::{Arrival, Delivery};
 use std::alloc::Global;
 use std::marker::Model;
+use std::slice;
 use tempo_clock::Due;
 
 /// The open clients and the subscriptions between their nodes.
@@ -153,48 +150,28 @@ impl Patchbay {
             let ds = copies_of_all r.clients self.old.graph moment client port messages.now in
             OnOk result (out.new.items ≡ out.old.items ++ delivered r.pools ds) }
     {
-        for message in messages {
-            self.send(moment, client, port, message, out)?;
+        let source = Addr {
+            client,
+            node: Node::Port(port),
+        };
+        if let Some(ways) = self.ways.get(&source) {
+            return send_each(&mut self.clients, &self.graph, moment, ways, messages, out);
         }
-        Ok(())
-    }
-
-    /// Sends a message on from a port. Want of memory may leave some copies sent.
-    fn send_from<M: Carried + Drop>(
-        &mut self,
-        moment: u64,
-        source: &Addr,
-        message: M,
-        out: &mut Vec<Delivery>,
-    ) -> Result<(), OutOfMemory>
-        requires { IsMessage (M.bytes message) }
-        ensures clients { self.new.clients.clients ≡ self.old.clients.clients }
-        ensures graph { self.new.graph ≡ self.old.graph }
-        ensures pools { let n = self.old in
-            let ds = copies_behind n moment source.now (M.bytes message) in
-            OnOk result (self.new.clients.pools ≡ offered n.clients.pools ds) }
-        ensures sent { let n = self.old in
-            let ds = copies_behind n moment source.now (M.bytes message) in
-            OnOk result (out.new.items ≡ out.old.items ++ delivered n.clients.pools ds) }
-    {
-        if let Some(ways) = self.ways.get(source) {
-            return send_along(&mut self.clients, &self.graph, moment, ways, message, out);
-        }
-        let targets = self.graph.targets(source);
+        let targets = self.graph.targets(&source);
         // What reaches nobody takes no memory.
         if targets.is_empty() {
             return Ok(());
         }
         let ways = ways_to(self.alloc, &self.clients, &self.graph, targets)?;
-        send_along(
+        send_each(
             &mut self.clients,
             &self.graph,
             moment,
             ways.as_slice(),
-            message,
+            messages,
             out,
         )?;
-        self.ways.insert(source, ways)
+        self.ways.insert(&source, ways)
     }
 }
 
@@ -218,16 +195,6 @@ impl Desk for Patchbay {
         message: &Message,
         out: &mut Vec<Delivery>,
     ) -> Result<(), OutOfMemory> {
-        let source = Addr {
-            client,
-            node: Node::Port(port),
-        };
-        match VoiceMessage::of(message) {
-            Some(voice) => self.send_from(moment, &source, voice, out),
-            None => {
-                let same = message.duplicate()?;
-                self.send_from(moment, &source, same, out)
-            }
-        }
+        self.send_all(moment, client, port, slice::from_ref(message), out)
     }
 }

@@ -1,23 +1,78 @@
 //! What goes along the subscriptions.
 
-ghost use Rattle.std.specs.Prelude.{◌≡◌, ◌++◌, Some, OnOk};
+ghost use Rattle.std.specs.Prelude.{◌≡◌, ◌++◌, List, Some, OnOk};
 ghost use Rattle.std.specs.Option.{option_to_list};
+ghost use Rattle.node_table.specs.declared.number.Addr.{Addr};
 ghost use Rattle.patch_graph.specs.Cursor.{at_port};
+ghost use Rattle.patch_graph.specs.Paths.{hops};
 ghost use Rattle.seq_state.specs.Copies.{copy};
 ghost use Rattle.seq_state.specs.Step.{offered, delivered};
 ghost use Rattle.seq_patchbay.specs.Carrying.{copies_to, spread};
-ghost use Rattle.seq_patchbay.specs.Ways.{copies_on, copies_along};
+ghost use Rattle.seq_patchbay.specs.Ways.{copies_on, copies_along, spread_all, AreWays};
 
 use crate::carried::Carried;
 use crate::ways::Way;
 use memory::OutOfMemory;
+use midi_wire::Message;
 use node_table::{Addr, Node, PortAddr};
 use patch_graph::{HOPS, PatchGraph};
+use route_filter::VoiceMessage;
 use seq_clients::Clients;
 use seq_state::{Arrival, Delivery};
 
+/// Sends messages one after another to the nodes behind a port, by the ways to these.
+pub(crate) fn send_each(
+    clients: &mut Clients,
+    graph: &PatchGraph,
+    moment: u64,
+    ways: &[Way],
+    messages: &[Message],
+    out: &mut Vec<Delivery>,
+) -> Result<(), OutOfMemory>
+    ensures clients { clients.new.clients ≡ clients.old.clients }
+    ensures pools { let c = clients.old in (targets : List Addr) →
+        AreWays c.clients graph.now targets ways.now →
+        let ds = spread_all c.clients graph.now moment targets messages.now in
+        OnOk result (clients.new.pools ≡ offered c.pools ds) }
+    ensures sent { let c = clients.old in (targets : List Addr) →
+        AreWays c.clients graph.now targets ways.now →
+        let ds = spread_all c.clients graph.now moment targets messages.now in
+        OnOk result (out.new.items ≡ out.old.items ++ delivered c.pools ds) }
+{
+    for message in messages {
+        send_message(clients, graph, moment, ways, message, out)?;
+    }
+    Ok(())
+}
+
+/// Sends a message to the nodes behind a port, by the ways to these: a channel message in its parts.
+#[inline(always)]
+fn send_message(
+    clients: &mut Clients,
+    graph: &PatchGraph,
+    moment: u64,
+    ways: &[Way],
+    message: &Message,
+    out: &mut Vec<Delivery>,
+) -> Result<(), OutOfMemory>
+    ensures clients { clients.new.clients ≡ clients.old.clients }
+    ensures pools { let c = clients.old in (targets : List Addr) →
+        AreWays c.clients graph.now targets ways.now →
+        let ds = spread c.clients graph.now moment hops targets message.now in
+        OnOk result (clients.new.pools ≡ offered c.pools ds) }
+    ensures sent { let c = clients.old in (targets : List Addr) →
+        AreWays c.clients graph.now targets ways.now →
+        let ds = spread c.clients graph.now moment hops targets message.now in
+        OnOk result (out.new.items ≡ out.old.items ++ delivered c.pools ds) }
+{
+    match VoiceMessage::of(message) {
+        Some(voice) => send_along(clients, graph, moment, ways, voice, out),
+        None => send_along(clients, graph, moment, ways, message.duplicate()?, out),
+    }
+}
+
 /// Sends a message along ways, one after another.
-pub(crate) fn send_along<M: Carried + Drop>(
+fn send_along<M: Carried + Drop>(
     clients: &mut Clients,
     graph: &PatchGraph,
     moment: u64,

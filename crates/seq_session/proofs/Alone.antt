@@ -96,7 +96,3 @@ none_blamed failed eager blamed sources logs b n s =
 pub told-clients : {R : Type 0} (left : R → List ℕ) (sources : List (ScriptSource R)) → script_clients (told left sources) ≡ clients sources
 told-clients left [] = refl
 told-clients left (s ∷ sources) = ap (λ cs. s.client ∷ cs) (told-clients left sources)
-
-pub on_ok : {T E P : Type 0} (r : Result T E) → P → OnOk r P
-on_ok (Ok x) p = p
-on_ok (Err e) p = tt

@@ -13,7 +13,7 @@ use node_table::{ClientId, PortNo};
 use script_text::{Skip, SkipReason};
 use seq_state::{Arrival, Delivery, LogEntry, Refusal, Reply};
 use std::alloc::Global;
-use text_forms::{push_decimal, push_spaced};
+use text_forms::{push_decimal, push_spaced_line};
 
 /// What is kept from one line to the next.
 #[derive(Drop)]
@@ -93,8 +93,7 @@ fn push_came(
     scratch.bytes.clear();
     message.append_to(&mut scratch.bytes)?;
     push_port(text, port)?;
-    push_spaced(text, scratch.bytes.as_slice())?;
-    text.push(b'\n')?;
+    push_spaced_line(text, scratch.bytes.as_slice())?;
     Ok(())
 }
 

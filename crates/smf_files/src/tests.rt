@@ -1,12 +1,13 @@
 //! Worked files, and a written file with each kind of event.
 
 use crate::{
-    Event, OutOfMemory, QuantityFault, SmfFault, SmfFile, TempoEntry, WriteFault, quantity,
+    Cursor, Event, OutOfMemory, QuantityFault, SmfFault, SmfFile, TempoEntry, WriteFault, quantity,
     write_format0,
 };
 use midi_wire::{Kind, Message};
 use smf_grammar::{ChunkFault, PairFault};
 use std::alloc::Global;
+use std::fmt;
 use std::process::Abort;
 use std::test::Fail;
 
@@ -296,21 +297,47 @@ fn all_kinds(alloc: Global) -> Result<Vec<Event>, Fail> {
     Ok(events)
 }
 
+/// The bytes are a file of these events, with this tempo from its beginning.
+fn check_written(
+    rt: &impl Abort,
+    alloc: Global,
+    bytes: &[u8],
+    tempo: u32,
+    events: &[Event],
+) -> Result<(), Fail> {
+    let file = SmfFile::read(alloc, bytes)?;
+    assert!(rt; file.tempo_entries() == [entry(0, tempo)].as_slice());
+    assert!(rt; file.skipped() == 0);
+    let mut cursor = file.cursor()?;
+    for event in events {
+        check_next(rt, alloc, &mut cursor, event)?;
+    }
+    assert!(rt; cursor.next()?.is_none());
+    Ok(())
+}
+
+fn check_next(
+    rt: &impl Abort,
+    alloc: Global,
+    cursor: &mut Cursor<'_>,
+    event: &Event,
+) -> Result<(), Fail> {
+    let mut full = Vec::new(alloc);
+    event.message.append_to(&mut full)?;
+    check_event(rt, alloc, cursor.next()?, event.tick, full.as_slice())
+}
+
 #[test]
 fn writes_what_it_reads(rt: HostRuntime) -> Result<(), Fail> {
     let events = all_kinds(rt.alloc())?;
     let bytes = write_format0(rt.alloc(), 480, 250_000, events.as_slice())?;
-    let file = SmfFile::read(rt.alloc(), bytes.as_slice())?;
-    assert!(rt; file.tempo_entries() == [entry(0, 250_000)].as_slice());
-    assert!(rt; file.skipped() == 0);
-    let mut cursor = file.cursor()?;
-    for event in events.as_slice() {
-        let mut full = Vec::new(rt.alloc());
-        event.message.append_to(&mut full)?;
-        check_event(&rt, rt.alloc(), cursor.next()?, event.tick, full.as_slice())?;
-    }
-    assert!(rt; cursor.next()?.is_none());
-    Ok(())
+    check_written(
+        &rt,
+        rt.alloc(),
+        bytes.as_slice(),
+        250_000,
+        events.as_slice(),
+    )
 }
 
 #[test]
@@ -342,42 +369,63 @@ fn refuses_real_time(rt: HostRuntime) -> Result<(), Fail> {
     Ok(())
 }
 
+/// It prints as this text.
+fn check_text<T: fmt::Display + Drop>(
+    rt: &impl Abort,
+    alloc: Global,
+    shown: T,
+    text: &str,
+) -> Result<(), Fail> {
+    assert!(rt; format!(in alloc; "{}", shown)?.as_str() == text);
+    Ok(())
+}
+
 #[test]
 fn faults_print(rt: HostRuntime) -> Result<(), Fail> {
-    assert!(rt;
-        format!(in rt.alloc(); "{}", WriteFault::BadPpq)?.as_str()
-            == "the ticks per quarter note are out of range"
-    );
-    assert!(rt;
-        format!(in rt.alloc(); "{}", WriteFault::BadTempo)?.as_str() == "the tempo is out of range"
-    );
-    assert!(rt;
-        format!(in rt.alloc(); "{}", WriteFault::BadEvent { index: 3 })?.as_str()
-            == "event 3 can't be written"
-    );
-    assert!(rt;
-        format!(in rt.alloc(); "{}", WriteFault::TooLarge)?.as_str() == "the file is too large"
-    );
-    assert!(rt; format!(in rt.alloc(); "{}", WriteFault::OutOfMemory)?.as_str() == "out of memory");
-    assert!(rt;
-        format!(in rt.alloc(); "{}", QuantityFault::Short)?.as_str() == "the quantity is cut"
-    );
-    assert!(rt;
-        format!(in rt.alloc(); "{}", QuantityFault::Long)?.as_str()
-            == "the quantity has more than four bytes"
-    );
-    assert!(rt; format!(in rt.alloc(); "{}", PairFault::NoPair)?.as_str() == "no end of track");
-    assert!(rt; format!(in rt.alloc(); "{}", PairFault::Truncated)?.as_str() == "the event is cut");
-    assert!(rt;
-        format!(in rt.alloc(); "{}", PairFault::LongQuantity)?.as_str()
-            == "a quantity has more than four bytes"
-    );
-    assert!(rt; format!(in rt.alloc(); "{}", PairFault::NoStatus)?.as_str() == "no running status");
-    assert!(rt;
-        format!(in rt.alloc(); "{}", PairFault::BadStatus)?.as_str() == "no status of a file"
-    );
-    assert!(rt; format!(in rt.alloc(); "{}", PairFault::BadData)?.as_str() == "no data byte");
-    assert!(rt; format!(in rt.alloc(); "{}", ChunkFault::Missing)?.as_str() == "no chunk");
-    assert!(rt; format!(in rt.alloc(); "{}", ChunkFault::Cut)?.as_str() == "the chunk is cut");
+    check_text(
+        &rt,
+        rt.alloc(),
+        WriteFault::BadPpq,
+        "the ticks per quarter note are out of range",
+    )?;
+    check_text(
+        &rt,
+        rt.alloc(),
+        WriteFault::BadTempo,
+        "the tempo is out of range",
+    )?;
+    check_text(
+        &rt,
+        rt.alloc(),
+        WriteFault::BadEvent { index: 3 },
+        "event 3 can't be written",
+    )?;
+    check_text(
+        &rt,
+        rt.alloc(),
+        WriteFault::TooLarge,
+        "the file is too large",
+    )?;
+    check_text(&rt, rt.alloc(), WriteFault::OutOfMemory, "out of memory")?;
+    check_text(&rt, rt.alloc(), QuantityFault::Short, "the quantity is cut")?;
+    check_text(
+        &rt,
+        rt.alloc(),
+        QuantityFault::Long,
+        "the quantity has more than four bytes",
+    )?;
+    check_text(&rt, rt.alloc(), PairFault::NoPair, "no end of track")?;
+    check_text(&rt, rt.alloc(), PairFault::Truncated, "the event is cut")?;
+    check_text(
+        &rt,
+        rt.alloc(),
+        PairFault::LongQuantity,
+        "a quantity has more than four bytes",
+    )?;
+    check_text(&rt, rt.alloc(), PairFault::NoStatus, "no running status")?;
+    check_text(&rt, rt.alloc(), PairFault::BadStatus, "no status of a file")?;
+    check_text(&rt, rt.alloc(), PairFault::BadData, "no data byte")?;
+    check_text(&rt, rt.alloc(), ChunkFault::Missing, "no chunk")?;
+    check_text(&rt, rt.alloc(), ChunkFault::Cut, "the chunk is cut")?;
     Ok(())
 }

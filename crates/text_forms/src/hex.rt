@@ -19,34 +19,8 @@ const PAIRS: &[u8; 512] = b"000102030405060708090A0B0C0D0E0F10111213141516171819
 const GROUP: usize = 64;
 
 /// Adds a space and two upper-case digits for each byte, as ` 90 3C 40`. After an error the text ends within them.
-// Most messages have three bytes or less. Where there is room for them, nothing here calls what grows the text, so that
-// no register has to be saved.
-pub fn push_spaced(text: &mut Vec<u8>, bytes: &[u8]) -> Result<(), OutOfMemory>
-    ensures { OnOk result (text.new.items ≡ text.old.items ++ spaced bytes.now) }
-{
-    if text.capacity() - text.len() >= 9 {
-        match bytes {
-            [a] => {
-                text.extend_from_slice(&spaced_one(*a))?;
-                return Ok(());
-            }
-            [a, b] => {
-                text.extend_from_slice(&spaced_two(*a, *b))?;
-                return Ok(());
-            }
-            [a, b, c] => {
-                text.extend_from_slice(&spaced_three(*a, *b, *c))?;
-                return Ok(());
-            }
-            _ => {}
-        }
-    }
-    push_any_spaced(text, bytes)
-}
-
-/// The same for any number of bytes.
 #[inline(never)]
-fn push_any_spaced(text: &mut Vec<u8>, bytes: &[u8]) -> Result<(), OutOfMemory>
+pub fn push_spaced(text: &mut Vec<u8>, bytes: &[u8]) -> Result<(), OutOfMemory>
     ensures { OnOk result (text.new.items ≡ text.old.items ++ spaced bytes.now) }
 {
     let mut digits = [b' '; 3 * GROUP];
@@ -70,6 +44,43 @@ fn spell(bytes: &[u8], digits: &mut [u8])
         digits[3 * i + 1] = s;
         digits[3 * i + 2] = t;
     }
+}
+
+/// Adds a space and two upper-case digits for each byte, and the end of the line. After an error the text ends within
+/// them.
+// Most messages have three bytes or less. Where there is room for them, nothing here calls what grows the text, so that
+// no register has to be saved.
+pub fn push_spaced_line(text: &mut Vec<u8>, bytes: &[u8]) -> Result<(), OutOfMemory>
+    ensures { OnOk result (text.new.items ≡ text.old.items ++ spaced bytes.now ++ 10 ∷ []) }
+{
+    if text.capacity() - text.len() >= 10 {
+        match bytes {
+            [a] => {
+                text.extend_from_slice(&line_of_one(*a))?;
+                return Ok(());
+            }
+            [a, b] => {
+                text.extend_from_slice(&line_of_two(*a, *b))?;
+                return Ok(());
+            }
+            [a, b, c] => {
+                text.extend_from_slice(&line_of_three(*a, *b, *c))?;
+                return Ok(());
+            }
+            _ => {}
+        }
+    }
+    push_any_spaced_line(text, bytes)
+}
+
+/// The same for any number of bytes.
+#[inline(never)]
+fn push_any_spaced_line(text: &mut Vec<u8>, bytes: &[u8]) -> Result<(), OutOfMemory>
+    ensures { OnOk result (text.new.items ≡ text.old.items ++ spaced bytes.now ++ 10 ∷ []) }
+{
+    push_spaced(text, bytes)?;
+    text.push(b'\n')?;
+    Ok(())
 }
 
 /// Adds a line of two upper-case digits for each byte, with one space between, as `90 3C 40`. After an error the text
@@ -110,37 +121,37 @@ fn push_any_hex_line(text: &mut Vec<u8>, bytes: &[u8]) -> Result<(), OutOfMemory
 {
     if let [first, more @ ..] = bytes {
         text.extend_from_slice(&pair(*first))?;
-        push_any_spaced(text, more)?;
+        push_spaced(text, more)?;
     }
     text.push(b'\n')?;
     Ok(())
 }
 
 #[inline(always)]
-fn spaced_one(a: u8) -> [u8; 3]
-    ensures { result ≡ spaced (a ∷ []) }
+fn line_of_one(a: u8) -> [u8; 4]
+    ensures { result ≡ spaced (a ∷ []) ++ 10 ∷ [] }
 {
     let [s, t] = pair(a);
-    [b' ', s, t]
+    [b' ', s, t, b'\n']
 }
 
 #[inline(always)]
-fn spaced_two(a: u8, b: u8) -> [u8; 6]
-    ensures { result ≡ spaced (a ∷ b ∷ []) }
+fn line_of_two(a: u8, b: u8) -> [u8; 7]
+    ensures { result ≡ spaced (a ∷ b ∷ []) ++ 10 ∷ [] }
 {
     let [s, t] = pair(a);
     let [u, v] = pair(b);
-    [b' ', s, t, b' ', u, v]
+    [b' ', s, t, b' ', u, v, b'\n']
 }
 
 #[inline(always)]
-fn spaced_three(a: u8, b: u8, c: u8) -> [u8; 9]
-    ensures { result ≡ spaced (a ∷ b ∷ c ∷ []) }
+fn line_of_three(a: u8, b: u8, c: u8) -> [u8; 10]
+    ensures { result ≡ spaced (a ∷ b ∷ c ∷ []) ++ 10 ∷ [] }
 {
     let [s, t] = pair(a);
     let [u, v] = pair(b);
     let [w, x] = pair(c);
-    [b' ', s, t, b' ', u, v, b' ', w, x]
+    [b' ', s, t, b' ', u, v, b' ', w, x, b'\n']
 }
 
 /// The two digits of a byte.

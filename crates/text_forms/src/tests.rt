@@ -1,6 +1,6 @@
 //! Each form written once, with ample memory.
 
-use crate::{push_decimal, push_hex_line, push_port_addr, push_spaced};
+use crate::{push_decimal, push_hex_line, push_port_addr, push_spaced, push_spaced_line};
 use node_table::{ClientId, PortAddr, PortNo};
 use std::test::Fail;
 
@@ -30,13 +30,15 @@ fn writes_bytes(rt: HostRuntime) -> Result<(), Fail> {
 fn writes_bytes_of_each_count(rt: HostRuntime) -> Result<(), Fail> {
     let mut text = Vec::new(rt.alloc());
     push_hex_line(&mut text, &[0xF8])?;
-    push_spaced(&mut text, &[0xFE])?;
+    push_spaced_line(&mut text, &[0xFE])?;
     push_hex_line(&mut text, &[0xC5, 0x07])?;
-    push_spaced(&mut text, &[0xD0, 0x40])?;
+    push_spaced_line(&mut text, &[0xD0, 0x40])?;
     push_hex_line(&mut text, &[0xF0, 0x01, 0x23, 0x45, 0x67, 0xF7])?;
-    push_spaced(&mut text, &[0x89, 0xAB, 0xCD, 0xEF, 0xF7])?;
+    push_spaced_line(&mut text, &[0x89, 0xAB, 0xCD, 0xEF, 0xF7])?;
+    push_spaced_line(&mut text, &[0x90, 0x3C, 0x40])?;
     assert!(rt;
-        text.as_slice() == b"F8\n FEC5 07\n D0 40F0 01 23 45 67 F7\n 89 AB CD EF F7".as_slice()
+        text.as_slice()
+            == b"F8\n FE\nC5 07\n D0 40\nF0 01 23 45 67 F7\n 89 AB CD EF F7\n 90 3C 40\n".as_slice()
     );
     Ok(())
 }

@@ -1,6 +1,5 @@
 -- What a Standard MIDI File says, gathered and written piece by piece.
 use Rattle.std.proofs.Common.{◌≡◌, ℕ, List, [], ◌∷◌, ◌++◌, ◌∙◌, refl, ap, sym, subst, append_assoc, append-nil}
-use Rattle.std.specs.Prelude.{Result, Ok, Err, OnOk, OnErr}
 use Rattle.std.specs.List.{flat_map}
 use Rattle.smf_grammar.specs.Files.{MidiFile}
 use Rattle.smf_grammar.specs.declared.event.Event.{Event}
@@ -76,17 +75,3 @@ pub all-stop : (f : MidiFile) (old mid new text whole : List ℕ) (skipped : ℕ
 all-stop f old mid new text whole skipped g e h k =
     stops-then old mid new text (last f) [] (old ++ dump_of f) (subst (λ (xs : List ℕ). Goes old mid text xs (old ++ dump_of f)) (sym (append-nil (last f))) g)
     (subst (λ (xs : List ℕ). Stops mid new xs) (ap (λ (xs : List ℕ). mid ++ xs) (h ∙ ap (λ (n : ℕ). text ++ skipped_line n) e) ∙ sym (append_assoc mid text (last f))) k)
-
--- ---- outcomes
-
-pub on-ok : {A E : Type 0} {P Q : Type 0} (r : Result A E) → (P → Q) → OnOk r P → OnOk r Q
-on-ok (Ok a) f h = f h
-on-ok (Err e) f h = tt
-
-pub on-err : {A E : Type 0} {P Q : Type 0} (r : Result A E) → (P → Q) → OnErr r P → OnErr r Q
-on-err (Ok a) f h = tt
-on-err (Err e) f h = f h
-
-pub always-ok : {A E : Type 0} {P : Type 0} (r : Result A E) → P → OnOk r P
-always-ok (Ok a) h = h
-always-ok (Err e) h = tt

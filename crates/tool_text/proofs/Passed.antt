@@ -92,7 +92,3 @@ lines_more line read piece stream text added s e a =
 pub nothing_left : (l : List ℕ) (w n : ℕ) → (0 < length l → 0 < w → 0 < n) → 0 < w → n ≡ 0 → l ≡ []
 nothing_left [] w n f hw e = refl
 nothing_left (x ∷ l) w n f hw e = let p : 0 < n = f (omega arith) hw in absurd (omega arith)
-
-pub of_three : {X E P Q R S : Type 0} (r : Result X E) → (P → Q → R → S) → OnOk r P → OnOk r Q → OnOk r R → OnOk r S
-of_three (Ok x) f p q s = f p q s
-of_three (Err x) f p q s = tt

@@ -17,7 +17,7 @@ use byte_io::{Sink, Source, read_to};
 use memory::OutOfMemory;
 use smf_files::{Cursor, Event, SmfFile, TempoEntry};
 use std::alloc::Global;
-use text_forms::{push_decimal, push_spaced};
+use text_forms::{push_decimal, push_spaced_line};
 
 /// Prints what the Standard MIDI File that `input` gives says: a line on its header, one for each tempo entry, one for
 /// each event by tick, track and place, and how many events are skipped.
@@ -124,8 +124,7 @@ fn push_event(event: &Event, bytes: &mut Vec<u8>, text: &mut Vec<u8>) -> Result<
     push_decimal(text, event.tick)?;
     bytes.clear();
     event.message.append_to(bytes)?;
-    push_spaced(text, bytes.as_slice())?;
-    text.push(b'\n')?;
+    push_spaced_line(text, bytes.as_slice())?;
     Ok(())
 }
 

@@ -23,7 +23,7 @@ use memory::{Items, OutOfMemory};
 use node_table::{Addr, Caps, ClientId, FIRST_CLIENT, Node, PortNo};
 use seq_engine::{Command, Delivery, Engine, Input, StepOut};
 use std::alloc::Global;
-use text_forms::push_spaced;
+use text_forms::push_spaced_line;
 
 /// How many bytes are passed on at once. Each completes at most two messages, so that a piece completes no more than
 /// `MOST_WAITING`, for which the second client has room.
@@ -309,7 +309,6 @@ fn push_delivery(
     heading.push(text, delivery.moment, delivery.target)?;
     bytes.clear();
     delivery.message.append_to(bytes)?;
-    push_spaced(text, bytes.as_slice())?;
-    text.push(b'\n')?;
+    push_spaced_line(text, bytes.as_slice())?;
     Ok(())
 }

@@ -1,10 +1,11 @@
 use Rattle.std.proofs.Common.{rules, ◌≡◌, false, None, sym, subst, ◌∙◌}
 use Rattle.std.proofs.lemmas.Bool.{false≢true}
+use Rattle.memory.proofs.Outcomes.{on_ok}
 use Rattle.seq_session.specs.Rising.{AreRising}
 use Rattle.seq_session.specs.Sessions.{all_logs}
 use Rattle.seq_session.specs.Devices.{told, Wrote, log_blamed, has_read}
 use Rattle.seq_session.proofs.Blamed.{not_read}
-use Rattle.seq_session.proofs.Alone.{none_blamed, no_log, all_alone, told-clients, on_ok}
+use Rattle.seq_session.proofs.Alone.{none_blamed, no_log, all_alone, told-clients}
 use Rattle.seq_session.proofs.sessions.run_sessions.Goals as goal
 
 pub returns-in_err-read_all-clause-log_marks : goal.returns-in_err-read_all-clause-log_marks

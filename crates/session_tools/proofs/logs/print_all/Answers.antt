@@ -1,5 +1,5 @@
 use Rattle.std.proofs.Common.{◌∙◌}
-use Rattle.midi_wire.proofs.Outcomes.{on_err}
+use Rattle.memory.proofs.Outcomes.{on_err}
 use Rattle.session_tools.proofs.Printing.{log_stops}
 use Rattle.session_tools.proofs.logs.print_all.Goals as goal
 

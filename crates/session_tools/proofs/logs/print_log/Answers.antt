@@ -1,5 +1,6 @@
 use Rattle.std.proofs.Common.{◌∙◌}
-use Rattle.midi_wire.proofs.Outcomes.{on_err, on_err-map}
+use Rattle.std.proofs.lemmas.Result.{on_err_weaker}
+use Rattle.memory.proofs.Outcomes.{on_err}
 use Rattle.session_tools.specs.Printed.{client_heading}
 use Rattle.session_tools.proofs.Fronts.{gained_before, gained_after}
 use Rattle.session_tools.proofs.logs.print_log.Goals as goal
@@ -9,6 +10,6 @@ returns-in_err-send-clause-short g c = λ t. on_err c.from_residual-in_err-send.
     (gained_before _ _ (client_heading c.args.client) c.args.log.now (rw (c.as_slice.ensures.value, c.in_ok-push_client.ensures, c.clear.ensures.items) at c.in_err-send.ensures.part t))
 
 pub returns-clause-short : goal.returns-clause-short
-returns-clause-short g c = λ t. on_err-map c.send-2.result
+returns-clause-short g c = λ t. on_err_weaker c.send-2.result
     (λ k. gained_after _ _ _ (client_heading c.args.client) c.args.log.now (rw (c.as_slice.ensures.value, c.in_ok-push_client.ensures, c.clear.ensures.items) at c.in_ok-send.ensures.written t) k)
     (c.send-2.ensures.part (c.send.ensures.telling ∙ t))

@@ -1,5 +1,5 @@
 use Rattle.std.proofs.Common.{◌∙◌}
-use Rattle.midi_wire.proofs.Outcomes.{on_err}
+use Rattle.memory.proofs.Outcomes.{on_err}
 use Rattle.tool_text.proofs.Dumped.{goes-event, stops-event}
 use Rattle.tool_text.proofs.dump.print_events.Goals as goal
 

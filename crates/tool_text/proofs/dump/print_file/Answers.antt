@@ -1,6 +1,7 @@
 use Rattle.std.proofs.Common.{◌∙◌}
-use Rattle.midi_wire.proofs.Outcomes.{on_err}
-use Rattle.tool_text.proofs.Dumped.{nothing-printed, head-printed, tempos-printed, tempos-stop, events-printed, events-stop, all-printed, all-stop, on-ok, on-err}
+use Rattle.std.proofs.lemmas.Result.{on_ok_weaker, on_err_weaker}
+use Rattle.memory.proofs.Outcomes.{on_err}
+use Rattle.tool_text.proofs.Dumped.{nothing-printed, head-printed, tempos-printed, tempos-stop, events-printed, events-stop, all-printed, all-stop}
 use Rattle.tool_text.proofs.Pieces.{goes-stops}
 use Rattle.tool_text.proofs.dump.print_file.Goals as goal
 
@@ -22,7 +23,7 @@ pub returns-in_err-push_skipped-clause-short : goal.returns-in_err-push_skipped-
 returns-in_err-push_skipped-clause-short g c = λ t. on_err c.from_residual-in_err-push_skipped.result (goes-stops _ _ _ _ _ (events-printed c.args.file.now _ _ _ _ _ _ (tempos-printed c.args.file.now _ _ _ _ _ (head-printed c.args.file.now _ _ _ c.new-text.ensures.items c.in_ok-push_head.ensures) c.tempo_entries.ensures (c.in_ok-print_tempos.ensures.sent t)) c.in_ok-cursor.ensures (c.in_ok-print_events.ensures.sent (c.print_tempos.ensures.telling ∙ t))))
 
 pub returns-clause-text : goal.returns-clause-text
-returns-clause-text g c = λ t. on-ok c.flush.result (λ k. all-printed c.args.file.now _ _ _ _ _ _ (events-printed c.args.file.now _ _ _ _ _ _ (tempos-printed c.args.file.now _ _ _ _ _ (head-printed c.args.file.now _ _ _ c.new-text.ensures.items c.in_ok-push_head.ensures) c.tempo_entries.ensures (c.in_ok-print_tempos.ensures.sent t)) c.in_ok-cursor.ensures (c.in_ok-print_events.ensures.sent (c.print_tempos.ensures.telling ∙ t))) c.skipped.ensures c.in_ok-push_skipped.ensures k) (c.flush.ensures.sent (c.print_events.ensures.telling ∙ c.print_tempos.ensures.telling ∙ t))
+returns-clause-text g c = λ t. on_ok_weaker c.flush.result (λ k. all-printed c.args.file.now _ _ _ _ _ _ (events-printed c.args.file.now _ _ _ _ _ _ (tempos-printed c.args.file.now _ _ _ _ _ (head-printed c.args.file.now _ _ _ c.new-text.ensures.items c.in_ok-push_head.ensures) c.tempo_entries.ensures (c.in_ok-print_tempos.ensures.sent t)) c.in_ok-cursor.ensures (c.in_ok-print_events.ensures.sent (c.print_tempos.ensures.telling ∙ t))) c.skipped.ensures c.in_ok-push_skipped.ensures k) (c.flush.ensures.sent (c.print_events.ensures.telling ∙ c.print_tempos.ensures.telling ∙ t))
 
 pub returns-clause-short : goal.returns-clause-short
-returns-clause-short g c = λ t. on-err c.flush.result (λ k. all-stop c.args.file.now _ _ _ _ _ _ (events-printed c.args.file.now _ _ _ _ _ _ (tempos-printed c.args.file.now _ _ _ _ _ (head-printed c.args.file.now _ _ _ c.new-text.ensures.items c.in_ok-push_head.ensures) c.tempo_entries.ensures (c.in_ok-print_tempos.ensures.sent t)) c.in_ok-cursor.ensures (c.in_ok-print_events.ensures.sent (c.print_tempos.ensures.telling ∙ t))) c.skipped.ensures c.in_ok-push_skipped.ensures k) (c.flush.ensures.short (c.print_events.ensures.telling ∙ c.print_tempos.ensures.telling ∙ t))
+returns-clause-short g c = λ t. on_err_weaker c.flush.result (λ k. all-stop c.args.file.now _ _ _ _ _ _ (events-printed c.args.file.now _ _ _ _ _ _ (tempos-printed c.args.file.now _ _ _ _ _ (head-printed c.args.file.now _ _ _ c.new-text.ensures.items c.in_ok-push_head.ensures) c.tempo_entries.ensures (c.in_ok-print_tempos.ensures.sent t)) c.in_ok-cursor.ensures (c.in_ok-print_events.ensures.sent (c.print_tempos.ensures.telling ∙ t))) c.skipped.ensures c.in_ok-push_skipped.ensures k) (c.flush.ensures.short (c.print_events.ensures.telling ∙ c.print_tempos.ensures.telling ∙ t))

@@ -1,5 +1,5 @@
 use Rattle.std.proofs.Common.{◌∙◌}
-use Rattle.midi_wire.proofs.Outcomes.{on_err}
+use Rattle.memory.proofs.Outcomes.{on_err}
 use Rattle.tool_text.specs.Dump.{tempo_line}
 use Rattle.tool_text.proofs.Pieces.{goes-line, stops-line, goes-stops}
 use Rattle.tool_text.proofs.dump.print_tempos.Goals as goal

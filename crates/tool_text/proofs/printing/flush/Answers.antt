@@ -1,4 +1,4 @@
-use Rattle.midi_wire.proofs.Outcomes.{on_err}
+use Rattle.memory.proofs.Outcomes.{on_err}
 use Rattle.tool_text.proofs.Pieces.{gains-stops}
 use Rattle.tool_text.proofs.printing.flush.Goals as goal
 

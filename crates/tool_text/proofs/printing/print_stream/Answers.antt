@@ -1,5 +1,5 @@
 use Rattle.std.proofs.Common.{◌≡◌, ◌<◌, [], length, ◌∙◌, arith}
-use Rattle.midi_wire.proofs.Outcomes.{on_err}
+use Rattle.memory.proofs.Outcomes.{on_err}
 use Rattle.tool_text.proofs.Passed.{all_taken, all_passed, stops, stops_within, nothing_left}
 use Rattle.tool_text.proofs.printing.print_stream.Goals as goal
 

@@ -1,9 +1,9 @@
 use Rattle.std.proofs.Common.{◌≡◌, ℕ, [], ◌∷◌, ap, ◌∙◌}
+use Rattle.std.proofs.lemmas.Result.{on_ok_weaker}
 use Rattle.node_table.specs.declared.caps.Caps.{Caps}
 use Rattle.seq_state.specs.declared.input.Command.TheVariants.{CreatePort, Connect}
 use Rattle.seq_state.specs.Step.{port_addr}
 use Rattle.tool_text.specs.Thru.{readable, writable, input_at_start, after_input}
-use Rattle.tool_text.proofs.Dumped.{on-ok}
 use Rattle.tool_text.proofs.Joined.{said_next, unwrapped}
 use Rattle.tool_text.proofs.thru.join.Goals as goal
 
@@ -20,7 +20,7 @@ returns-clause-joined g c =
     let third = said_next _ _ _ _ _ _ _ _ second c.in_ok-say-3.ensures.state sink c.in_ok-opening-2.ensures in
     let fourth = said_next _ _ _ _ _ _ _ _ third c.in_ok-say-4.ensures.state sink
     (c.in_ok-creation-2.ensures ∙ ap (λ p. CreatePort p (0x69 ∷ 0x6E ∷ []) c.both-writable.result) port ∙ ap (λ (x : Caps). CreatePort 0 (0x69 ∷ 0x6E ∷ []) x) into) in
-    on-ok c.say-5.result
+    on_ok_weaker c.say-5.result
     (λ (e : c.say-5.new.engine ≡ after_input c.say-4.new.engine (input_at_start c.unwrap-sink.result c.connection.result)). said_next _ _ _ _ _ _ _ _ fourth e sink
     (c.connection.ensures ∙ ap (λ s. Connect (port_addr s c.unwrap-port.result) (port_addr c.unwrap-sink.result c.unwrap-port.result)) source
     ∙ ap (λ t. Connect (port_addr 128 c.unwrap-port.result) (port_addr t c.unwrap-port.result)) sink ∙ ap (λ p. Connect (port_addr 128 p) (port_addr 129 p)) port))

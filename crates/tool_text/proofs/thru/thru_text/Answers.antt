@@ -1,7 +1,7 @@
 use Rattle.std.proofs.Common.{◌++◌, ◌∙◌, ℕ, List, sym, ap}
-use Rattle.midi_wire.proofs.Outcomes.{on_err}
+use Rattle.std.proofs.lemmas.Result.{on_ok_weaker, on_err_weaker}
+use Rattle.memory.proofs.Outcomes.{on_err}
 use Rattle.tool_text.specs.Thru.{thru_line, thru_text}
-use Rattle.tool_text.proofs.Dumped.{on-ok, on-err}
 use Rattle.tool_text.proofs.Passed.{stops_at_once, stops_same}
 use Rattle.tool_text.proofs.Passing.{thru_lines, no_lines}
 use Rattle.tool_text.proofs.thru.thru_text.Goals as goal
@@ -13,7 +13,7 @@ pub print_stream-requires-clause-empty : goal.print_stream-requires-clause-empty
 print_stream-requires-clause-empty g c = no_lines thru_line
 
 pub returns-clause-text : goal.returns-clause-text
-returns-clause-text g c = λ t u. on-ok c.print_stream.result (λ k. k ∙ ap (λ (xs : List ℕ). g.W.Sink.taken c.args.out.now ++ xs) (sym (thru_lines (g.R.Source.left c.args.input.now)))) (c.print_stream.ensures.text t u)
+returns-clause-text g c = λ t u. on_ok_weaker c.print_stream.result (λ k. k ∙ ap (λ (xs : List ℕ). g.W.Sink.taken c.args.out.now ++ xs) (sym (thru_lines (g.R.Source.left c.args.input.now)))) (c.print_stream.ensures.text t u)
 
 pub returns-clause-short : goal.returns-clause-short
-returns-clause-short g c = λ t u. on-err c.print_stream.result (stops_same _ thru_text _ _ _ thru_lines) (c.print_stream.ensures.short t u)
+returns-clause-short g c = λ t u. on_err_weaker c.print_stream.result (stops_same _ thru_text _ _ _ thru_lines) (c.print_stream.ensures.short t u)

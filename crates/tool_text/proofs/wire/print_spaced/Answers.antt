@@ -1,7 +1,7 @@
 use Rattle.std.proofs.Common.{◌∙◌, arith}
 use Rattle.std.proofs.lemmas.List.{nil_from_length}
 use Rattle.std.specs.Slice.Iter.{chunks_rest}
-use Rattle.midi_wire.proofs.Outcomes.{on_err}
+use Rattle.memory.proofs.Outcomes.{on_err}
 use Rattle.tool_text.proofs.Pieces.{goes-stops, goes-part, goes-last, stops-part}
 use Rattle.tool_text.proofs.wire.print_spaced.Goals as goal
 

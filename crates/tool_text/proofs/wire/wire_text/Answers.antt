@@ -1,10 +1,10 @@
 use Rattle.std.proofs.Common.{◌∙◌}
-use Rattle.midi_wire.proofs.Outcomes.{on_err}
+use Rattle.std.proofs.lemmas.Result.{on_ok_weaker, on_err_weaker}
+use Rattle.memory.proofs.Outcomes.{on_err}
 use Rattle.tool_text.specs.Stream.{message_lines}
 use Rattle.text_forms.specs.Hex.{hex_line}
 use Rattle.tool_text.specs.Wire.{wire_ending}
 use Rattle.tool_text.proofs.Copied.{all_copied, copied_short}
-use Rattle.tool_text.proofs.Dumped.{on-ok, on-err}
 use Rattle.tool_text.proofs.Passed.{stops_before}
 use Rattle.tool_text.proofs.Passing.{no_lines}
 use Rattle.tool_text.proofs.wire.wire_text.Goals as goal
@@ -16,11 +16,11 @@ pub returns-in_err-print_stream-clause-short : goal.returns-in_err-print_stream-
 returns-in_err-print_stream-clause-short g c = λ t u. on_err c.from_residual.result (stops_before (message_lines hex_line) wire_ending _ _ _ (c.in_err-print_stream.ensures.short t u))
 
 pub returns-clause-text : goal.returns-clause-text
-returns-clause-text g c = λ t u. on-ok c.print_written.result
+returns-clause-text g c = λ t u. on_ok_weaker c.print_written.result
     (λ k. all_copied _ _ _ _ _ (c.as_slice.ensures.value ∙ (c.in_ok-print_stream.ensures.taken t).written_back) (c.in_ok-print_stream.ensures.text t u) k)
     (c.print_written.ensures.text (c.print_stream.ensures.telling ∙ u))
 
 pub returns-clause-short : goal.returns-clause-short
-returns-clause-short g c = λ t u. on-err c.print_written.result
+returns-clause-short g c = λ t u. on_err_weaker c.print_written.result
     (λ k. copied_short _ _ _ _ _ (c.as_slice.ensures.value ∙ (c.in_ok-print_stream.ensures.taken t).written_back) (c.in_ok-print_stream.ensures.text t u) k)
     (c.print_written.ensures.short (c.print_stream.ensures.telling ∙ u))

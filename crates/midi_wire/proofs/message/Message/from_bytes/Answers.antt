@@ -2,7 +2,7 @@ use Rattle.std.proofs.Common.{◌≤◌, ℕ, List, length, Some, None, sym, ap,
 use Rattle.std.specs.Prelude.{IsTrue, if◌then◌else◌}
 use Rattle.midi_wire.specs.Messages.{is_message}
 use Rattle.midi_wire.proofs.Makers.{kind-exclusive, exclusive-long, exclusive-same, exclusive-whole, three-same}
-use Rattle.midi_wire.proofs.Outcomes.{on_err}
+use Rattle.memory.proofs.Outcomes.{on_err}
 use Rattle.midi_wire.proofs.message.Message.from_bytes.Goals as goal
 
 pub slice_bounds-payload-count : goal.slice_bounds-payload-count

@@ -2,7 +2,8 @@ use Rattle.std.proofs.Common.{◌≡◌, ◌+◌, List, ℕ, ◌∷◌, ◌++◌
 use Rattle.midi_wire.specs.Readings.{reading, rest}
 use Rattle.midi_wire.specs.Parsing.{Parsing}
 use Rattle.midi_wire.proofs.Machine.{held-silent, rest-again, reading-more, rest-more}
-use Rattle.midi_wire.proofs.Outcomes.{on_err, gained-more, prefix-within, reading-cut, cut-at, take-next}
+use Rattle.memory.proofs.Outcomes.{on_err}
+use Rattle.midi_wire.proofs.Outcomes.{gained-more, prefix-within, reading-cut, cut-at, take-next}
 use Rattle.midi_wire.proofs.parser.StreamParser.feed.Goals as goal
 
 pub loop-byte-init : goal.loop-byte-init

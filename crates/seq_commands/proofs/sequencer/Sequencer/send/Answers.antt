@@ -1,5 +1,6 @@
 use Rattle.std.proofs.Common.{◌++◌, ap, ◌∙◌}
-use Rattle.seq_commands.proofs.Outcomes.{on_ok-map, on_ok-three}
+use Rattle.std.proofs.lemmas.Result.{on_ok_weaker}
+use Rattle.memory.proofs.Outcomes.{on_ok-three}
 use Rattle.seq_commands.proofs.SentNow.{send-kept, send-sent}
 use Rattle.seq_commands.proofs.sequencer.Sequencer.send.Goals as goal
 
@@ -12,4 +13,4 @@ returns-clause-gives c =
 pub returns-clause-sent : goal.returns-clause-sent
 returns-clause-sent c =
     let a = c.args in
-    on_ok-map c.send.result (λ e. e ∙ ap (λ ds. a.out.now.items ++ ds) (send-sent a.self.now a.turn a.port a.message.now c.requires.accepted)) c.send.ensures.sent
+    on_ok_weaker c.send.result (λ e. e ∙ ap (λ ds. a.out.now.items ++ ds) (send-sent a.self.now a.turn a.port a.message.now c.requires.accepted)) c.send.ensures.sent

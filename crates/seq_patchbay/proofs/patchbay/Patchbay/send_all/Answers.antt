@@ -1,28 +1,81 @@
-use Rattle.std.proofs.Common.{◌≡◌, ◌++◌, ap, ◌∙◌, List}
-use Rattle.std.specs.Ordering.{nat_cmp}
-use Rattle.std.specs.FinMap.{FinMap}
-use Rattle.patch_graph.specs.declared.edge.Edge.{Edge}
+use Rattle.std.proofs.Common.{◌≡◌, ◌++◌, List, length, sym, ap, ◌∙◌, subst, append-nil}
+use Rattle.std.specs.Prelude.{OnOk}
+use Rattle.std.proofs.lemmas.Bool.{eqb-true}
+use Rattle.memory.proofs.Outcomes.{on_ok}
+use Rattle.patch_graph.specs.Index.{targets_of}
 use Rattle.seq_state.specs.declared.log.Delivery.{Delivery}
-use Rattle.seq_state.specs.State.{Client}
-use Rattle.seq_state.specs.Step.{offered, delivered}
-use Rattle.seq_settle.specs.Sends.{copies_of}
-use Rattle.seq_patchbay.proofs.Sent.{offered-more, delivered-more}
+use Rattle.seq_state.specs.Step.{port_addr, offered, delivered}
+use Rattle.seq_patchbay.specs.Carrying.{copies_of_all}
+use Rattle.seq_patchbay.specs.Network.{Network}
+use Rattle.seq_patchbay.specs.Ways.{AreWays, AreWaysKept}
+use Rattle.seq_patchbay.proofs.Routes.{all-copies, none-to-nobody}
 use Rattle.seq_patchbay.proofs.patchbay.Patchbay.send_all.Goals as goal
 
-pub loop-message-preserved : goal.loop-message-preserved
-loop-message-preserved c =
+pub invariant_of-self : goal.invariant_of-self
+invariant_of-self c = subst (λ cs. AreWaysKept cs c.self.inside.graph c.self.inside.ways) (sym c.send_each.ensures.clients) c.self.invariant
+
+pub returns-in-Some-clause-pools : goal.returns-in-Some-clause-pools
+returns-in-Some-clause-pools c =
     let a = c.args in
-    let r = a.self.now.clients in
-    let i = c.loop-message.invariant in
-    let s = c.loop-message.self in
-    let of : FinMap nat_cmp Client → List Edge → List Delivery = λ cs es. copies_of cs es a.moment a.client a.port c.message-item.result in
-    let same : of s.clients.clients s.graph ≡ of r.clients a.self.now.graph = ap (λ cs. of cs s.graph) i.clients ∙ ap (of r.clients) i.graph in
-    let sent = c.in_ok-send.ensures in
-    record {
-      clients = sent.clients ∙ i.clients;
-      graph = sent.edges ∙ i.graph;
-      pools = offered-more r.clients a.self.now.graph a.moment a.client a.port a.messages.now c.loop-message.message-index c.message-item.result c.loop-message-test.true c.message-item.is
-          r.pools s.clients.pools c.send.new.self.clients.pools i.pools (sent.pools ∙ ap (offered s.clients.pools) same);
-      sent = delivered-more r.clients a.self.now.graph a.moment a.client a.port a.messages.now c.loop-message.message-index c.message-item.result c.loop-message-test.true c.message-item.is
-          r.pools s.clients.pools a.out.now.items c.loop-message.out.items c.send.new.out.items i.pools i.sent (sent.sent ∙ ap (λ ds. c.loop-message.out.items ++ delivered s.clients.pools ds) same);
-    }
+    let s = c.self.inside in
+    let source = port_addr a.client a.port in
+    subst (λ (n : Network). OnOk c.send_each.result (c.send_each.new.clients.pools ≡ offered n.clients.pools (copies_of_all n.clients.clients n.graph a.moment a.client a.port a.messages.now))) c.self.view_is
+    (subst (λ ds. OnOk c.send_each.result (c.send_each.new.clients.pools ≡ offered s.clients.pools ds)) (all-copies s.clients.clients s.graph a.moment a.client a.port a.messages.now)
+    (c.send_each.ensures.pools (targets_of s.graph source) (c.in-Some.ensures s.clients.clients s.graph c.self.invariant)))
+
+pub returns-in-Some-clause-sent : goal.returns-in-Some-clause-sent
+returns-in-Some-clause-sent c =
+    let a = c.args in
+    let s = c.self.inside in
+    let source = port_addr a.client a.port in
+    subst (λ (n : Network). OnOk c.send_each.result (c.send_each.new.out.items ≡ a.out.now.items ++ delivered n.clients.pools (copies_of_all n.clients.clients n.graph a.moment a.client a.port a.messages.now))) c.self.view_is
+    (subst (λ ds. OnOk c.send_each.result (c.send_each.new.out.items ≡ a.out.now.items ++ delivered s.clients.pools ds)) (all-copies s.clients.clients s.graph a.moment a.client a.port a.messages.now)
+    (c.send_each.ensures.sent (targets_of s.graph source) (c.in-Some.ensures s.clients.clients s.graph c.self.invariant)))
+
+pub invariant_of-self-in_err-send_each : goal.invariant_of-self-in_err-send_each
+invariant_of-self-in_err-send_each c = subst (λ cs. AreWaysKept cs c.self.inside.graph c.self.inside.ways) (sym c.send_each-2.ensures.clients) c.self.invariant
+
+pub invariant_of-self-2 : goal.invariant_of-self-2
+invariant_of-self-2 c =
+    let s = c.self.inside in
+    subst (λ cs. AreWaysKept cs s.graph c.insert.new.self) (sym c.send_each-2.ensures.clients)
+    (c.insert.ensures s.clients.clients s.graph (subst (λ ts. AreWays s.clients.clients s.graph ts c.in_ok-ways.ways.items) c.targets-targets.ensures c.in_ok-ways.ensures) c.self.invariant)
+
+pub returns-then-is_empty-clause-pools : goal.returns-then-is_empty-clause-pools
+returns-then-is_empty-clause-pools c =
+    let a = c.args in
+    let s = c.self.inside in
+    let targets = targets_of s.graph (port_addr a.client a.port) in
+    let none : length targets ≡ 0 = ap length (sym c.targets-targets.ensures) ∙ eqb-true _ _ (sym c.is_empty.ensures ∙ c.if-is_empty.true) in
+    subst (λ (n : Network). n.clients.pools ≡ offered n.clients.pools (copies_of_all n.clients.clients n.graph a.moment a.client a.port a.messages.now)) c.self.view_is
+    (ap (offered s.clients.pools) (sym (none-to-nobody s.clients.clients s.graph a.moment targets a.messages.now none) ∙ all-copies s.clients.clients s.graph a.moment a.client a.port a.messages.now))
+
+pub returns-then-is_empty-clause-sent : goal.returns-then-is_empty-clause-sent
+returns-then-is_empty-clause-sent c =
+    let a = c.args in
+    let s = c.self.inside in
+    let targets = targets_of s.graph (port_addr a.client a.port) in
+    let none : length targets ≡ 0 = ap length (sym c.targets-targets.ensures) ∙ eqb-true _ _ (sym c.is_empty.ensures ∙ c.if-is_empty.true) in
+    subst (λ (n : Network). a.out.now.items ≡ a.out.now.items ++ delivered n.clients.pools (copies_of_all n.clients.clients n.graph a.moment a.client a.port a.messages.now)) c.self.view_is
+    (sym (append-nil a.out.now.items) ∙ ap (λ ds. a.out.now.items ++ delivered s.clients.pools ds)
+    (sym (none-to-nobody s.clients.clients s.graph a.moment targets a.messages.now none) ∙ all-copies s.clients.clients s.graph a.moment a.client a.port a.messages.now))
+
+pub returns-clause-pools : goal.returns-clause-pools
+returns-clause-pools c =
+    let a = c.args in
+    let s = c.self.inside in
+    let targets = targets_of s.graph (port_addr a.client a.port) in
+    let are : AreWays s.clients.clients s.graph targets c.as_slice.result.now = subst (λ ws. AreWays s.clients.clients s.graph targets ws) (sym c.as_slice.ensures.value)
+    (subst (λ ts. AreWays s.clients.clients s.graph ts c.in_ok-ways.ways.items) c.targets-targets.ensures c.in_ok-ways.ensures) in
+    on_ok c.insert.result (subst (λ (n : Network). c.send_each-2.new.clients.pools ≡ offered n.clients.pools (copies_of_all n.clients.clients n.graph a.moment a.client a.port a.messages.now)) c.self.view_is
+    (c.in_ok-send_each.ensures.pools targets are ∙ ap (offered s.clients.pools) (all-copies s.clients.clients s.graph a.moment a.client a.port a.messages.now)))
+
+pub returns-clause-sent : goal.returns-clause-sent
+returns-clause-sent c =
+    let a = c.args in
+    let s = c.self.inside in
+    let targets = targets_of s.graph (port_addr a.client a.port) in
+    let are : AreWays s.clients.clients s.graph targets c.as_slice.result.now = subst (λ ws. AreWays s.clients.clients s.graph targets ws) (sym c.as_slice.ensures.value)
+    (subst (λ ts. AreWays s.clients.clients s.graph ts c.in_ok-ways.ways.items) c.targets-targets.ensures c.in_ok-ways.ensures) in
+    on_ok c.insert.result (subst (λ (n : Network). c.send_each-2.new.out.items ≡ a.out.now.items ++ delivered n.clients.pools (copies_of_all n.clients.clients n.graph a.moment a.client a.port a.messages.now)) c.self.view_is
+    (c.in_ok-send_each.ensures.sent targets are ∙ ap (λ ds. a.out.now.items ++ delivered s.clients.pools ds) (all-copies s.clients.clients s.graph a.moment a.client a.port a.messages.now)))

@@ -1,6 +1,6 @@
 use Rattle.std.proofs.Common.{◌<◌, ◌+◌, ◌*◌, ◌≤◌, length, rules, ap, sym, ◌∙◌, subst}
 use Rattle.std.specs.Prelude.{IsTrue, is_some}
-use Rattle.midi_wire.proofs.Outcomes.{on_err}
+use Rattle.memory.proofs.Outcomes.{on_err}
 use Rattle.smf_grammar.specs.Contents.{message_of, events_from}
 use Rattle.smf_grammar.specs.Seen.{is_event_sound}
 use Rattle.smf_files.specs.Playing.{running_in, is_running, is_whole, rest_of, IsExclusive, IsNextExclusive}

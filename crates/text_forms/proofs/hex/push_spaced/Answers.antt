@@ -2,7 +2,7 @@ use Rattle.std.proofs.Common.{◌≡◌, ◌++◌, ◌∙◌, ap, refl, arith}
 use Rattle.std.proofs.lemmas.List.{get_or-replicate}
 use Rattle.std.specs.Slice.Iter.{chunks_rest, chunks_size}
 use Rattle.text_forms.specs.Hex.{spaced}
-use Rattle.text_forms.proofs.hex.push_any_spaced.Goals as goal
+use Rattle.text_forms.proofs.hex.push_spaced.Goals as goal
 
 pub loop-group-init : goal.loop-group-init
 loop-group-init c =

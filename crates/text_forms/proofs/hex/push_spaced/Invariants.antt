@@ -1,7 +1,7 @@
 use Rattle.std.proofs.Common.{◌≡◌, ◌++◌, ◌*◌, ◌<◌, ℕ, length, get_or}
 use Rattle.std.specs.Slice.Iter.{chunks_rest, chunks_size}
 use Rattle.text_forms.specs.Hex.{spaced}
-use Rattle.text_forms.proofs.hex.push_any_spaced.Given as goal
+use Rattle.text_forms.proofs.hex.push_spaced.Given as goal
 
 abbrev pub invariant-loop-group : goal.invariant-loop-group
 invariant-loop-group l = record {
