@@ -1,4 +1,5 @@
 use super::*;
+use memory::OutOfMemory;
 use node_table::ClientId;
 use std::alloc::Global;
 use std::process::Abort;
@@ -132,16 +133,34 @@ fn sum_under(store: &CellStore<u32>, keys: &[CellKey]) -> u32 {
     sum
 }
 
+// How many keys of a client are listed, and the sum of what is under them.
+fn listed_of(store: &CellStore<u32>, of: ClientId) -> Result<(usize, u32), OutOfMemory> {
+    let keys = store.keys_of(of)?;
+    Ok((keys.len(), sum_under(store, &keys)))
+}
+
+// The same of all clients.
+fn listed(store: &CellStore<u32>) -> Result<(usize, u32), OutOfMemory> {
+    let keys = store.keys()?;
+    Ok((keys.len(), sum_under(store, &keys)))
+}
+
+fn check_lists(rt: &impl Abort, store: &CellStore<u32>) -> Result<(), Fail> {
+    assert!(rt; listed_of(store, client(rt, 128))? == (2, 2));
+    assert!(rt; listed_of(store, client(rt, 191))? == (2, 4));
+    assert!(rt; listed(store)? == (5, 10));
+    assert!(rt; listed_of(store, client(rt, 151))? == (0, 0));
+    Ok(())
+}
+
 #[test]
 fn keys_are_listed(rt: HostRuntime) -> Result<(), Fail> {
     let store = filled(&rt, rt.alloc(), &[128, 191, 128, 191, 150]);
-    let ones = store.keys_of(client(&rt, 128))?;
-    assert!(rt; (ones.len(), sum_under(&store, &ones)) == (2, 2));
-    let others = store.keys_of(client(&rt, 191))?;
-    assert!(rt; (others.len(), sum_under(&store, &others)) == (2, 4));
-    let all = store.keys()?;
-    assert!(rt; (all.len(), sum_under(&store, &all)) == (5, 10));
-    assert!(rt; store.keys_of(client(&rt, 151))?.is_empty());
+    check_lists(&rt, &store)
+}
+
+#[test]
+fn a_new_store_lists_no_keys(rt: HostRuntime) -> Result<(), Fail> {
     assert!(rt; CellStore::<u8>::new(rt.alloc()).keys()?.is_empty());
     Ok(())
 }

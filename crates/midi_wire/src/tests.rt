@@ -159,23 +159,30 @@ fn streams_in_every_cut(rt: HostRuntime) -> Result<(), Fail> {
     Ok(())
 }
 
+/// Feeds an exclusive message with `first` and 65,536 data bytes more.
+fn feed_long(
+    parser: &mut StreamParser,
+    first: &[u8],
+    messages: &mut Vec<Message>,
+) -> Result<(), Fail> {
+    let data = [0x01; 4096];
+    parser.feed(&[0xF0], messages)?;
+    parser.feed(first, messages)?;
+    for _part in 0..16 {
+        parser.feed(&data, messages)?;
+    }
+    parser.feed(&[0xF7], messages)?;
+    Ok(())
+}
+
 #[test]
 fn exclusive_bound(rt: HostRuntime) -> Result<(), Fail> {
     let mut parser = StreamParser::new(rt.alloc());
     let mut messages = Vec::new(rt.alloc());
-    let data = [0x01; 4096];
-    parser.feed(&[0xF0], &mut messages)?;
-    for _part in 0..16 {
-        parser.feed(&data, &mut messages)?;
-    }
-    parser.feed(&[0xF7], &mut messages)?;
+    feed_long(&mut parser, &[], &mut messages)?;
     assert!(rt; messages.len() == 1);
     assert!(rt; full_bytes(rt.alloc(), messages.as_slice())?.len() == 65538);
-    parser.feed(&[0xF0, 0x01], &mut messages)?;
-    for _part in 0..16 {
-        parser.feed(&data, &mut messages)?;
-    }
-    parser.feed(&[0xF7], &mut messages)?;
+    feed_long(&mut parser, &[0x01], &mut messages)?;
     assert!(rt; messages.len() == 1);
     Ok(())
 }
@@ -199,21 +206,37 @@ fn channel_messages(rt: HostRuntime) -> Result<(), Fail> {
     Ok(())
 }
 
+/// The bytes are no message.
+fn assert_none(rt: &impl Abort, alloc: Global, bytes: &[u8]) -> Result<(), Fail> {
+    assert!(rt; Message::from_bytes(alloc, bytes)?.is_none());
+    Ok(())
+}
+
 #[test]
-fn messages_from_bytes(rt: HostRuntime) -> Result<(), Fail> {
+fn no_messages_from_bytes(rt: HostRuntime) -> Result<(), Fail> {
+    assert_none(&rt, rt.alloc(), &[0x90, 0x3C])?;
+    assert_none(&rt, rt.alloc(), &[0xF6, 0x00])?;
+    assert_none(&rt, rt.alloc(), &[0xF4])?;
+    assert_none(&rt, rt.alloc(), &[0xF0, 0x7E])?;
+    Ok(())
+}
+
+#[test]
+fn a_song_position_from_bytes(rt: HostRuntime) -> Result<(), Fail> {
     let song = Message::from_bytes(rt.alloc(), &[0xF2, 0x10, 0x01])?.ok_or("a message")?;
     assert!(rt; song.kind() == Kind::SystemCommon);
     assert!(rt; song.channel_of() == None);
+    Ok(())
+}
+
+#[test]
+fn an_exclusive_message_from_bytes(rt: HostRuntime) -> Result<(), Fail> {
     let bytes = [0xF0, 0x7E, 0x7F, 0x06, 0x01, 0xF7];
     let inquiry = Message::from_bytes(rt.alloc(), &bytes)?.ok_or("a message")?;
     let copy = inquiry.duplicate()?;
     assert!(rt; copy.kind() == Kind::Exclusive);
     assert!(rt; copy.byte_at(5) == Some(0xF7));
     assert!(rt; full_bytes(rt.alloc(), &[copy])?.as_slice() == bytes.as_slice());
-    assert!(rt; Message::from_bytes(rt.alloc(), &[0x90, 0x3C])?.is_none());
-    assert!(rt; Message::from_bytes(rt.alloc(), &[0xF6, 0x00])?.is_none());
-    assert!(rt; Message::from_bytes(rt.alloc(), &[0xF4])?.is_none());
-    assert!(rt; Message::from_bytes(rt.alloc(), &[0xF0, 0x7E])?.is_none());
     Ok(())
 }
 

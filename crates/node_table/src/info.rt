@@ -40,12 +40,14 @@ impl<P> NodeInfo<P> {
         self.name.as_slice()
     }
 
+    /// What other clients may do with the node.
     pub fn caps(&self) -> Caps
         ensures { result ≡ self.now.caps }
     {
         self.caps
     }
 
+    /// What the table keeps for its user beside the node.
     pub fn body(&self) -> &P
         ensures { result.now ≡ self.now.body }
     {

@@ -40,6 +40,7 @@ impl Model for ClientId {
 }
 
 impl ClientId {
+    /// The client of this number, which is 128 to 191; `None` for another.
     pub fn new(number: u8) -> Option<ClientId>
         ensures valid { IsSome result ↔ ((first_client ≤ number) × (number ≤ last_client)) }
         ensures value { IfSome result (λ c. c ≡ number) }
@@ -51,6 +52,7 @@ impl ClientId {
         }
     }
 
+    /// From 128 to 191.
     pub fn number(self) -> u8
         ensures value { result ≡ self }
         ensures low { first_client ≤ self }
@@ -91,6 +93,7 @@ impl Model for PortNo {
 }
 
 impl PortNo {
+    /// The port of this number, which is 0 to 15; `None` for another.
     pub fn new(number: u8) -> Option<PortNo>
         ensures valid { IsSome result ↔ (number < most_ports) }
         ensures value { IfSome result (λ p. p ≡ number) }
@@ -102,6 +105,7 @@ impl PortNo {
         }
     }
 
+    /// From 0 to 15.
     pub fn number(self) -> u8
         ensures value { result ≡ self }
         ensures small { self < most_ports }
@@ -141,6 +145,7 @@ impl Model for FilterNo {
 }
 
 impl FilterNo {
+    /// The filter of this number, which is 0 to 15; `None` for another.
     pub fn new(number: u8) -> Option<FilterNo>
         ensures valid { IsSome result ↔ (number < most_filters) }
         ensures value { IfSome result (λ f. f ≡ number) }
@@ -152,6 +157,7 @@ impl FilterNo {
         }
     }
 
+    /// From 0 to 15.
     pub fn number(self) -> u8
         ensures value { result ≡ self }
         ensures small { self < most_filters }
@@ -191,6 +197,7 @@ impl Model for QueueNo {
 }
 
 impl QueueNo {
+    /// The queue of this number, which is 0 to 7; `None` for another.
     pub fn new(number: u8) -> Option<QueueNo>
         ensures valid { IsSome result ↔ (number < most_queues) }
         ensures value { IfSome result (λ q. q ≡ number) }
@@ -202,6 +209,7 @@ impl QueueNo {
         }
     }
 
+    /// From 0 to 7.
     pub fn number(self) -> u8
         ensures value { result ≡ self }
         ensures small { self < most_queues }
@@ -276,6 +284,7 @@ pub struct Addr {
 }
 
 impl Addr {
+    /// Whether it is the address of a filter, and not of a port.
     pub fn is_filter(&self) -> bool
         ensures { result ≡ is_filter self.now }
     {

@@ -149,6 +149,7 @@ impl<P> NodeTable<P> {
         true
     }
 
+    /// Whether a client is open.
     pub fn is_open(&self, client: ClientId) -> bool
         ensures { result ≡ is_open self.now client }
     {

@@ -54,6 +54,7 @@ impl Found {
         }
     }
 
+    /// Adds a node, if it is not there.
     pub fn add(&mut self, node: &Addr)
         ensures { self.new ≡ with_found self.old node.now }
     {
@@ -66,6 +67,7 @@ impl Found {
         self.count += 1;
     }
 
+    /// Whether a node is there.
     pub fn contains(&self, node: &Addr) -> bool
         ensures { result ≡ list_any (same node.now) self.now }
     {

@@ -93,6 +93,7 @@ impl PatchGraph {
         self.alloc
     }
 
+    /// Whether one node is subscribed to the other.
     pub fn has_edge(&self, source: &Addr, target: &Addr) -> bool
         ensures { result ≡ has_edge self.now source.now target.now }
     {
@@ -109,6 +110,7 @@ impl PatchGraph {
         self.edges.len()
     }
 
+    /// Whether there is no edge.
     pub fn is_empty(&self) -> bool
         ensures { result ≡ (length self.now == 0) }
     {

@@ -17,6 +17,7 @@ pub enum Removal {
 }
 
 impl Removal {
+    /// Whether the edge from one node to the other goes.
     pub fn takes(&self, source: &Addr, target: &Addr) -> bool
         ensures { result ≡ takes self.now (edge source.now target.now) }
     {

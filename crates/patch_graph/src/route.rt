@@ -60,6 +60,7 @@ impl Route {
         &self.nodes[..self.count]
     }
 
+    /// The filters on the way, from the first on: all its nodes but the last.
     pub fn filters(&self) -> &[Addr]
         ensures front { (last : Addr) × (self.now ≡ result.now ++ last ∷ []) }
         ensures all { list_all is_filter result.now ≡ true }

@@ -7,6 +7,7 @@ use memory::OutOfMemory;
 use node_table::ClientId;
 use seq_state::Command;
 use std::alloc::Global;
+use std::process::Abort;
 use std::test::Fail;
 
 /// The reading of a script of client 131, for a run of 10 ns without files.
@@ -48,6 +49,20 @@ fn word_of(command: &Command) -> &'static str {
     }
 }
 
+/// The script has one command, said at moment 7 on line 1, with the word that begins `line`.
+fn assert_command(rt: &impl Abort, script: &ScriptRead, line: &str) {
+    assert!(rt; script.skips.len() == 0);
+    assert!(rt; script.inputs.len() == 1);
+    for taken in script.inputs.as_slice() {
+        assert!(rt; taken.line == 1);
+        assert!(rt; taken.input.moment == 7);
+        assert!(rt;
+            line.starts_with(word_of(&taken.input.command)),
+            "at {line}"
+        );
+    }
+}
+
 #[test]
 fn reads_each_form(rt: HostRuntime) -> Result<(), Fail> {
     let lines = [
@@ -81,20 +96,8 @@ fn reads_each_form(rt: HostRuntime) -> Result<(), Fail> {
         let mut text = Vec::from_slice(rt.alloc(), b"7\t ")?;
         text.extend_from_slice(line.as_bytes())?;
         text.extend_from_slice(b"\r\n")?;
-        let Some(script) = read(rt.alloc(), text.as_slice())? else {
-            assert!(rt; false);
-            return Ok(());
-        };
-        assert!(rt; script.skips.len() == 0);
-        assert!(rt; script.inputs.len() == 1);
-        for taken in script.inputs.as_slice() {
-            assert!(rt; taken.line == 1);
-            assert!(rt; taken.input.moment == 7);
-            assert!(rt;
-                line.starts_with(word_of(&taken.input.command)),
-                "at {line}"
-            );
-        }
+        let script = read(rt.alloc(), text.as_slice())?.ok_or("a script")?;
+        assert_command(&rt, &script, line);
     }
     Ok(())
 }

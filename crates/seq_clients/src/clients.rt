@@ -73,6 +73,7 @@ impl Clients {
         }
     }
 
+    /// Whether a client is open.
     pub fn is_open(&self, client: ClientId) -> bool
         ensures { result ≡ is_some (get self.now.clients client) }
     {
@@ -106,18 +107,21 @@ impl Clients {
         }
     }
 
+    /// Whether a client is open and has this port.
     pub fn has_port(&self, client: ClientId, port: PortNo) -> bool
         ensures { result ≡ has_port (get self.now.clients client) port }
     {
         self.nodes.find(&port_addr(client, port)).is_some()
     }
 
+    /// Whether a client is open and has this filter.
     pub fn has_filter(&self, client: ClientId, filter: FilterNo) -> bool
         ensures { result ≡ has_filter (get self.now.clients client) filter }
     {
         self.nodes.find(&filter_addr(client, filter)).is_some()
     }
 
+    /// Whether a client is open and has this queue.
     pub fn has_queue(&self, client: ClientId, queue: QueueNo) -> bool
         ensures { result ≡ has_queue (get self.now.clients client) queue }
     {

@@ -27,6 +27,7 @@ impl<'f, 'b> Model for Files<'f, 'b> {
 }
 
 impl<'f, 'b> Files<'f, 'b> {
+    /// Files that may be played, by their places from 0 on.
     pub fn new(files: &'f [SmfFile<'b>]) -> Files<'f, 'b>
         ensures files { result ≡ map played files.now }
         ensures ticks { list_all has_ticks result ≡ true }

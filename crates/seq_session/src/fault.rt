@@ -5,6 +5,7 @@ use node_table::ClientId;
 use std::alloc::AllocFailed;
 use thiserror::Error;
 
+/// Why a session stops.
 #[derive(Clone, Copy, Debug, Drop, PartialEq, Eq, Error)]
 pub enum SessionFault {
     /// A growth was refused.

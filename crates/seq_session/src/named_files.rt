@@ -56,6 +56,7 @@ impl<'f, 'b> NamedFiles<'f, 'b> {
         self.names
     }
 
+    /// The files, in the order of their names.
     pub fn files(&self) -> &'f [SmfFile<'b>]
         ensures { map played result.now ≡ self.now.files }
     {

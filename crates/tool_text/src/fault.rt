@@ -7,6 +7,7 @@ use smf_files::SmfFault;
 use std::alloc::AllocError;
 use thiserror::Error;
 
+/// Why a tool stops.
 #[derive(Clone, Copy, Debug, Drop, PartialEq, Eq, Error)]
 pub enum ToolFault {
     /// A growth was refused.

@@ -10,6 +10,7 @@ use node_table::ClientId;
 use seq_engine::{is_timed, run};
 use seq_session::*;
 use std::alloc::Global;
+use std::process::Abort;
 use std::test::Fail;
 
 #[test]
@@ -39,10 +40,22 @@ fn merges_by_moment(rt: HostRuntime) -> Result<(), Fail> {
     ];
     let merged = merge(alloc, &reads)?;
     assert!(rt; merged.lines.as_slice() == [1, 2, 3, 4, 1, 2, 3, 1, 2, 3, 4, 4, 5, 5].as_slice());
+    assert_log(&rt, alloc, &reads[1], &merged, OF_BOTH.log)
+}
+
+/// The log of a client in the run of a merged list.
+fn assert_log(
+    rt: &impl Abort,
+    alloc: Global,
+    read: &ScriptRead,
+    merged: &Merged,
+    log: &str,
+) -> Result<(), Fail> {
+    let until = EQUAL_MOMENTS.until;
     let inputs = merged.inputs.as_slice();
     assert!(rt; is_timed(inputs, until));
-    let log = run(alloc, &[], HeapAgenda::new(alloc), inputs, until)?;
-    let text = log_text(alloc, &reads[1], &merged, &log)?;
-    assert_text(&rt, text.as_slice(), OF_BOTH.log);
+    let run = run(alloc, &[], HeapAgenda::new(alloc), inputs, until)?;
+    let text = log_text(alloc, read, merged, &run)?;
+    assert_text(rt, text.as_slice(), log);
     Ok(())
 }

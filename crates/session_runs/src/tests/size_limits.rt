@@ -1,10 +1,13 @@
 //! Scripts as long as they may be, and longer.
 
+ghost use Rattle.std.specs.Prelude.{◌≡◌};
+ghost use Rattle.std.specs.FinMap as finmap;
+
 use super::devices::Devices;
 use super::sending::FIRST_NOTE;
 use super::session::assert_text;
 use super::strangers::{assert_among, run_plain};
-use agenda_heap::{HeapAgenda, SortedAgenda};
+use agenda_heap::{Agenda, HeapAgenda, SortedAgenda};
 use std::alloc::Global;
 use std::process::Abort;
 use std::test::Fail;
@@ -12,17 +15,33 @@ use std::test::Fail;
 /// The first note beside a script of client 131, which gets this log under both agendas. The
 /// circle's logs are what they are without it.
 fn assert_beside(rt: &impl Abort, alloc: Global, script: &[u8], log: &str) -> Result<(), Fail> {
-    let until = FIRST_NOTE.until;
-    let mut heap = beside(alloc, script)?;
-    run_plain(rt, alloc, &mut heap, HeapAgenda::new(alloc), until)?;
-    assert_last(rt, &heap, log)?;
-    let mut sorted = beside(alloc, script)?;
-    run_plain(rt, alloc, &mut sorted, SortedAgenda::new(alloc), until)?;
-    assert_last(rt, &sorted, log)?;
+    let heap = run_beside(rt, alloc, script, HeapAgenda::new(alloc), log)?;
+    let sorted = run_beside(rt, alloc, script, SortedAgenda::new(alloc), log)?;
     let mut circle = Devices::of(alloc, FIRST_NOTE.parts)?;
-    run_plain(rt, alloc, &mut circle, HeapAgenda::new(alloc), until)?;
+    run_plain(
+        rt,
+        alloc,
+        &mut circle,
+        HeapAgenda::new(alloc),
+        FIRST_NOTE.until,
+    )?;
     assert_among(rt, &circle, &heap)?;
     assert_among(rt, &circle, &sorted)
+}
+
+fn run_beside<A: Agenda + Drop>(
+    rt: &impl Abort,
+    alloc: Global,
+    script: &[u8],
+    agenda: A,
+    log: &str,
+) -> Result<Devices, Fail>
+    requires { A.content agenda ≡ finmap.empty }
+{
+    let mut devices = beside(alloc, script)?;
+    run_plain(rt, alloc, &mut devices, agenda, FIRST_NOTE.until)?;
+    assert_last(rt, &devices, log)?;
+    Ok(devices)
 }
 
 fn beside(alloc: Global, script: &[u8]) -> Result<Devices, Fail> {
