@@ -71,8 +71,7 @@ fn send_message(
     }
 }
 
-/// Sends a message along ways.
-#[inline(always)]
+/// Sends a message along ways, one after another.
 fn send_along<M: Carried + Drop>(
     clients: &mut Clients,
     graph: &PatchGraph,
@@ -90,31 +89,9 @@ fn send_along<M: Carried + Drop>(
         OnOk result (out.new.items ≡ out.old.items ++ delivered c.pools ds) }
 {
     // Of one way nothing has to be kept for the next.
-    match ways {
-        [way] => send_by(clients, graph, moment, way, message, out),
-        _ => send_by_each(clients, graph, moment, ways, message, out),
+    if let [way] = ways {
+        return send_by(clients, graph, moment, way, message, out);
     }
-}
-
-/// Sends a message along ways, one after another.
-// Apart, so that it takes no register from where there is one way.
-#[inline(never)]
-fn send_by_each<M: Carried + Drop>(
-    clients: &mut Clients,
-    graph: &PatchGraph,
-    moment: u64,
-    ways: &[Way],
-    message: M,
-    out: &mut Vec<Delivery>,
-) -> Result<(), OutOfMemory>
-    ensures clients { clients.new.clients ≡ clients.old.clients }
-    ensures pools { let c = clients.old in
-        let ds = copies_along c.clients graph.now moment ways.now (M.bytes message) in
-        OnOk result (clients.new.pools ≡ offered c.pools ds) }
-    ensures sent { let c = clients.old in
-        let ds = copies_along c.clients graph.now moment ways.now (M.bytes message) in
-        OnOk result (out.new.items ≡ out.old.items ++ delivered c.pools ds) }
-{
     // Mostly one copy comes by each way.
     out.reserve(ways.len())?;
     for way in ways {

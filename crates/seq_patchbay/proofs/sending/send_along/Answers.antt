@@ -6,7 +6,7 @@ use Rattle.seq_state.specs.Step.{offered, delivered}
 use Rattle.seq_patchbay.specs.Ways.{copies_on}
 use Rattle.seq_patchbay.specs.declared.ways.Way.{Way}
 use Rattle.seq_patchbay.proofs.Sent.{sent-one}
-use Rattle.seq_patchbay.proofs.sending.send_by_each.Goals as goal
+use Rattle.seq_patchbay.proofs.sending.send_along.Goals as goal
 
 pub loop-way-init : goal.loop-way-init
 loop-way-init g c =
@@ -21,18 +21,18 @@ pub returns-in_err-message-clause-clients : goal.returns-in_err-message-clause-c
 returns-in_err-message-clause-clients g c = c.loop-way.invariant.clients
 
 pub returns-in_err-send_by-clause-clients : goal.returns-in_err-send_by-clause-clients
-returns-in_err-send_by-clause-clients g c = c.send_by.ensures.clients ∙ c.loop-way.invariant.clients
+returns-in_err-send_by-clause-clients g c = c.send_by-in-loop-way.ensures.clients ∙ c.loop-way.invariant.clients
 
 pub loop-way-preserved : goal.loop-way-preserved
 loop-way-preserved g c =
     let a = c.args in
     let l = c.loop-way in
     let sent = c.in_ok-send_by.ensures in
-    let way = c.way-item.result in
+    let way = c.way-item-in-loop-way.result in
     let one : Way → List Delivery = λ w. copies_on a.clients.now.clients a.graph.now a.moment (g.M.Carried.bytes a.message) w in
     let same = ap (λ m. copies_on a.clients.now.clients a.graph.now a.moment m way) (sym c.in_ok-message.ensures)
     ∙ ap (λ cs. copies_on cs a.graph.now a.moment (g.M.Carried.bytes c.in_ok-message.message) way) (sym l.invariant.clients) in
-    let both = sent-one one a.ways.now l.way-index way _ c.loop-way-test.true c.way-item.is same l.clients.pools c.send_by.new.clients.pools _ l.out.items c.send_by.new.out.items _
+    let both = sent-one one a.ways.now l.way-index way _ c.loop-way-test.true c.way-item-in-loop-way.is same l.clients.pools c.send_by-in-loop-way.new.clients.pools _ l.out.items c.send_by-in-loop-way.new.out.items _
     sent.pools sent.sent l.invariant.pools l.invariant.sent in
     record { clients = sent.clients ∙ l.invariant.clients; pools = both.0; sent = both.1 }
 

@@ -4,7 +4,7 @@ use Rattle.seq_state.specs.declared.log.Delivery.{Delivery}
 use Rattle.seq_state.specs.Step.{offered, delivered}
 use Rattle.seq_patchbay.specs.Ways.{copies_on}
 use Rattle.seq_patchbay.specs.declared.ways.Way.{Way}
-use Rattle.seq_patchbay.proofs.sending.send_by_each.Given as goal
+use Rattle.seq_patchbay.proofs.sending.send_along.Given as goal
 
 abbrev pub invariant-loop-way : goal.invariant-loop-way
 invariant-loop-way g l =
