@@ -24,8 +24,10 @@ demo: build
 	@examples/studio/demo $(PROGRAM)
 
 # The gate: every proof from nothing, the edits that must fail, the tests, and the stored run; and when each crate was done.
+# Then every command that the pages show, with the program that the gate has built.
 test:
 	set -o pipefail; rt ci 2>&1 | test/gate-times
+	test/docs crates/midiseq/out/midiseq
 
 # For daily work: every crate as it stands and its tests, then the tests of the built program; no edits.
 check: build
