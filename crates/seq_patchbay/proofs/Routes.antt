@@ -1,5 +1,5 @@
 -- The copies of a message that goes on from node to node are those of its paths.
-use Rattle.std.proofs.Common.{◌≡◌, ℕ, zero, suc, Bool, true, false, if◌then◌else◌, List, [], ◌∷◌, ◌++◌, length, map, Option, Some, None, refl, sym, ap, ◌∙◌, append-nil, append_assoc}
+use Rattle.std.proofs.Common.{◌≡◌, ℕ, zero, suc, Bool, true, false, if◌then◌else◌, List, [], ◌∷◌, ◌++◌, length, map, Option, Some, None, refl, sym, ap, ◌∙◌, append-nil, append_assoc, arith}
 use Rattle.std.specs.List.{filter_map, flat_map}
 use Rattle.std.specs.Option.{option_and_then, option_to_list}
 use Rattle.std.specs.Ordering.{nat_cmp}
@@ -147,7 +147,13 @@ unfolding hops
 all-copies clients edges moment client port messages =
     flat_map-same _ _ (λ m. spread-copies clients edges moment client port (targets_of edges (port_addr client port)) m m refl refl) messages
 
--- nothing comes of them, where it has none
+-- nothing comes of no messages
+pub none-come : (clients : FinMap nat_cmp Client) (edges : List Edge) (moment client port : ℕ) (messages : List (List ℕ)) → length messages ≡ 0 →
+    copies_of_all clients edges moment client port messages ≡ []
+none-come clients edges moment client port [] e = refl
+none-come clients edges moment client port (m ∷ ms) e = absurd (omega arith)
+
+-- nor of any, where it has no targets
 pub none-to-nobody : (clients : FinMap nat_cmp Client) (edges : List Edge) (moment : ℕ) (targets : List Addr) (messages : List (List ℕ)) → length targets ≡ 0 →
     spread_all clients edges moment targets messages ≡ []
 none-to-nobody clients edges moment targets [] e = refl

@@ -132,7 +132,7 @@ impl Patchbay {
         self.clients.receive(client, max)
     }
 
-    /// Sends messages from a port, one after another. Want of memory may leave some copies sent.
+    /// Sends messages from a port, one after another. No messages take no memory; want of it may leave some copies sent.
     pub fn send_all(
         &mut self,
         moment: u64,
@@ -149,7 +149,12 @@ impl Patchbay {
         ensures sent { let r = self.old.clients in
             let ds = copies_of_all r.clients self.old.graph moment client port messages.now in
             OnOk result (out.new.items ≡ out.old.items ++ delivered r.pools ds) }
+        ensures none { messages.now ≡ [] → IsOk result }
     {
+        // Where a piece of a stream completes no message, no way is looked for, which might take memory.
+        if messages.is_empty() {
+            return Ok(());
+        }
         let source = Addr {
             client,
             node: Node::Port(port),

@@ -19,6 +19,7 @@ const PAIRS: &[u8; 512] = b"000102030405060708090A0B0C0D0E0F10111213141516171819
 const GROUP: usize = 64;
 
 /// Adds a space and two upper-case digits for each byte, as ` 90 3C 40`. After an error the text ends within them.
+// Apart, so that its buffer is no burden to the lines of few bytes below.
 #[inline(never)]
 pub fn push_spaced(text: &mut Vec<u8>, bytes: &[u8]) -> Result<(), OutOfMemory>
     ensures { OnOk result (text.new.items ≡ text.old.items ++ spaced bytes.now) }

@@ -8,7 +8,7 @@ use Rattle.seq_state.specs.Step.{port_addr, offered, delivered}
 use Rattle.seq_patchbay.specs.Carrying.{copies_of_all}
 use Rattle.seq_patchbay.specs.Network.{Network}
 use Rattle.seq_patchbay.specs.Ways.{AreWays, AreWaysKept}
-use Rattle.seq_patchbay.proofs.Routes.{all-copies, none-to-nobody}
+use Rattle.seq_patchbay.proofs.Routes.{all-copies, none-come, none-to-nobody}
 use Rattle.seq_patchbay.proofs.patchbay.Patchbay.send_all.Goals as goal
 
 pub invariant_of-self : goal.invariant_of-self
@@ -44,38 +44,54 @@ invariant_of-self-2 c =
 pub returns-then-is_empty-clause-pools : goal.returns-then-is_empty-clause-pools
 returns-then-is_empty-clause-pools c =
     let a = c.args in
-    let s = c.self.inside in
-    let targets = targets_of s.graph (port_addr a.client a.port) in
-    let none : length targets ≡ 0 = ap length (sym c.targets-targets.ensures) ∙ eqb-true _ _ (sym c.is_empty.ensures ∙ c.if-is_empty.true) in
-    subst (λ (n : Network). n.clients.pools ≡ offered n.clients.pools (copies_of_all n.clients.clients n.graph a.moment a.client a.port a.messages.now)) c.self.view_is
-    (ap (offered s.clients.pools) (sym (none-to-nobody s.clients.clients s.graph a.moment targets a.messages.now none) ∙ all-copies s.clients.clients s.graph a.moment a.client a.port a.messages.now))
+    let n = a.self.now in
+    ap (offered n.clients.pools) (sym (none-come n.clients.clients n.graph a.moment a.client a.port a.messages.now (eqb-true _ _ (sym c.is_empty.ensures ∙ c.if-is_empty.true))))
 
 pub returns-then-is_empty-clause-sent : goal.returns-then-is_empty-clause-sent
 returns-then-is_empty-clause-sent c =
     let a = c.args in
+    let n = a.self.now in
+    sym (append-nil a.out.now.items) ∙ ap (λ ds. a.out.now.items ++ delivered n.clients.pools ds)
+    (sym (none-come n.clients.clients n.graph a.moment a.client a.port a.messages.now (eqb-true _ _ (sym c.is_empty.ensures ∙ c.if-is_empty.true))))
+
+pub returns-then-is_empty-2-clause-pools : goal.returns-then-is_empty-2-clause-pools
+returns-then-is_empty-2-clause-pools c =
+    let a = c.args in
     let s = c.self.inside in
     let targets = targets_of s.graph (port_addr a.client a.port) in
-    let none : length targets ≡ 0 = ap length (sym c.targets-targets.ensures) ∙ eqb-true _ _ (sym c.is_empty.ensures ∙ c.if-is_empty.true) in
+    let none : length targets ≡ 0 = ap length (sym c.targets-targets.ensures) ∙ eqb-true _ _ (sym c.is_empty-2.ensures ∙ c.if-is_empty-2.true) in
+    subst (λ (n : Network). n.clients.pools ≡ offered n.clients.pools (copies_of_all n.clients.clients n.graph a.moment a.client a.port a.messages.now)) c.self.view_is
+    (ap (offered s.clients.pools) (sym (none-to-nobody s.clients.clients s.graph a.moment targets a.messages.now none) ∙ all-copies s.clients.clients s.graph a.moment a.client a.port a.messages.now))
+
+pub returns-then-is_empty-2-clause-sent : goal.returns-then-is_empty-2-clause-sent
+returns-then-is_empty-2-clause-sent c =
+    let a = c.args in
+    let s = c.self.inside in
+    let targets = targets_of s.graph (port_addr a.client a.port) in
+    let none : length targets ≡ 0 = ap length (sym c.targets-targets.ensures) ∙ eqb-true _ _ (sym c.is_empty-2.ensures ∙ c.if-is_empty-2.true) in
     subst (λ (n : Network). a.out.now.items ≡ a.out.now.items ++ delivered n.clients.pools (copies_of_all n.clients.clients n.graph a.moment a.client a.port a.messages.now)) c.self.view_is
     (sym (append-nil a.out.now.items) ∙ ap (λ ds. a.out.now.items ++ delivered s.clients.pools ds)
     (sym (none-to-nobody s.clients.clients s.graph a.moment targets a.messages.now none) ∙ all-copies s.clients.clients s.graph a.moment a.client a.port a.messages.now))
+
+-- the ways that were found are those of the port
+ways-are : (c : goal.After-insert) →
+    AreWays c.self.inside.clients.clients c.self.inside.graph (targets_of c.self.inside.graph (port_addr c.args.client c.args.port)) c.as_slice.result.now
+ways-are c =
+    let s = c.self.inside in
+    subst (λ ws. AreWays s.clients.clients s.graph (targets_of s.graph (port_addr c.args.client c.args.port)) ws) (sym c.as_slice.ensures.value)
+    (subst (λ ts. AreWays s.clients.clients s.graph ts c.in_ok-ways.ways.items) c.targets-targets.ensures c.in_ok-ways.ensures)
 
 pub returns-clause-pools : goal.returns-clause-pools
 returns-clause-pools c =
     let a = c.args in
     let s = c.self.inside in
-    let targets = targets_of s.graph (port_addr a.client a.port) in
-    let are : AreWays s.clients.clients s.graph targets c.as_slice.result.now = subst (λ ws. AreWays s.clients.clients s.graph targets ws) (sym c.as_slice.ensures.value)
-    (subst (λ ts. AreWays s.clients.clients s.graph ts c.in_ok-ways.ways.items) c.targets-targets.ensures c.in_ok-ways.ensures) in
     on_ok c.insert.result (subst (λ (n : Network). c.send_each-2.new.clients.pools ≡ offered n.clients.pools (copies_of_all n.clients.clients n.graph a.moment a.client a.port a.messages.now)) c.self.view_is
-    (c.in_ok-send_each.ensures.pools targets are ∙ ap (offered s.clients.pools) (all-copies s.clients.clients s.graph a.moment a.client a.port a.messages.now)))
+    (c.in_ok-send_each.ensures.pools (targets_of s.graph (port_addr a.client a.port)) (ways-are c) ∙ ap (offered s.clients.pools) (all-copies s.clients.clients s.graph a.moment a.client a.port a.messages.now)))
 
 pub returns-clause-sent : goal.returns-clause-sent
 returns-clause-sent c =
     let a = c.args in
     let s = c.self.inside in
-    let targets = targets_of s.graph (port_addr a.client a.port) in
-    let are : AreWays s.clients.clients s.graph targets c.as_slice.result.now = subst (λ ws. AreWays s.clients.clients s.graph targets ws) (sym c.as_slice.ensures.value)
-    (subst (λ ts. AreWays s.clients.clients s.graph ts c.in_ok-ways.ways.items) c.targets-targets.ensures c.in_ok-ways.ensures) in
     on_ok c.insert.result (subst (λ (n : Network). c.send_each-2.new.out.items ≡ a.out.now.items ++ delivered n.clients.pools (copies_of_all n.clients.clients n.graph a.moment a.client a.port a.messages.now)) c.self.view_is
-    (c.in_ok-send_each.ensures.sent targets are ∙ ap (λ ds. a.out.now.items ++ delivered s.clients.pools ds) (all-copies s.clients.clients s.graph a.moment a.client a.port a.messages.now)))
+    (c.in_ok-send_each.ensures.sent (targets_of s.graph (port_addr a.client a.port)) (ways-are c)
+    ∙ ap (λ ds. a.out.now.items ++ delivered s.clients.pools ds) (all-copies s.clients.clients s.graph a.moment a.client a.port a.messages.now)))
