@@ -2,7 +2,6 @@
 
 ghost use Rattle.std.specs.Prelude.{◌≤◌, length};
 
-use super::files::THE_FILE;
 use midi_wire::Message;
 use seq_engine::*;
 use std::alloc::Global;
@@ -15,6 +14,45 @@ pub enum At {
     F(u8, u8),
 }
 
+/// A command, with its numbers as a script has them.
+#[derive(Clone, Copy)]
+pub enum Say {
+    /// A name, and the sizes of the input and the output.
+    Open(&'static str, u32, u32),
+    Close,
+    /// A port, its name and its capabilities.
+    Port(u8, &'static str, u8),
+    DeletePort(u8),
+    /// A filter that may be joined to and from.
+    Filter(u8, RuleArgs),
+    SetFilter(u8, RuleArgs),
+    DeleteFilter(u8),
+    Connect(At, At),
+    Disconnect(At, At),
+    Bytes(u8, &'static [u8]),
+    Send(u8, &'static [u8]),
+    /// A queue, its pulses per quarter note and its tempo.
+    Queue(u8, u32, u32),
+    /// A queue, and the file whose division it takes.
+    QueueFrom(u8, u32),
+    /// A queue is named by its owner and its number, here and below.
+    DeleteQueue(u8, u8),
+    Start(u8, u8),
+    Stop(u8, u8),
+    Continue(u8, u8),
+    Tempo(u8, u8, u32),
+    Status(u8, u8),
+    Share(u8, u8),
+    /// On queue 0 of a client, from the actor's port 0.
+    Schedule(u8, DueAt, &'static [u8]),
+    /// A file, on a queue of a client, from the actor's port 0.
+    Play(u8, u8, u32),
+    DropOutput,
+    Receive(u32),
+    Pools,
+}
+use self::Say::*;
+
 /// The filter that lets all pass as it came.
 pub const ALL: RuleArgs = RuleArgs {
     channels: 65535,
@@ -25,9 +63,12 @@ pub const ALL: RuleArgs = RuleArgs {
     channel: None,
 };
 
-/// The filter that lets all pass, and raises notes.
-pub fn raised(shift: i16) -> RuleArgs {
-    RuleArgs { shift, ..ALL }
+/// What one client says, each command at its moment, and what it hears of the run.
+#[derive(Clone, Copy)]
+pub struct Part {
+    pub client: u8,
+    pub says: &'static [(u64, Say)],
+    pub log: &'static str,
 }
 
 /// The inputs of a run, in the order of moment, client and line. Each client's lines are added in their order, and the
@@ -37,8 +78,6 @@ pub struct Lines {
     alloc: Global,
     inputs: Vec<Input>,
     actor: u8,
-    /// Whether each line could be taken.
-    are_whole: bool,
 }
 
 impl Lines {
@@ -47,22 +86,31 @@ impl Lines {
             alloc,
             inputs: Vec::new(alloc),
             actor: 128,
-            are_whole: true,
         }
     }
 
-    /// All lines, where each is one of a client, with numbers in their ranges.
-    pub fn inputs(&self) -> Result<&[Input], Fail> {
-        let whole = if self.are_whole { Some(()) } else { None };
-        whole.ok_or("a line that can't be taken")?;
-        Ok(self.inputs.as_slice())
+    /// What some clients say.
+    pub fn of(alloc: Global, parts: &[Part]) -> Result<Lines, Fail> {
+        let mut lines = Lines::new(alloc);
+        for part in parts {
+            lines.add(part)?;
+        }
+        Ok(lines)
+    }
+
+    pub fn inputs(&self) -> &[Input] {
+        self.inputs.as_slice()
     }
 
     /// The lines of some clients alone.
-    pub fn of(mut self, members: &[u8]) -> Lines {
+    pub fn only(&mut self, members: &[u8]) {
         self.inputs
             .retain(|input| members.contains(&input.actor.number()));
-        self
+    }
+
+    pub fn add(&mut self, part: &Part) -> Result<(), Fail> {
+        self.by(part.client);
+        self.say_all(part.says)
     }
 
     /// The next lines are this client's.
@@ -70,166 +118,29 @@ impl Lines {
         self.actor = actor;
     }
 
-    fn say(&mut self, moment: u64, command: Option<Command>) {
-        match (ClientId::new(self.actor), command) {
-            (Some(actor), Some(command)) => self.add(Input {
-                moment,
-                actor,
-                command,
-            }),
-            _ => self.are_whole = false,
+    pub fn say_all(&mut self, says: &[(u64, Say)]) -> Result<(), Fail> {
+        for (moment, said) in says {
+            self.say(*moment, *said)?;
         }
+        Ok(())
     }
 
-    /// Adds an input after all that come before it.
-    fn add(&mut self, input: Input) {
+    pub fn say(&mut self, moment: u64, said: Say) -> Result<(), Fail> {
+        let command = command_of(self.alloc, said).ok_or("a command")?;
+        self.give(moment, command)
+    }
+
+    /// Adds a command, which comes after all of its moment that the client has said before.
+    pub fn give(&mut self, moment: u64, command: Command) -> Result<(), Fail> {
+        let actor = ClientId::new(self.actor).ok_or("a client number")?;
+        let input = Input {
+            moment,
+            actor,
+            command,
+        };
         let place = place_of(self.inputs.as_slice(), &input);
-        if self.inputs.insert(place, input).is_err() {
-            self.are_whole = false;
-        }
-    }
-
-    pub fn open(&mut self, moment: u64, name: &str, in_size: u32, out_size: u32) {
-        let command = items(self.alloc, name.as_bytes()).map(|name| Command::Open {
-            name,
-            in_size,
-            out_size,
-        });
-        self.say(moment, command);
-    }
-
-    pub fn close(&mut self, moment: u64) {
-        self.say(moment, Some(Command::Close));
-    }
-
-    pub fn port(&mut self, moment: u64, port: u8, name: &str, caps: u8) {
-        let command = port_made(self.alloc, port, name, caps);
-        self.say(moment, command);
-    }
-
-    pub fn unport(&mut self, moment: u64, port: u8) {
-        let command = PortNo::new(port).map(|port| Command::DeletePort { port });
-        self.say(moment, command);
-    }
-
-    /// A filter that may be joined to and from.
-    pub fn filter(&mut self, moment: u64, filter: u8, rule: RuleArgs) {
-        self.say(moment, filter_made(filter, 99, rule));
-    }
-
-    pub fn setfilter(&mut self, moment: u64, filter: u8, rule: RuleArgs) {
-        let command = FilterNo::new(filter).map(|filter| Command::SetFilter { filter, rule });
-        self.say(moment, command);
-    }
-
-    pub fn unfilter(&mut self, moment: u64, filter: u8) {
-        let command = FilterNo::new(filter).map(|filter| Command::DeleteFilter { filter });
-        self.say(moment, command);
-    }
-
-    pub fn connect(&mut self, moment: u64, source: At, target: At) {
-        self.say(moment, joined(source, target));
-    }
-
-    pub fn disconnect(&mut self, moment: u64, source: At, target: At) {
-        self.say(moment, parted(source, target));
-    }
-
-    pub fn bytes(&mut self, moment: u64, port: u8, bytes: &[u8]) {
-        let command = bytes_fed(self.alloc, port, bytes);
-        self.say(moment, command);
-    }
-
-    pub fn send(&mut self, moment: u64, port: u8, bytes: &[u8]) {
-        let command = message_sent(self.alloc, port, bytes);
-        self.say(moment, command);
-    }
-
-    pub fn queue(&mut self, moment: u64, queue: u8, ppq: u32, tempo: u32) {
-        let command = QueueNo::new(queue).map(|queue| Command::CreateQueue { queue, ppq, tempo });
-        self.say(moment, command);
-    }
-
-    pub fn queuefrom(&mut self, moment: u64, queue: u8, file: u32) {
-        let command = QueueNo::new(queue).map(|queue| Command::CreateQueueFrom { queue, file });
-        self.say(moment, command);
-    }
-
-    pub fn unqueue(&mut self, moment: u64, client: u8, queue: u8) {
-        let command = queue_at(client, queue).map(|queue| Command::DeleteQueue { queue });
-        self.say(moment, command);
-    }
-
-    pub fn start(&mut self, moment: u64, client: u8, queue: u8) {
-        let command = queue_at(client, queue).map(|queue| Command::Start { queue });
-        self.say(moment, command);
-    }
-
-    pub fn stop(&mut self, moment: u64, client: u8, queue: u8) {
-        let command = queue_at(client, queue).map(|queue| Command::Stop { queue });
-        self.say(moment, command);
-    }
-
-    pub fn resume(&mut self, moment: u64, client: u8, queue: u8) {
-        let command = queue_at(client, queue).map(|queue| Command::Continue { queue });
-        self.say(moment, command);
-    }
-
-    pub fn tempo(&mut self, moment: u64, client: u8, queue: u8, tempo: u32) {
-        let command = queue_at(client, queue).map(|queue| Command::Tempo { queue, tempo });
-        self.say(moment, command);
-    }
-
-    pub fn status(&mut self, moment: u64, client: u8, queue: u8) {
-        let command = queue_at(client, queue).map(|queue| Command::QueueStatus { queue });
-        self.say(moment, command);
-    }
-
-    pub fn share(&mut self, moment: u64, client: u8, queue: u8) {
-        let command = queue_at(client, queue).map(|queue| Command::Share { queue });
-        self.say(moment, command);
-    }
-
-    /// On queue 0 of a client, from the actor's port 0.
-    pub fn schedule(&mut self, moment: u64, client: u8, due_at: DueAt, bytes: &[u8]) {
-        let command = scheduled(self.alloc, client, due_at, bytes);
-        self.say(moment, command);
-    }
-
-    /// The first file, on a queue of a client, from the actor's port 0.
-    pub fn play(&mut self, moment: u64, client: u8, queue: u8) {
-        self.play_file(moment, client, queue, THE_FILE);
-    }
-
-    pub fn play_file(&mut self, moment: u64, client: u8, queue: u8, file: u32) {
-        self.say(moment, played(client, queue, file));
-    }
-
-    pub fn drop_output(&mut self, moment: u64) {
-        self.say(moment, Some(Command::DropOutput));
-    }
-
-    pub fn receive(&mut self, moment: u64, max: u32) {
-        self.say(moment, Some(Command::Receive { max }));
-    }
-
-    pub fn pools(&mut self, moment: u64) {
-        self.say(moment, Some(Command::PoolStatus));
-    }
-
-    /// Client 128, with a port 0 that others may read.
-    pub fn sender(&mut self) {
-        self.by(128);
-        self.open(0, "a", 8, 8);
-        self.port(0, 0, "out", 33);
-    }
-
-    /// Client 129, with a port 0 that others may write to, subscribed to port 0 of client 128.
-    pub fn listener(&mut self) {
-        self.by(129);
-        self.open(0, "b", 8, 8);
-        self.port(0, 0, "in", 66);
-        self.connect(0, At::P(128, 0), At::P(129, 0));
+        self.inputs.insert(place, input)?;
+        Ok(())
     }
 }
 
@@ -253,6 +164,59 @@ fn place_of(inputs: &[Input], added: &Input) -> usize
 fn is_later(input: &Input, added: &Input) -> bool {
     input.moment > added.moment
         || (input.moment == added.moment && input.actor.number() > added.actor.number())
+}
+
+/// The command, where its numbers are in their ranges.
+fn command_of(alloc: Global, said: Say) -> Option<Command> {
+    match said {
+        Open(name, in_size, out_size) => opened(alloc, name, in_size, out_size),
+        Close => Some(Command::Close),
+        Port(port, name, caps) => port_made(alloc, port, name, caps),
+        DeletePort(port) => PortNo::new(port).map(|port| Command::DeletePort { port }),
+        Filter(filter, rule) => filter_made(filter, rule),
+        SetFilter(filter, rule) => {
+            FilterNo::new(filter).map(|filter| Command::SetFilter { filter, rule })
+        }
+        DeleteFilter(filter) => {
+            FilterNo::new(filter).map(|filter| Command::DeleteFilter { filter })
+        }
+        Connect(source, target) => joined(source, target),
+        Disconnect(source, target) => parted(source, target),
+        Bytes(port, bytes) => bytes_fed(alloc, port, bytes),
+        Send(port, bytes) => message_sent(alloc, port, bytes),
+        Schedule(client, due_at, bytes) => scheduled(alloc, client, due_at, bytes),
+        Play(client, queue, file) => played(client, queue, file),
+        DropOutput => Some(Command::DropOutput),
+        Receive(max) => Some(Command::Receive { max }),
+        Pools => Some(Command::PoolStatus),
+        _ => queue_command(said),
+    }
+}
+
+/// The same of a command about a queue.
+fn queue_command(said: Say) -> Option<Command> {
+    match said {
+        Queue(queue, ppq, tempo) => {
+            QueueNo::new(queue).map(|queue| Command::CreateQueue { queue, ppq, tempo })
+        }
+        QueueFrom(queue, file) => {
+            QueueNo::new(queue).map(|queue| Command::CreateQueueFrom { queue, file })
+        }
+        DeleteQueue(client, queue) => {
+            queue_at(client, queue).map(|queue| Command::DeleteQueue { queue })
+        }
+        Start(client, queue) => queue_at(client, queue).map(|queue| Command::Start { queue }),
+        Stop(client, queue) => queue_at(client, queue).map(|queue| Command::Stop { queue }),
+        Continue(client, queue) => queue_at(client, queue).map(|queue| Command::Continue { queue }),
+        Tempo(client, queue, tempo) => {
+            queue_at(client, queue).map(|queue| Command::Tempo { queue, tempo })
+        }
+        Status(client, queue) => {
+            queue_at(client, queue).map(|queue| Command::QueueStatus { queue })
+        }
+        Share(client, queue) => queue_at(client, queue).map(|queue| Command::Share { queue }),
+        _ => None,
+    }
 }
 
 fn items(alloc: Global, bytes: &[u8]) -> Option<Items<u8>> {
@@ -282,6 +246,15 @@ fn queue_at(client: u8, queue: u8) -> Option<QueueAddr> {
     })
 }
 
+fn opened(alloc: Global, name: &str, in_size: u32, out_size: u32) -> Option<Command> {
+    let name = items(alloc, name.as_bytes())?;
+    Some(Command::Open {
+        name,
+        in_size,
+        out_size,
+    })
+}
+
 fn port_made(alloc: Global, port: u8, name: &str, caps: u8) -> Option<Command> {
     let port = PortNo::new(port)?;
     let caps = Caps::new(caps)?;
@@ -289,9 +262,10 @@ fn port_made(alloc: Global, port: u8, name: &str, caps: u8) -> Option<Command> {
     Some(Command::CreatePort { port, name, caps })
 }
 
-fn filter_made(filter: u8, caps: u8, rule: RuleArgs) -> Option<Command> {
+/// A filter that others may join to and from.
+fn filter_made(filter: u8, rule: RuleArgs) -> Option<Command> {
     let filter = FilterNo::new(filter)?;
-    let caps = Caps::new(caps)?;
+    let caps = Caps::new(99)?;
     Some(Command::CreateFilter { filter, caps, rule })
 }
 

@@ -1,6 +1,6 @@
 //! Runs, and what clients hear of them.
 
-use super::lines::Lines;
+use super::lines::{Lines, Part};
 use crate::run_under_both;
 use midi_wire::Message;
 use seq_engine::*;
@@ -10,21 +10,61 @@ use std::ops::RangeInclusive;
 use std::process::Abort;
 use std::test::Fail;
 
-/// The run of these lines without files. Both agendas give one log.
-pub fn ran(rt: &impl Abort, alloc: Global, lines: &Lines, until: u64) -> Result<RunLog, Fail> {
-    ran_with(rt, alloc, &[], lines.inputs()?, until)
+/// What clients say, and what they hear of it.
+#[derive(Clone, Copy)]
+pub struct Run {
+    pub parts: &'static [Part],
+    /// The only file, where there is one.
+    pub file: Option<&'static [u8]>,
+    pub until: u64,
 }
 
-/// The run of these lines with one file.
+/// Carries a run out under both agendas. Each client hears what was worked out.
+pub fn assert_run(rt: &impl Abort, alloc: Global, run: &Run) -> Result<(), Fail> {
+    assert_logs(rt, alloc, &ran(rt, alloc, run)?, run.parts)
+}
+
+/// Each client hears what was worked out.
+pub fn assert_logs(
+    rt: &impl Abort,
+    alloc: Global,
+    log: &RunLog,
+    parts: &[Part],
+) -> Result<(), Fail> {
+    for part in parts {
+        assert_log(rt, alloc, log, part.client, part.log)?;
+    }
+    Ok(())
+}
+
+/// The log of a run, which is the same under both agendas.
+pub fn ran(rt: &impl Abort, alloc: Global, run: &Run) -> Result<RunLog, Fail> {
+    let lines = Lines::of(alloc, run.parts)?;
+    match run.file {
+        Some(file) => ran_on(rt, alloc, file, lines.inputs(), run.until),
+        None => ran_without_files(rt, alloc, &lines, run.until),
+    }
+}
+
+pub fn ran_without_files(
+    rt: &impl Abort,
+    alloc: Global,
+    lines: &Lines,
+    until: u64,
+) -> Result<RunLog, Fail> {
+    ran_with(rt, alloc, &[], lines.inputs(), until)
+}
+
+/// The log of these inputs with one file.
 pub fn ran_on(
     rt: &impl Abort,
     alloc: Global,
     file: &[u8],
-    lines: &Lines,
+    inputs: &[Input],
     until: u64,
 ) -> Result<RunLog, Fail> {
     let files = [SmfFile::read(alloc, file)?];
-    ran_with(rt, alloc, &files, lines.inputs()?, until)
+    ran_with(rt, alloc, &files, inputs, until)
 }
 
 fn ran_with(
@@ -157,11 +197,14 @@ pub fn all_done(alloc: Global, moment: u64, lines: RangeInclusive<u64>) -> Resul
 
 /// This came to port 0 of a client, byte for byte.
 pub fn assert_bytes(rt: &impl Abort, log: &RunLog, client: u8, wanted: &[u8]) -> Result<(), Fail> {
-    let port = PortAddr {
-        client: ClientId::new(client).ok_or("a client number")?,
-        port: PortNo::new(0).ok_or("a port number")?,
-    };
-    let bytes = log.port_bytes(port)?;
+    let bytes = log.port_bytes(port_0_of(client)?)?;
     assert!(rt; bytes.as_slice() == wanted);
     Ok(())
+}
+
+pub fn port_0_of(client: u8) -> Result<PortAddr, Fail> {
+    Ok(PortAddr {
+        client: ClientId::new(client).ok_or("a client number")?,
+        port: PortNo::new(0).ok_or("a port number")?,
+    })
 }

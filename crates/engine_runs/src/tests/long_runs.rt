@@ -1,36 +1,42 @@
 //! Runs with much in them.
 
 use super::lines::At::P;
-use super::lines::{ALL, Lines};
-use super::logs::{assert_bytes, assert_log, ran};
+use super::lines::Say::*;
+use super::lines::{ALL, Lines, Say};
+use super::logs::{assert_bytes, assert_log, port_0_of, ran_without_files};
+use super::sending::LISTENS;
 use agenda_heap::HeapAgenda;
 use seq_engine::*;
 use std::alloc::Global;
 use std::test::Fail;
+
+/// One note at each moment, which the listener takes.
+fn add_notes(lines: &mut Lines, count: u64) -> Result<(), Fail> {
+    for moment in 1..=count {
+        lines.by(128);
+        lines.say(moment, Send(0, b"\x90\x3C\x40"))?;
+        lines.by(129);
+        lines.say(moment, Receive(1))?;
+    }
+    Ok(())
+}
 
 /// A long run has all its replies and all its deliveries.
 #[test]
 fn a_hundred_thousand_notes(rt: HostRuntime) -> Result<(), Fail> {
     let alloc = rt.alloc();
     let mut lines = Lines::new(alloc);
-    lines.sender();
-    lines.listener();
-    for moment in 1..100_001 {
-        lines.by(128);
-        lines.send(moment, 0, b"\x90\x3C\x40");
-        lines.by(129);
-        lines.receive(moment, 1);
-    }
-    let inputs = lines.inputs()?;
+    lines.by(128);
+    lines.say_all(&[(0, Open("a", 8, 8)), (0, Port(0, "out", 33))])?;
+    lines.by(129);
+    lines.say_all(LISTENS)?;
+    add_notes(&mut lines, 100_000)?;
+    let inputs = lines.inputs();
     assert!(rt; is_timed(inputs, 100_000));
     let log = run(alloc, &[], HeapAgenda::new(alloc), inputs, 100_000)?;
     assert!(rt; log.entries.len() == 300_005);
-    let port = PortAddr {
-        client: ClientId::new(129).ok_or("a client number")?,
-        port: PortNo::new(0).ok_or("a port number")?,
-    };
     // The status of the first note, and two bytes of each.
-    assert!(rt; log.port_bytes(port)?.len() == 200_001);
+    assert!(rt; log.port_bytes(port_0_of(129)?)?.len() == 200_001);
     Ok(())
 }
 
@@ -44,34 +50,35 @@ fn ticks(alloc: Global, count: u64) -> Result<Vec<u8>, Fail> {
 }
 
 /// Ten thousand messages in one piece of bytes.
-fn flood_lines(alloc: Global, piece: &[u8]) -> Lines {
-    let mut lines = Lines::new(alloc);
-    lines.sender();
-    lines.bytes(1, 0, piece);
+fn add_flood(lines: &mut Lines, piece: Vec<u8>) -> Result<(), Fail> {
+    lines.by(128);
+    lines.say_all(&[(0, Open("a", 8, 8)), (0, Port(0, "out", 33))])?;
+    let port = PortNo::new(0).ok_or("a port number")?;
+    let bytes = Items::new(piece);
+    lines.give(1, Command::Bytes { port, bytes })?;
     lines.by(129);
-    lines.open(0, "b", 2000, 8);
-    lines.port(0, 0, "in", 66);
-    lines.connect(0, P(128, 0), P(129, 0));
-    lines.pools(2);
-    lines
+    lines.say_all(FLOODED)
 }
+
+/// Client 129 has room for two thousand.
+const FLOODED: &[(u64, Say)] = &[
+    (0, Open("b", 2000, 8)),
+    (0, Port(0, "in", 66)),
+    (0, Connect(P(128, 0), P(129, 0))),
+    (2, Pools),
+];
 
 /// A piece of bytes completes far more messages than the listener has room for.
 #[test]
 fn ten_thousand_messages_in_a_piece(rt: HostRuntime) -> Result<(), Fail> {
     let alloc = rt.alloc();
-    let piece = ticks(alloc, 10_000)?;
-    let log = ran(&rt, alloc, &flood_lines(alloc, piece.as_slice()), 2)?;
-    assert_log(
-        &rt,
-        alloc,
-        &log,
-        128,
-        "0 line 1 ok\n0 line 2 ok\n1 line 3 ok 10000\n",
-    )?;
+    let mut lines = Lines::new(alloc);
+    add_flood(&mut lines, ticks(alloc, 10_000)?)?;
+    let log = ran_without_files(&rt, alloc, &lines, 2)?;
+    let sent = "0 line 1 ok\n0 line 2 ok\n1 line 3 ok 10000\n";
+    assert_log(&rt, alloc, &log, 128, sent)?;
     assert!(rt; log.entries.len() == 2007);
-    let pools = log.entries.as_slice().last();
-    assert!(rt; is_pools(pools, 2000, 8000));
+    assert!(rt; is_pools(log.entries.as_slice().last(), 2000, 8000));
     assert_bytes(&rt, &log, 129, ticks(alloc, 2000)?.as_slice())
 }
 
@@ -89,20 +96,24 @@ fn is_pools(entry: Option<&LogEntry>, most: u32, dropped: u64) -> bool {
 }
 
 /// All clients, each with all ports, filters and queues.
-fn full_house(alloc: Global) -> Lines {
-    let mut lines = Lines::new(alloc);
+fn add_full_house(lines: &mut Lines) -> Result<(), Fail> {
     for client in 128..192 {
         lines.by(client);
-        lines.open(0, "c", 2000, 2000);
-        for number in 0..16 {
-            lines.port(0, number, "p", 99);
-            lines.filter(0, number, ALL);
-        }
-        for queue in 0..8 {
-            lines.queue(0, queue, 480, 500_000);
-        }
+        lines.say(0, Open("c", 2000, 2000))?;
+        add_full_client(lines)?;
     }
-    lines
+    Ok(())
+}
+
+fn add_full_client(lines: &mut Lines) -> Result<(), Fail> {
+    for number in 0..16 {
+        lines.say(0, Port(number, "p", 99))?;
+        lines.say(0, Filter(number, ALL))?;
+    }
+    for queue in 0..8 {
+        lines.say(0, Queue(queue, 480, 500_000))?;
+    }
+    Ok(())
 }
 
 /// The listing of the full house.
@@ -181,7 +192,9 @@ fn add_numbered(alloc: Global, text: &mut String, owned: &Owned, count: u8) -> R
 #[test]
 fn a_full_house(rt: HostRuntime) -> Result<(), Fail> {
     let alloc = rt.alloc();
-    let log = ran(&rt, alloc, &full_house(alloc), 0)?;
+    let mut lines = Lines::new(alloc);
+    add_full_house(&mut lines)?;
+    let log = ran_without_files(&rt, alloc, &lines, 0)?;
     assert!(rt; log.entries.len() == 64 * 41);
     assert!(rt; log.listing.as_slice() == full_listing(alloc)?.as_bytes());
     Ok(())
