@@ -122,18 +122,33 @@ pub(crate) fn run<'a>(
 ) -> Result<(), ProgramFault<'a>> {
     let alloc = rt.alloc();
     let session = Session::of_words(alloc, found)?;
-    let folder = Folder::read(rt, session.dir)?;
-    let opened = folder.open(rt)?;
     let mut logs = session.logs(alloc)?;
     let mut listing = MemSink::new(alloc, 0)?;
-    let files = named(&opened);
-    play(rt, &session, &files, logs.as_mut_slice(), &mut listing)?;
+    play_with_files(rt, &session, logs.as_mut_slice(), &mut listing)?;
     let listed = if found.get_flag("list") {
         Some(listing.bytes())
     } else {
         None
     };
     print(rt, session.scripts.as_slice(), logs.as_slice(), listed)
+}
+
+/// Opens the session's folder, and runs the scripts.
+fn play_with_files<'a>(
+    rt: &(impl Files + Eprint + AllocGlobal + Clone + Drop),
+    session: &Session<'a>,
+    logs: &mut [MemSink],
+    listing: &mut MemSink,
+) -> Result<(), ProgramFault<'a>>
+    requires rising { AreRising (owners session.now.scripts.items) }
+    requires as_many { length logs.old ≡ length session.now.scripts.items }
+    requires open { AreOpen (λ l. l.broken) logs.old }
+    requires listing { listing.old.broken ≡ false }
+    ensures { OnOk result (length logs.new ≡ length logs.old) }
+{
+    let folder = Folder::read(rt, session.dir)?;
+    let opened = folder.open(rt)?;
+    play(rt, session, &named(&opened), logs, listing)
 }
 
 /// Runs the scripts into logs and a listing.
@@ -190,18 +205,28 @@ pub(crate) fn record<'a>(
     rt: &(impl Files + Eprint + AllocGlobal + Clone + Drop),
     found: &ArgMatches<'a>,
 ) -> Result<(), ProgramFault<'a>> {
-    let alloc = rt.alloc();
-    let session = Session::of_words(alloc, found)?;
+    let session = Session::of_words(rt.alloc(), found)?;
     let word = found.get_str("port").unwrap_or("");
     let Some(port) = port_named(word) else {
         return Err(ProgramFault::NotAPort(word));
     };
+    let bytes = record_port(rt, &session, port, found.get_flag("raw"))?;
+    write_file(rt, found.get_str("out").unwrap_or(""), bytes.as_slice())
+}
+
+/// Opens the session's folder, runs the scripts, and gives what came to a port.
+fn record_port<'a>(
+    rt: &(impl Files + Eprint + AllocGlobal + Clone + Drop),
+    session: &Session<'a>,
+    port: PortAddr,
+    raw: bool,
+) -> Result<Vec<u8>, ProgramFault<'a>>
+    requires rising { AreRising (owners session.now.scripts.items) }
+{
     let folder = Folder::read(rt, session.dir)?;
     let opened = folder.open(rt)?;
-    let files = named(&opened);
-    let log = play_unlogged(rt, &session, &files)?;
-    let bytes = recorded(alloc, &log, port, found.get_flag("raw"))?;
-    write_file(rt, found.get_str("out").unwrap_or(""), bytes.as_slice())
+    let log = play_unlogged(rt, session, &named(&opened))?;
+    Ok(recorded(rt.alloc(), &log, port, raw)?)
 }
 
 /// Runs the scripts without logs.

@@ -119,54 +119,42 @@ Example:
 
 /// The program's subcommands with their words.
 pub(crate) fn command<'a>(alloc: Global) -> Result<Command<'a>, AllocError> {
-    Command::new(alloc, "midiseq")
+    let program = Command::new(alloc, "midiseq")
         .about("A MIDI sequencer and patchbay: clients share it, and none disturbs another")
         .version(VERSION)
         .after_help(EXAMPLES)
         .subcommand(run(alloc)?)?
-        .subcommand(record(alloc)?)?
+        .subcommand(record(alloc)?)?;
+    with_tools(alloc, program)
+}
+
+/// Adds the tools for streams and files.
+fn with_tools<'a>(alloc: Global, program: Command<'a>) -> Result<Command<'a>, AllocError> {
+    program
         .subcommand(thru(alloc)?)?
         .subcommand(wire(alloc)?)?
         .subcommand(dump(alloc)?)
 }
 
 fn run<'a>(alloc: Global) -> Result<Command<'a>, AllocError> {
-    let list = Arg::new(alloc, "list")
-        .long("list")
-        .action(ArgAction::SetTrue)
-        .help("print who is there at the end, too");
     Command::new(alloc, "run")
         .about("Runs the scripts of clients together, and prints what each client hears")
         .after_help(RUN_HELP)
         .arg(until(alloc))?
         .arg(dir(alloc))?
-        .arg(list)?
+        .arg(list(alloc))?
         .arg(scripts(alloc))
 }
 
 fn record<'a>(alloc: Global) -> Result<Command<'a>, AllocError> {
-    let raw = Arg::new(alloc, "raw")
-        .long("raw")
-        .action(ArgAction::SetTrue)
-        .help("write the messages as one MIDI stream, and not as a file");
-    let port = Arg::new(alloc, "port")
-        .long("port")
-        .required(true)
-        .value_name("CLIENT:N")
-        .help("the port whose messages are recorded, as 129:0");
-    let out = Arg::new(alloc, "out")
-        .long("out")
-        .required(true)
-        .value_name("FILE")
-        .help("the file that is written");
     Command::new(alloc, "record")
         .about("Runs the scripts of clients together, and writes what comes to one port to a file")
         .after_help(RECORD_HELP)
         .arg(until(alloc))?
         .arg(dir(alloc))?
-        .arg(raw)?
-        .arg(port)?
-        .arg(out)?
+        .arg(raw(alloc))?
+        .arg(port(alloc))?
+        .arg(out(alloc))?
         .arg(scripts(alloc))
 }
 
@@ -182,6 +170,36 @@ fn dir<'a>(alloc: Global) -> Arg<'a> {
     Arg::new(alloc, "dir").long("dir").value_name("D").help(
         "the folder whose Standard MIDI Files (.mid) scripts may play",
     )
+}
+
+fn list<'a>(alloc: Global) -> Arg<'a> {
+    Arg::new(alloc, "list")
+        .long("list")
+        .action(ArgAction::SetTrue)
+        .help("print who is there at the end, too")
+}
+
+fn raw<'a>(alloc: Global) -> Arg<'a> {
+    Arg::new(alloc, "raw")
+        .long("raw")
+        .action(ArgAction::SetTrue)
+        .help("write the messages as one MIDI stream, and not as a file")
+}
+
+fn port<'a>(alloc: Global) -> Arg<'a> {
+    Arg::new(alloc, "port")
+        .long("port")
+        .required(true)
+        .value_name("CLIENT:N")
+        .help("the port whose messages are recorded, as 129:0")
+}
+
+fn out<'a>(alloc: Global) -> Arg<'a> {
+    Arg::new(alloc, "out")
+        .long("out")
+        .required(true)
+        .value_name("FILE")
+        .help("the file that is written")
 }
 
 fn scripts<'a>(alloc: Global) -> Arg<'a> {

@@ -18,12 +18,7 @@ use std::process::Abort;
 use std::test::Fail;
 
 /// All hear what was worked out, and client 129 the same as of its circle alone.
-fn assert_alone(
-    rt: &impl Abort,
-    alloc: Global,
-    run: &Run,
-    circle: &[u8],
-) -> Result<(), Fail> {
+fn assert_alone(rt: &impl Abort, alloc: Global, run: &Run, circle: &[u8]) -> Result<(), Fail> {
     let mut lines = Lines::of(alloc, run.parts)?;
     lines.only(circle);
     let alone = ran_without_files(rt, alloc, &lines, run.until)?;
@@ -34,12 +29,7 @@ fn assert_alone(
 }
 
 /// Client 129 hears the same of both.
-fn assert_same(
-    rt: &impl Abort,
-    alloc: Global,
-    log: &RunLog,
-    alone: &RunLog,
-) -> Result<(), Fail> {
+fn assert_same(rt: &impl Abort, alloc: Global, log: &RunLog, alone: &RunLog) -> Result<(), Fail> {
     let heard = heard_by(alloc, alone, 129)?;
     assert_log(rt, alloc, log, 129, heard.as_str())?;
     let bytes = alone.port_bytes(port_0_of(129)?)?;

@@ -51,6 +51,7 @@ pub enum Say {
     Receive(u32),
     Pools,
 }
+
 use self::Say::*;
 
 /// The filter that lets all pass as it came.
