@@ -5,6 +5,7 @@ use node_table::{Addr, Caps, ClientId, FilterNo, Node, PortNo, QueueAddr, QueueN
 use route_filter::{Rule, RuleArgs};
 use seq_state::Arrival;
 use std::alloc::Global;
+use std::process::Abort;
 use std::test::Fail;
 use tempo_clock::{TempoEntry, TempoMap};
 
@@ -33,8 +34,12 @@ fn one_client(alloc: Global) -> Result<Clients, Fail> {
 
 #[test]
 fn a_client_opens_and_closes(rt: HostRuntime) -> Result<(), Fail> {
-    let one = client(128)?;
     let mut clients = one_client(rt.alloc())?;
+    assert_opened_and_closed(&rt, &mut clients)
+}
+
+fn assert_opened_and_closed(rt: &impl Abort, clients: &mut Clients) -> Result<(), Fail> {
+    let one = client(128)?;
     assert!(rt; clients.is_open(one));
     assert!(rt; !clients.is_open(client(129)?));
     assert!(rt; clients.name(one) == Some(b"synth".as_slice()));
@@ -57,9 +62,13 @@ fn make_port(clients: &mut Clients, one: ClientId, number: PortNo) -> Result<(),
 
 #[test]
 fn ports_are_made_and_dropped(rt: HostRuntime) -> Result<(), Fail> {
-    let one = client(128)?;
     let mut clients = one_client(rt.alloc())?;
-    make_port(&mut clients, one, port(15)?)?;
+    assert_ports(&rt, &mut clients)
+}
+
+fn assert_ports(rt: &impl Abort, clients: &mut Clients) -> Result<(), Fail> {
+    let one = client(128)?;
+    make_port(clients, one, port(15)?)?;
     assert!(rt; clients.has_port(one, port(15)?));
     assert!(rt; !clients.has_port(one, port(0)?));
     assert!(rt; clients.port_name(one, port(15)?) == Some(b"out".as_slice()));
@@ -102,13 +111,17 @@ fn change_filter(clients: &mut Clients, one: ClientId, number: FilterNo) -> Resu
 
 #[test]
 fn filters_have_rules(rt: HostRuntime) -> Result<(), Fail> {
-    let one = client(128)?;
     let mut clients = one_client(rt.alloc())?;
-    make_filter(&mut clients, one, filter(3)?)?;
+    assert_filters(&rt, &mut clients)
+}
+
+fn assert_filters(rt: &impl Abort, clients: &mut Clients) -> Result<(), Fail> {
+    let one = client(128)?;
+    make_filter(clients, one, filter(3)?)?;
     assert!(rt; clients.has_filter(one, filter(3)?));
     assert!(rt; !clients.has_port(one, port(3)?));
     assert!(rt; clients.rule(one, filter(3)?).map(|r| r.args().kinds) == Some(1));
-    change_filter(&mut clients, one, filter(3)?)?;
+    change_filter(clients, one, filter(3)?)?;
     assert!(rt; clients.rule(one, filter(3)?).map(|r| r.args().kinds) == Some(2));
     clients.delete_filter(one, filter(3)?);
     assert!(rt; clients.rule(one, filter(3)?).is_none());
@@ -130,15 +143,19 @@ fn fed(
 
 #[test]
 fn streams_go_on_between_pieces(rt: HostRuntime) -> Result<(), Fail> {
-    let one = client(128)?;
     let mut clients = one_client(rt.alloc())?;
-    make_port(&mut clients, one, port(0)?)?;
-    let mut out = Vec::new(rt.alloc());
-    assert!(rt; fed(&mut clients, one, &[0x90, 60], &mut out)? == 0);
-    assert!(rt; fed(&mut clients, one, &[], &mut out)? == 0);
+    assert_streams(&rt, rt.alloc(), &mut clients)
+}
+
+fn assert_streams(rt: &impl Abort, alloc: Global, clients: &mut Clients) -> Result<(), Fail> {
+    let one = client(128)?;
+    make_port(clients, one, port(0)?)?;
+    let mut out = Vec::new(alloc);
+    assert!(rt; fed(clients, one, &[0x90, 60], &mut out)? == 0);
+    assert!(rt; fed(clients, one, &[], &mut out)? == 0);
     // Running status: the second note has no status of its own.
-    assert!(rt; fed(&mut clients, one, &[64, 62, 64], &mut out)? == 2);
-    let mut bytes = Vec::new(rt.alloc());
+    assert!(rt; fed(clients, one, &[64, 62, 64], &mut out)? == 2);
+    let mut bytes = Vec::new(alloc);
     for message in out.iter() {
         message.append_to(&mut bytes)?;
     }
@@ -171,9 +188,13 @@ fn shown(clients: &Clients, addr: &QueueAddr, moment: u64) -> Option<(bool, u64)
 
 #[test]
 fn queues_are_made_and_shared(rt: HostRuntime) -> Result<(), Fail> {
-    let one = client(128)?;
     let mut clients = one_client(rt.alloc())?;
-    make_queue(&mut clients, rt.alloc(), one, queue(7)?)?;
+    assert_queues(&rt, rt.alloc(), &mut clients)
+}
+
+fn assert_queues(rt: &impl Abort, alloc: Global, clients: &mut Clients) -> Result<(), Fail> {
+    let one = client(128)?;
+    make_queue(clients, alloc, one, queue(7)?)?;
     assert!(rt; clients.has_queue(one, queue(7)?));
     assert!(rt; !clients.has_queue(one, queue(0)?));
     let addr = queue_addr(7)?;
@@ -228,24 +249,32 @@ fn set_tempo(clients: &mut Clients, addr: &QueueAddr, moment: u64) -> Result<(),
 #[test]
 fn queues_run(rt: HostRuntime) -> Result<(), Fail> {
     let mut clients = one_client(rt.alloc())?;
-    make_queue(&mut clients, rt.alloc(), client(128)?, queue(0)?)?;
+    assert_queue_runs(&rt, rt.alloc(), &mut clients)
+}
+
+fn assert_queue_runs(rt: &impl Abort, alloc: Global, clients: &mut Clients) -> Result<(), Fail> {
+    make_queue(clients, alloc, client(128)?, queue(0)?)?;
     let addr = queue_addr(0)?;
-    assert!(rt; shown(&clients, &addr, 5) == Some((false, 0)));
-    start(&mut clients, &addr, 10)?;
-    assert!(rt; shown(&clients, &addr, 30) == Some((true, 20)));
-    stop(&mut clients, &addr, 110)?;
-    assert!(rt; shown(&clients, &addr, 399) == Some((false, 100)));
-    resume(&mut clients, &addr, 400)?;
-    assert!(rt; shown(&clients, &addr, 500) == Some((true, 200)));
+    assert!(rt; shown(clients, &addr, 5) == Some((false, 0)));
+    start(clients, &addr, 10)?;
+    assert!(rt; shown(clients, &addr, 30) == Some((true, 20)));
+    stop(clients, &addr, 110)?;
+    assert!(rt; shown(clients, &addr, 399) == Some((false, 100)));
+    resume(clients, &addr, 400)?;
+    assert!(rt; shown(clients, &addr, 500) == Some((true, 200)));
     Ok(())
 }
 
 #[test]
 fn a_tempo_is_set(rt: HostRuntime) -> Result<(), Fail> {
     let mut clients = one_client(rt.alloc())?;
-    make_queue(&mut clients, rt.alloc(), client(128)?, queue(0)?)?;
+    assert_tempo(&rt, rt.alloc(), &mut clients)
+}
+
+fn assert_tempo(rt: &impl Abort, alloc: Global, clients: &mut Clients) -> Result<(), Fail> {
+    make_queue(clients, alloc, client(128)?, queue(0)?)?;
     let addr = queue_addr(0)?;
-    set_tempo(&mut clients, &addr, 0)?;
+    set_tempo(clients, &addr, 0)?;
     // 96 ticks last as long as a quarter note does.
     let nanos = clients.queue(&addr).map(|q| q.clock().map().nanos_at(96));
     assert!(rt; nanos == Some(250_000_000));
@@ -264,15 +293,19 @@ fn arrival(alloc: Global, moment: u64) -> Result<Arrival, Fail> {
 
 #[test]
 fn pools_fill_and_drain(rt: HostRuntime) -> Result<(), Fail> {
-    let one = client(128)?;
     let mut clients = one_client(rt.alloc())?;
-    assert!(rt; clients.offer(one, arrival(rt.alloc(), 10)?));
-    assert!(rt; clients.offer(one, arrival(rt.alloc(), 20)?));
-    assert!(rt; !clients.offer(one, arrival(rt.alloc(), 30)?));
+    assert_pools(&rt, rt.alloc(), &mut clients)
+}
+
+fn assert_pools(rt: &impl Abort, alloc: Global, clients: &mut Clients) -> Result<(), Fail> {
+    let one = client(128)?;
+    assert!(rt; clients.offer(one, arrival(alloc, 10)?));
+    assert!(rt; clients.offer(one, arrival(alloc, 20)?));
+    assert!(rt; !clients.offer(one, arrival(alloc, 30)?));
     assert!(rt; (clients.waiting(one), clients.lost(one)) == (2, 1));
     let taken = clients.receive(one, 1)?;
     assert!(rt; taken.as_slice().first().map(|a| a.moment) == Some(10));
     assert!(rt; (clients.waiting(one), clients.lost(one)) == (1, 1));
-    assert!(rt; !clients.offer(client(129)?, arrival(rt.alloc(), 40)?));
+    assert!(rt; !clients.offer(client(129)?, arrival(alloc, 40)?));
     Ok(())
 }
