@@ -29,6 +29,3 @@ pub use source::Source;
 pub use std_sink::StdSink;
 pub use std_source::StdSource;
 pub use transfer::{read_to, write_all};
-
-#[cfg(test)]
-mod tests;

@@ -7,8 +7,6 @@ mod key;
 mod laws;
 mod pool;
 mod store;
-#[cfg(test)]
-mod tests;
 
 pub use fault::{PoolFault, PutFault};
 pub use key::CellKey;

@@ -9,8 +9,6 @@ mod kind;
 mod message;
 mod parser;
 mod status;
-#[cfg(test)]
-mod tests;
 mod writer;
 
 ghost use Rattle.midi_wire.specs.Rows.{RunningStatus, RealTimeInside, EndedByAnother, EndedByTune, TuneEndsRunning, UnusedEndsRunning, StillMatters, RunningStatusWritten, WrittenBack, TwoStatusesWritten};

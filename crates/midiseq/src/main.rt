@@ -1,13 +1,12 @@
 //! `midiseq`: a MIDI sequencer and patchbay on the command line.
 #![tactic(auto)]
 
-mod folder;
-mod sessions;
 mod words;
 
 use byte_io::{StdSink, StdSource};
 use clap::ArgMatches;
 use clap::error::ErrorKind;
+use session_files::SessionWords;
 use std::alloc::{AllocError, Global};
 use std::process::ExitCode;
 use std::rt::{Env, Files};
@@ -90,8 +89,8 @@ fn subcommand<'a>(
     found: &ArgMatches<'a>,
 ) -> Result<ExitCode, ProgramFault<'a>> {
     match name {
-        "run" => sessions::run(rt, found)?,
-        "record" => sessions::record(rt, found)?,
+        "run" => session_files::run(rt, &session_words(found), found.get_flag("list"))?,
+        "record" => record(rt, found)?,
         _ => {
             let file = found.get_str("FILE").unwrap_or(STANDARD);
             let Some(task) = Task::of_words(name, file) else {
@@ -101,6 +100,25 @@ fn subcommand<'a>(
         }
     }
     Ok(ExitCode::SUCCESS)
+}
+
+/// What the words of `run` and `record` say alike.
+fn session_words<'w, 'a>(found: &'w ArgMatches<'a>) -> SessionWords<'w, 'a> {
+    SessionWords {
+        until: found.get_str("until").unwrap_or(""),
+        dir: found.get_str("dir"),
+        scripts: found.get_strs("CLIENT=PATH").unwrap_or(&[]),
+    }
+}
+
+/// Does what the words of `record` say.
+fn record<'a>(
+    rt: &(impl Files + Eprint + AllocGlobal + Clone + Drop),
+    found: &ArgMatches<'a>,
+) -> Result<(), ProgramFault<'a>> {
+    let port = found.get_str("port").unwrap_or("");
+    let out = found.get_str("out").unwrap_or("");
+    session_files::record(rt, &session_words(found), port, found.get_flag("raw"), out)
 }
 
 /// Gives a tool its stream, and prints on standard output.

@@ -11,8 +11,6 @@ mod name;
 mod number;
 mod place;
 mod table;
-#[cfg(test)]
-mod tests;
 
 pub use caps::{Caps, permitted};
 pub use fault::{CreateFault, OpenFault};

@@ -9,8 +9,6 @@ mod laws;
 mod path;
 mod removal;
 mod route;
-#[cfg(test)]
-mod tests;
 
 pub use edge::Edge;
 pub use fault::EdgeFault;

@@ -2,8 +2,6 @@
 #![tactic(auto)]
 
 mod recording;
-#[cfg(test)]
-mod tests;
 
 pub use recording::record_file;
 pub use smf_files::WriteFault;

@@ -7,8 +7,6 @@ mod chain;
 mod laws;
 mod rule;
 mod rule_args;
-#[cfg(test)]
-mod tests;
 mod voice;
 
 pub use laws::{

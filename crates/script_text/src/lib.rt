@@ -8,8 +8,6 @@ mod number;
 mod reading;
 mod rows;
 mod script;
-#[cfg(test)]
-mod tests;
 mod unread;
 mod words;
 

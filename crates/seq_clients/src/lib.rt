@@ -13,8 +13,6 @@ mod queues;
 mod row;
 mod rows;
 mod slots;
-#[cfg(test)]
-mod tests;
 
 pub use clients::Clients;
 pub use queue::Queue;

@@ -5,8 +5,6 @@ mod carried;
 mod listing;
 mod patchbay;
 mod sending;
-#[cfg(test)]
-mod tests;
 mod ways;
 
 pub use patchbay::Patchbay;

@@ -24,6 +24,3 @@ pub use playing::Playing;
 pub use rekeying::rekey_all;
 pub use settling::settle_all;
 pub use which::Which;
-
-#[cfg(test)]
-mod tests;

@@ -9,8 +9,6 @@ mod input;
 mod laws;
 mod log;
 mod refusal;
-#[cfg(test)]
-mod tests;
 
 pub use input::{Command, DueAt, Input};
 pub use laws::{

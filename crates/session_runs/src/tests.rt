@@ -1,4 +1,4 @@
-//! Sessions through the public calls.
+//! Sessions and scripts, through the public calls.
 
 mod devices;
 mod failing_devices;
@@ -6,6 +6,7 @@ mod files;
 mod patching;
 mod pieces;
 mod queues;
+mod scripts;
 mod sending;
 mod session;
 mod size_limits;

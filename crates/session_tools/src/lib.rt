@@ -4,8 +4,6 @@
 mod folder;
 mod logs;
 mod opening;
-#[cfg(test)]
-mod tests;
 mod words;
 
 pub use folder::{midi_files, taken_files};

@@ -8,8 +8,6 @@ mod file;
 mod heads;
 mod place;
 mod playable;
-#[cfg(test)]
-mod tests;
 mod track;
 mod write;
 

@@ -18,6 +18,3 @@ pub use laws::{
 };
 pub use memory::OutOfMemory;
 pub use tempo_map::{MOST_PPQ, MOST_TEMPO, TempoMap, is_ppq, is_tempo};
-
-#[cfg(test)]
-mod tests;

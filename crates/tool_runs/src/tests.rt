@@ -3,4 +3,5 @@
 mod dump;
 mod failing_devices;
 mod faults;
+mod sessions;
 mod streams;

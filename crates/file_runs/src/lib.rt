@@ -1,0 +1,6 @@
+//! Tests of streams, tempo maps and Standard MIDI Files, through the public calls of their crates. Nothing stands on
+//! this crate, so that its tests and those crates are proved side by side, and none of these twice.
+#![tactic(auto)]
+
+#[cfg(test)]
+mod tests;

@@ -1,0 +1,6 @@
+//! Streams, tempo maps and files, through their public calls.
+
+mod devices;
+mod files;
+mod tempo;
+mod wire;

@@ -1,0 +1,291 @@
+//! Worked rules.
+
+use midi_wire::{Message, WireFault};
+use route_filter::{Rule, RuleArgs};
+use std::alloc::Global;
+
+/// Note on of channel 0, from note 60 to 72, an octave up.
+const OCTAVE_UP: RuleArgs = RuleArgs {
+    channels: 1,
+    kinds: 2,
+    low: 60,
+    high: 72,
+    shift: 12,
+    channel: None,
+};
+
+/// All of channel 0, to channel 9.
+const TO_CHANNEL_NINE: RuleArgs = RuleArgs {
+    channels: 1,
+    kinds: 1023,
+    low: 0,
+    high: 127,
+    shift: 0,
+    channel: Some(9),
+};
+
+/// All messages, unchanged.
+const OPEN: RuleArgs = RuleArgs {
+    channels: 65535,
+    kinds: 1023,
+    low: 0,
+    high: 127,
+    shift: 0,
+    channel: None,
+};
+
+/// Whether a rule with these arguments makes `expected` of a message; nothing is expected of one that is dropped.
+fn makes(alloc: Global, args: RuleArgs, bytes: &[u8], expected: &[u8]) -> Result<bool, WireFault> {
+    let Some(rule) = Rule::new(args) else {
+        return Ok(false);
+    };
+    let Some(message) = Message::from_bytes(alloc, bytes)? else {
+        return Ok(false);
+    };
+    let mut out = Vec::new(alloc);
+    if let Some(passed) = rule.pass(message) {
+        passed.append_to(&mut out)?;
+    }
+    Ok(out.as_slice() == expected)
+}
+
+/// Whether the rule of the one and then the next makes `expected` of a message.
+fn makes_both(
+    alloc: Global,
+    one: RuleArgs,
+    next: RuleArgs,
+    bytes: &[u8],
+    expected: &[u8],
+) -> Result<bool, WireFault> {
+    let Some(one) = Rule::new(one) else {
+        return Ok(false);
+    };
+    let Some(next) = Rule::new(next) else {
+        return Ok(false);
+    };
+    makes(alloc, one.then(&next).args(), bytes, expected)
+}
+
+#[test]
+fn octave_up(rt: HostRuntime) -> Result<(), WireFault> {
+    let alloc = rt.alloc();
+    assert!(rt; makes(alloc, OCTAVE_UP, &[0x90, 0x3C, 0x40], &[0x90, 0x48, 0x40])?);
+    assert!(rt; makes(alloc, OCTAVE_UP, &[0x91, 0x3C, 0x40], &[])?);
+    assert!(rt; makes(alloc, OCTAVE_UP, &[0x90, 0x3B, 0x40], &[])?);
+    assert!(rt; makes(alloc, OCTAVE_UP, &[0x80, 0x3C, 0x40], &[])?);
+    assert!(rt; makes(alloc, OCTAVE_UP, &[0xF8], &[])?);
+    let with_real_time = RuleArgs {
+        kinds: 258,
+        ..OCTAVE_UP
+    };
+    assert!(rt; makes(alloc, with_real_time, &[0xF8], &[0xF8])?);
+    Ok(())
+}
+
+#[test]
+fn to_channel_nine(rt: HostRuntime) -> Result<(), WireFault> {
+    let alloc = rt.alloc();
+    assert!(rt;
+        makes(
+            alloc,
+            TO_CHANNEL_NINE,
+            &[0x90, 0x3C, 0x40],
+            &[0x99, 0x3C, 0x40]
+        )?
+    );
+    assert!(rt;
+        makes(
+            alloc,
+            TO_CHANNEL_NINE,
+            &[0xE0, 0x00, 0x40],
+            &[0xE9, 0x00, 0x40]
+        )?
+    );
+    assert!(rt; makes(alloc, TO_CHANNEL_NINE, &[0x91, 0x3C, 0x40], &[])?);
+    assert!(rt; makes(alloc, TO_CHANNEL_NINE, &[0xF8], &[0xF8])?);
+    assert!(rt; makes(alloc, TO_CHANNEL_NINE, &[0xF6], &[0xF6])?);
+    assert!(rt; makes(alloc, TO_CHANNEL_NINE, &[0xC0, 0x05], &[0xC9, 0x05])?);
+    assert!(rt;
+        makes(
+            alloc,
+            TO_CHANNEL_NINE,
+            &[0xF0, 0x7D, 0xF7],
+            &[0xF0, 0x7D, 0xF7]
+        )?
+    );
+    Ok(())
+}
+
+#[test]
+fn notes_are_dropped(rt: HostRuntime) -> Result<(), WireFault> {
+    let alloc = rt.alloc();
+    let up = RuleArgs {
+        shift: 7,
+        ..TO_CHANNEL_NINE
+    };
+    assert!(rt; makes(alloc, up, &[0x90, 0x7D, 0x40], &[])?);
+    let down = RuleArgs {
+        shift: -61,
+        ..TO_CHANNEL_NINE
+    };
+    assert!(rt; makes(alloc, down, &[0x90, 0x3C, 0x40], &[])?);
+    assert!(rt; makes(alloc, down, &[0x90, 0x3D, 0x40], &[0x99, 0x00, 0x40])?);
+    Ok(())
+}
+
+#[test]
+fn rules_are_tested(rt: HostRuntime) {
+    let refused = [
+        RuleArgs {
+            channel: Some(16),
+            ..OCTAVE_UP
+        },
+        RuleArgs {
+            kinds: 1024,
+            ..OCTAVE_UP
+        },
+        RuleArgs {
+            low: 73,
+            ..OCTAVE_UP
+        },
+        RuleArgs {
+            high: 128,
+            ..OCTAVE_UP
+        },
+        RuleArgs {
+            shift: -128,
+            ..OCTAVE_UP
+        },
+    ];
+    for args in refused {
+        assert!(rt; Rule::new(args).is_none());
+    }
+    let empty = RuleArgs {
+        channels: 0,
+        kinds: 0,
+        ..TO_CHANNEL_NINE
+    };
+    assert!(rt; Rule::new(empty).is_some_and(|rule| rule.args() == empty));
+}
+
+#[test]
+fn two_octaves_up(rt: HostRuntime) -> Result<(), WireFault> {
+    let alloc = rt.alloc();
+    // Of the notes 60 to 72, which go to 72 to 84, the second takes 72 alone.
+    assert!(rt;
+        makes_both(
+            alloc,
+            OCTAVE_UP,
+            OCTAVE_UP,
+            &[0x90, 60, 0x40],
+            &[0x90, 84, 0x40]
+        )?
+    );
+    assert!(rt; makes_both(alloc, OCTAVE_UP, OCTAVE_UP, &[0x90, 61, 0x40], &[])?);
+    assert!(rt; makes_both(alloc, OCTAVE_UP, OCTAVE_UP, &[0x90, 59, 0x40], &[])?);
+    assert!(rt; makes_both(alloc, OCTAVE_UP, OCTAVE_UP, &[0x91, 60, 0x40], &[])?);
+    assert!(rt; makes_both(alloc, OCTAVE_UP, OCTAVE_UP, &[0x80, 60, 0x40], &[])?);
+    Ok(())
+}
+
+#[test]
+fn channel_is_given_first(rt: HostRuntime) -> Result<(), WireFault> {
+    let alloc = rt.alloc();
+    let nine = RuleArgs {
+        channels: 512,
+        ..OPEN
+    };
+    assert!(rt;
+        makes_both(
+            alloc,
+            TO_CHANNEL_NINE,
+            nine,
+            &[0x90, 60, 0x40],
+            &[0x99, 60, 0x40]
+        )?
+    );
+    assert!(rt; makes_both(alloc, TO_CHANNEL_NINE, nine, &[0x99, 60, 0x40], &[])?);
+    let nine_to_three = RuleArgs {
+        channel: Some(3),
+        ..nine
+    };
+    assert!(rt;
+        makes_both(
+            alloc,
+            TO_CHANNEL_NINE,
+            nine_to_three,
+            &[0xC0, 5],
+            &[0xC3, 5]
+        )?
+    );
+    assert!(rt; makes_both(alloc, nine_to_three, OPEN, &[0xC9, 5], &[0xC3, 5])?);
+    Ok(())
+}
+
+#[test]
+fn given_channel_is_refused(rt: HostRuntime) -> Result<(), WireFault> {
+    let alloc = rt.alloc();
+    let zero = RuleArgs {
+        channels: 1,
+        ..OPEN
+    };
+    assert!(rt; makes_both(alloc, TO_CHANNEL_NINE, zero, &[0x90, 60, 0x40], &[])?);
+    assert!(rt; makes_both(alloc, TO_CHANNEL_NINE, zero, &[0xE0, 0, 0x40], &[])?);
+    assert!(rt; makes_both(alloc, TO_CHANNEL_NINE, zero, &[0xF8], &[0xF8])?);
+    Ok(())
+}
+
+#[test]
+fn no_note_is_left(rt: HostRuntime) -> Result<(), WireFault> {
+    let alloc = rt.alloc();
+    let up = RuleArgs { shift: 100, ..OPEN };
+    assert!(rt; makes_both(alloc, up, up, &[0x90, 0, 0x40], &[])?);
+    assert!(rt; makes_both(alloc, up, up, &[0x80, 27, 0x40], &[])?);
+    assert!(rt; makes_both(alloc, up, up, &[0xA0, 127, 0x40], &[])?);
+    assert!(rt; makes_both(alloc, up, up, &[0xE0, 0, 0x40], &[0xE0, 0, 0x40])?);
+    Ok(())
+}
+
+#[test]
+fn shift_leaves_the_next_range(rt: HostRuntime) -> Result<(), WireFault> {
+    let alloc = rt.alloc();
+    let up = RuleArgs { shift: 50, ..OPEN };
+    let to_forty = RuleArgs { high: 40, ..OPEN };
+    assert!(rt; makes_both(alloc, up, to_forty, &[0x90, 0, 0x40], &[])?);
+    assert!(rt; makes_both(alloc, up, to_forty, &[0x90, 40, 0x40], &[])?);
+    assert!(rt; makes_both(alloc, up, to_forty, &[0xB0, 7, 100], &[0xB0, 7, 100])?);
+    let down = RuleArgs { shift: -50, ..OPEN };
+    let from_hundred = RuleArgs { low: 100, ..OPEN };
+    assert!(rt; makes_both(alloc, down, from_hundred, &[0x90, 127, 0x40], &[])?);
+    Ok(())
+}
+
+#[test]
+fn range_is_shifted_back(rt: HostRuntime) -> Result<(), WireFault> {
+    let alloc = rt.alloc();
+    let up = RuleArgs { shift: 50, ..OPEN };
+    let next = RuleArgs {
+        low: 60,
+        high: 70,
+        shift: -5,
+        ..OPEN
+    };
+    assert!(rt; makes_both(alloc, up, next, &[0x90, 9, 0x40], &[])?);
+    assert!(rt; makes_both(alloc, up, next, &[0x90, 10, 0x40], &[0x90, 55, 0x40])?);
+    assert!(rt; makes_both(alloc, up, next, &[0x90, 20, 0x40], &[0x90, 65, 0x40])?);
+    assert!(rt; makes_both(alloc, up, next, &[0x90, 21, 0x40], &[])?);
+    Ok(())
+}
+
+#[test]
+fn first_shift_loses_notes(rt: HostRuntime) -> Result<(), WireFault> {
+    let alloc = rt.alloc();
+    let up = RuleArgs { shift: 100, ..OPEN };
+    let down = RuleArgs {
+        shift: -100,
+        ..OPEN
+    };
+    assert!(rt; makes_both(alloc, up, down, &[0x90, 27, 0x40], &[0x90, 27, 0x40])?);
+    assert!(rt; makes_both(alloc, up, down, &[0x90, 28, 0x40], &[])?);
+    Ok(())
+}
