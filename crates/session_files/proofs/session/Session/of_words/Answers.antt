@@ -1,8 +1,6 @@
-use Rattle.std.proofs.Common.{map, sym, subst}
-use Rattle.seq_session.specs.Rising.{AreRising}
-use Rattle.session_files.specs.Sessions.{owners}
+use Rattle.std.proofs.Common.{map}
 use Rattle.session_files.proofs.Rising.{owners-rise}
 use Rattle.session_files.proofs.session.Session.of_words.Goals as goal
 
 pub returns : goal.returns
-returns c = record { rising = owners-rise _ _ c.in_ok-scripts_named.ensures.scripts }
+returns c = record { rising = owners-rise _ (map (λ x. x.now) c.args.words.now.scripts.now) c.in_ok-scripts.ensures.scripts }
