@@ -89,7 +89,7 @@ fn subcommand<'a>(
     found: &ArgMatches<'a>,
 ) -> Result<ExitCode, ProgramFault<'a>> {
     match name {
-        "run" => session_files::run(rt, &session_words(found), found.get_flag("list"))?,
+        "run" => run(rt, found)?,
         "record" => record(rt, found)?,
         _ => {
             let file = found.get_str("FILE").unwrap_or(STANDARD);
@@ -103,12 +103,21 @@ fn subcommand<'a>(
 }
 
 /// What the words of `run` and `record` say alike.
-fn session_words<'w, 'a>(found: &'w ArgMatches<'a>) -> SessionWords<'w, 'a> {
+fn session_words<'a>(found: &ArgMatches<'a>) -> SessionWords<'a> {
     SessionWords {
         until: found.get_str("until").unwrap_or(""),
         dir: found.get_str("dir"),
-        scripts: found.get_strs("CLIENT=PATH").unwrap_or(&[]),
     }
+}
+
+/// Does what the words of `run` say.
+fn run<'a>(
+    rt: &(impl Files + Print + Eprint + AllocGlobal + Clone + Drop),
+    found: &ArgMatches<'a>,
+) -> Result<(), ProgramFault<'a>> {
+    let scripts = found.get_strs("CLIENT=PATH").unwrap_or(&[]);
+    let list = found.get_flag("list");
+    session_files::run(rt, session_words(found), scripts, list)
 }
 
 /// Does what the words of `record` say.
@@ -117,8 +126,10 @@ fn record<'a>(
     found: &ArgMatches<'a>,
 ) -> Result<(), ProgramFault<'a>> {
     let port = found.get_str("port").unwrap_or("");
+    let raw = found.get_flag("raw");
     let out = found.get_str("out").unwrap_or("");
-    session_files::record(rt, &session_words(found), port, found.get_flag("raw"), out)
+    let scripts = found.get_strs("CLIENT=PATH").unwrap_or(&[]);
+    session_files::record(rt, session_words(found), scripts, port, raw, out)
 }
 
 /// Gives a tool its stream, and prints on standard output.

@@ -37,14 +37,15 @@ fn named<'f, 'b>(opened: &'f FolderFiles<'b>) -> NamedFiles<'f, 'b>
     }
 }
 
-/// Runs the scripts, and prints each client's log and, where asked for, who is there at the end.
+/// Runs the scripts, named `CLIENT=PATH`, and prints each client's log and, where asked for, who is there at the end.
 pub fn run<'a>(
     rt: &(impl Files + Print + Eprint + AllocGlobal + Clone + Drop),
-    words: &SessionWords<'_, 'a>,
+    words: SessionWords<'a>,
+    scripts: &[&'a str],
     list: bool,
 ) -> Result<(), ProgramFault<'a>> {
     let alloc = rt.alloc();
-    let session = Session::of_words(alloc, words)?;
+    let session = Session::of_words(alloc, words, scripts)?;
     let mut logs = session.logs(alloc)?;
     let mut listing = MemSink::new(alloc, 0)?;
     play_with_files(rt, &session, logs.as_mut_slice(), &mut listing)?;
@@ -119,17 +120,19 @@ fn print(
     }
 }
 
-/// Runs the scripts, and writes what came to a port to a file: a Standard MIDI File, or with `raw` one MIDI stream.
+/// Runs the scripts, named `CLIENT=PATH`, and writes what came to a port to a file: a Standard MIDI File, or with `raw`
+/// one MIDI stream.
 ///
 /// The file is made once all else is done.
 pub fn record<'a>(
     rt: &(impl Files + Eprint + AllocGlobal + Clone + Drop),
-    words: &SessionWords<'_, 'a>,
+    words: SessionWords<'a>,
+    scripts: &[&'a str],
     port: &'a str,
     raw: bool,
     out: &'a str,
 ) -> Result<(), ProgramFault<'a>> {
-    let session = Session::of_words(rt.alloc(), words)?;
+    let session = Session::of_words(rt.alloc(), words, scripts)?;
     let Some(port) = port_named(port) else {
         return Err(ProgramFault::NotAPort(port));
     };

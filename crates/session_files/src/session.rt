@@ -13,15 +13,13 @@ use std::fs;
 use std::rt::Files;
 use tool_text::ProgramFault;
 
-/// What the command line says of a session, word by word.
+/// What the command line says of a session beside its scripts.
 #[derive(Clone, Copy, Debug)]
-pub struct SessionWords<'w, 'a> {
+pub struct SessionWords<'a> {
     /// The moment at which it ends, in nanoseconds from its beginning.
     pub until: &'a str,
     /// The folder whose Standard MIDI Files scripts may play, if one is named.
     pub dir: Option<&'a str>,
-    /// `CLIENT=PATH` for each script.
-    pub scripts: &'w [&'a str],
 }
 
 /// What is run: scripts until a moment.
@@ -37,14 +35,15 @@ impl<'a> Session<'a> {
     /// The session that words name, its scripts by client.
     pub(crate) fn of_words(
         alloc: Global,
-        words: &SessionWords<'_, 'a>,
+        words: SessionWords<'a>,
+        scripts: &[&'a str],
     ) -> Result<Session<'a>, ProgramFault<'a>>
         ensures rising { IfOk result (λ s. AreRising (owners s.scripts.items)) }
     {
         let Some(until) = until_named(words.until) else {
             return Err(ProgramFault::NotAMoment(words.until));
         };
-        let scripts = scripts_named(alloc, words.scripts)?;
+        let scripts = scripts_named(alloc, scripts)?;
         Ok(Session {
             until,
             dir: words.dir,

@@ -3,4 +3,4 @@ use Rattle.session_files.proofs.Rising.{owners-rise}
 use Rattle.session_files.proofs.session.Session.of_words.Goals as goal
 
 pub returns : goal.returns
-returns c = record { rising = owners-rise _ (map (λ x. x.now) c.args.words.now.scripts.now) c.in_ok-scripts.ensures.scripts }
+returns c = record { rising = owners-rise _ (map (λ x. x.now) c.args.scripts.now) c.in_ok-scripts.ensures.scripts }
