@@ -122,18 +122,21 @@ pub(crate) fn command<'a>(alloc: Global) -> Result<Command<'a>, AllocError> {
     let program = Command::new(alloc, "midiseq")
         .about("A MIDI sequencer and patchbay: clients share it, and none disturbs another")
         .version(VERSION)
-        .after_help(EXAMPLES)
-        .subcommand(run(alloc)?)?
-        .subcommand(record(alloc)?)?;
-    with_tools(alloc, program)
+        .after_help(EXAMPLES);
+    let program = with(program, run(alloc))?;
+    let program = with(program, record(alloc))?;
+    let program = with(program, thru(alloc))?;
+    let program = with(program, wire(alloc))?;
+    with(program, dump(alloc))
 }
 
-/// Adds the tools for streams and files.
-fn with_tools<'a>(alloc: Global, program: Command<'a>) -> Result<Command<'a>, AllocError> {
-    program
-        .subcommand(thru(alloc)?)?
-        .subcommand(wire(alloc)?)?
-        .subcommand(dump(alloc)?)
+/// Adds a subcommand.
+// Whoever adds several has nothing to drop where one finds no memory.
+fn with<'a>(
+    program: Command<'a>,
+    subcommand: Result<Command<'a>, AllocError>,
+) -> Result<Command<'a>, AllocError> {
+    program.subcommand(subcommand?)
 }
 
 fn run<'a>(alloc: Global) -> Result<Command<'a>, AllocError> {
