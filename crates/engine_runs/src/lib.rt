@@ -1,7 +1,6 @@
 //! Runs of the sequencer that were worked out by hand, through the public calls of `seq_engine` and under both agendas,
-//! and tests of its layers (`seq_state`, `seq_clients`, `seq_settle`, `seq_patchbay`) and of `port_record`, through their
-//! public calls. Nothing stands on this crate, so that its tests and those crates are proved side by side, and none of
-//! these twice.
+//! and tests of the layers from `seq_state` to `port_record`, through the public calls of each. Nothing stands on this
+//! crate, so that its tests and those crates are proved side by side, and none of these twice.
 #![tactic(auto)]
 
 mod agendas;

@@ -7,6 +7,7 @@ mod going;
 mod lines;
 mod logs;
 mod long_runs;
+mod making;
 mod patchbay;
 mod patching;
 mod queues;

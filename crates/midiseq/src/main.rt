@@ -1,12 +1,12 @@
 //! `midiseq`: a MIDI sequencer and patchbay on the command line.
 #![tactic(auto)]
 
+mod sessions;
 mod words;
 
 use byte_io::{StdSink, StdSource};
 use clap::ArgMatches;
 use clap::error::ErrorKind;
-use session_files::SessionWords;
 use std::alloc::{AllocError, Global};
 use std::process::ExitCode;
 use std::rt::{Env, Files};
@@ -89,8 +89,8 @@ fn subcommand<'a>(
     found: &ArgMatches<'a>,
 ) -> Result<ExitCode, ProgramFault<'a>> {
     match name {
-        "run" => run(rt, found)?,
-        "record" => record(rt, found)?,
+        "run" => sessions::run(rt, found)?,
+        "record" => sessions::record(rt, found)?,
         _ => {
             let file = found.get_str("FILE").unwrap_or(STANDARD);
             let Some(task) = Task::of_words(name, file) else {
@@ -100,36 +100,6 @@ fn subcommand<'a>(
         }
     }
     Ok(ExitCode::SUCCESS)
-}
-
-/// What the words of `run` and `record` say alike.
-fn session_words<'a>(found: &ArgMatches<'a>) -> SessionWords<'a> {
-    SessionWords {
-        until: found.get_str("until").unwrap_or(""),
-        dir: found.get_str("dir"),
-    }
-}
-
-/// Does what the words of `run` say.
-fn run<'a>(
-    rt: &(impl Files + Print + Eprint + AllocGlobal + Clone + Drop),
-    found: &ArgMatches<'a>,
-) -> Result<(), ProgramFault<'a>> {
-    let scripts = found.get_strs("CLIENT=PATH").unwrap_or(&[]);
-    let list = found.get_flag("list");
-    session_files::run(rt, session_words(found), scripts, list)
-}
-
-/// Does what the words of `record` say.
-fn record<'a>(
-    rt: &(impl Files + Eprint + AllocGlobal + Clone + Drop),
-    found: &ArgMatches<'a>,
-) -> Result<(), ProgramFault<'a>> {
-    let port = found.get_str("port").unwrap_or("");
-    let raw = found.get_flag("raw");
-    let out = found.get_str("out").unwrap_or("");
-    let scripts = found.get_strs("CLIENT=PATH").unwrap_or(&[]);
-    session_files::record(rt, session_words(found), scripts, port, raw, out)
 }
 
 /// Gives a tool its stream, and prints on standard output.

@@ -1,4 +1,4 @@
--- Lemmas on an agenda that a test drives.
+-- Lemmas on an agenda that is driven.
 use Rattle.std.proofs.Common.{◌≡◌, ◌≢◌, ◌<◌, ◌≤◌, ◌∙◌, ◌⊎◌, ℕ, Bool, true, false, Some, None, List, length, get_or, set, is_some, refl, ap, sym, subst, inl, inr}
 use Rattle.std.specs.Prelude.{Result, Ok, Err, OnOk, OnErr, ◌==◌, nat_le, replicate}
 use Rattle.std.specs.Ordering.{nat_cmp}

@@ -4,4 +4,5 @@ mod agendas;
 mod filters;
 mod graph;
 mod nodes;
+mod numbers;
 mod pools;

@@ -1,15 +1,20 @@
 -- What the subcommands that run scripts tell.
-use Rattle.std.specs.Prelude.{ℕ, List, map, Contains}
+use Rattle.std.specs.Prelude.{◌≡◌, ℕ, List, map, Contains}
 use Rattle.seq_session.specs.declared.fault.SessionFault.{SessionFault}
 use Rattle.seq_session.specs.declared.fault.SessionFault.TheVariants.{Read}
 use Rattle.session_tools.specs.declared.words.ScriptWord.{ScriptWord}
 use Rattle.session_tools.specs.Words.{scripts_seen}
 use Rattle.tool_text.specs.declared.program_fault.ProgramFault.{ProgramFault}
-use Rattle.tool_text.specs.declared.program_fault.ProgramFault.TheVariants.{OutOfMemory, CannotRead}
+use Rattle.tool_text.specs.declared.program_fault.ProgramFault.TheVariants.{OutOfMemory, CannotRead, NotAMoment}
 
 -- whose scripts they are
 abbrev pub owners : List ScriptWord → List ℕ
 owners scripts = map (λ s. s.client) scripts
+
+-- the fault that tells this word
+abbrev pub IsNotAMoment : List ℕ → ProgramFault → Type 0
+IsNotAMoment word (NotAMoment told) = told.now ≡ word
+IsNotAMoment word _ = ⊥
 
 -- A script that can't be read is told by its path, and all else is want of memory.
 abbrev pub IsToldAs : List ScriptWord → SessionFault → ProgramFault → Type 0

@@ -1,10 +1,12 @@
 //! The files of a folder, for a run to play.
 
-ghost use Rattle.std.specs.Prelude.{◌≡◌, ◌≤◌, length, take, map, string_bytes, IfOk};
+ghost use Rattle.std.specs.Prelude.{◌≡◌, ◌≤◌, [], None, length, take, map, string_bytes, IfOk};
 ghost use Rattle.script_text.specs.declared.script.TheConstants.{MOST_FILES};
 ghost use Rattle.session_tools.specs.Folder.{bytes_read, seen_files, AreOpened};
+ghost use Rattle.smf_grammar.specs.Played.{played};
 
 use byte_io::{Source, StdSource, read_to};
+use seq_session::NamedFiles;
 use session_tools::{FolderFiles, midi_files, open_files, taken_files};
 use std::alloc::Global;
 use std::fs;
@@ -17,20 +19,22 @@ const MOST_READ: usize = 16_777_217;
 
 /// The files of a folder, as they were read.
 #[derive(Drop)]
-pub(crate) struct Folder {
+pub struct Folder {
     /// The names that end in `.mid`, in byte order.
-    names: Vec<String>,
+    pub names: Vec<String>,
     /// What each of the files that a run takes holds; none for one that cannot be read.
-    contents: Vec<Option<Vec<u8>>>,
+    pub contents: Vec<Option<Vec<u8>>>,
     ghost as_many: { length contents.items ≡ length (take MOST_FILES names.items) },
 }
 
 impl Folder {
     /// Reads the files of a folder; where none is named there are no files.
-    pub(crate) fn read<'a>(
+    pub fn read<'a>(
         rt: &(impl Files + AllocGlobal + Clone + Drop),
         dir: Option<&'a str>,
-    ) -> Result<Folder, ProgramFault<'a>> {
+    ) -> Result<Folder, ProgramFault<'a>>
+        ensures none { dir.entry ≡ None → IfOk result (λ f. f.names.items ≡ []) }
+    {
         let mut contents = Vec::new(rt.alloc());
         let Some(dir) = dir else {
             let names = Vec::new(rt.alloc());
@@ -45,7 +49,7 @@ impl Folder {
     }
 
     /// Opens the files, and tells of each one that is left out.
-    pub(crate) fn open<'f>(
+    pub fn open<'f>(
         &'f self,
         rt: &(impl Eprint + AllocGlobal),
     ) -> Result<FolderFiles<'f>, ProgramFault<'static>>
@@ -121,5 +125,18 @@ fn content_of(
             }
             Err(ProgramFault::OutOfMemory)
         }
+    }
+}
+
+/// The files that a run may play, with their names.
+pub fn named<'f, 'b>(opened: &'f FolderFiles<'b>) -> NamedFiles<'f, 'b>
+    requires as_many { length opened.now.names.items ≡ length opened.now.files.items }
+    requires few { length opened.now.names.items ≤ MOST_FILES }
+    ensures names { result.names ≡ (seen_files opened.now).names }
+    ensures files { result.files ≡ map played opened.now.files.items }
+{
+    match NamedFiles::new(opened.names.as_slice(), opened.files.as_slice()) {
+        Some(files) => files,
+        None => unreachable!(),
     }
 }

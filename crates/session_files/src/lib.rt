@@ -2,8 +2,9 @@
 #![tactic(auto)]
 
 mod folder;
-mod running;
+mod recording;
 mod session;
 
-pub use running::{record, run};
-pub use session::SessionWords;
+pub use folder::{Folder, named};
+pub use recording::recorded;
+pub use session::Session;

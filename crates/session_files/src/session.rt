@@ -1,9 +1,11 @@
 //! The scripts of a session, their logs and the faults of both.
 
-ghost use Rattle.std.specs.Prelude.{◌≡◌, length, IfOk, IfSome};
+ghost use Rattle.std.specs.Prelude.{◌≡◌, Some, None, length, map, IfOk, IfErr, IfSome, IsSome};
+ghost use Rattle.script_text.specs.Numbers as says;
 ghost use Rattle.seq_session.specs.Rising.{AreRising};
 ghost use Rattle.seq_session.specs.Devices.{clients, AreSound, AreOpen, reader_of, IsAmong};
-ghost use Rattle.session_files.specs.Sessions.{owners, IsToldAs};
+ghost use Rattle.session_tools.specs.Words.{scripts_named, scripts_seen, IsOfWords};
+ghost use Rattle.session_files.specs.Sessions.{owners, IsNotAMoment, IsToldAs};
 
 use byte_io::{MemSink, StdSource};
 use seq_session::{ScriptSource, SessionFault};
@@ -13,46 +15,48 @@ use std::fs;
 use std::rt::Files;
 use tool_text::ProgramFault;
 
-/// What the command line says of a session beside its scripts.
-#[derive(Clone, Copy, Debug)]
-pub struct SessionWords<'a> {
+/// A session as the words of the command line say it.
+#[derive(Drop)]
+pub struct Session<'a> {
     /// The moment at which it ends, in nanoseconds from its beginning.
-    pub until: &'a str,
+    pub until: u64,
     /// The folder whose Standard MIDI Files scripts may play, if one is named.
     pub dir: Option<&'a str>,
-}
-
-/// What is run: scripts until a moment.
-#[derive(Drop)]
-pub(crate) struct Session<'a> {
-    /// In nanoseconds.
-    pub(crate) until: u64,
-    pub(crate) dir: Option<&'a str>,
-    pub(crate) scripts: Vec<ScriptWord<'a>>,
+    /// The scripts, by client.
+    pub scripts: Vec<ScriptWord<'a>>,
 }
 
 impl<'a> Session<'a> {
-    /// The session that words name, its scripts by client.
-    pub(crate) fn of_words(
+    /// The session that words name: its end in nanoseconds, its folder, and a word `CLIENT=PATH` for each script.
+    pub fn of_words(
         alloc: Global,
-        words: SessionWords<'a>,
+        until: &'a str,
+        dir: Option<&'a str>,
         scripts: &[&'a str],
     ) -> Result<Session<'a>, ProgramFault<'a>>
+        ensures until { IfOk result (λ s. Some s.until ≡ says.u64 until.now) }
+        ensures dir { IfOk result (λ s. s.dir ≡ dir.entry) }
+        ensures scripts { IfOk result (λ s.
+            Some (scripts_seen s.scripts.items) ≡ scripts_named (map (λ w. w.now) scripts.now)) }
         ensures rising { IfOk result (λ s. AreRising (owners s.scripts.items)) }
+        ensures not_a_moment { says.u64 until.now ≡ None
+            → IfErr result (IsNotAMoment until.now) }
+        ensures refused { IsSome (says.u64 until.now)
+            → IfErr result (IsOfWords (map (λ w. w.now) scripts.now)) }
     {
-        let Some(until) = until_named(words.until) else {
-            return Err(ProgramFault::NotAMoment(words.until));
+        let Some(moment) = until_named(until) else {
+            return Err(ProgramFault::NotAMoment(until));
         };
         let scripts = scripts_named(alloc, scripts)?;
         Ok(Session {
-            until,
-            dir: words.dir,
+            until: moment,
+            dir,
             scripts,
         })
     }
 
     /// Opens the scripts, by client.
-    pub(crate) fn open<R: Files>(
+    pub fn open<R: Files>(
         &self,
         rt: &R,
         alloc: Global,
@@ -74,7 +78,7 @@ impl<'a> Session<'a> {
     }
 
     /// A log in memory for each script.
-    pub(crate) fn logs(&self, alloc: Global) -> Result<Vec<MemSink>, ProgramFault<'a>>
+    pub fn logs(&self, alloc: Global) -> Result<Vec<MemSink>, ProgramFault<'a>>
         ensures as_many { IfOk result (λ v. length v.items ≡ length self.now.scripts.items) }
         ensures open { IfOk result (λ v. AreOpen (λ l. l.broken) v.items) }
     {
@@ -86,7 +90,7 @@ impl<'a> Session<'a> {
     }
 
     /// A log is kept in memory, so that its fault is want of memory.
-    pub(crate) fn fault_of(&self, fault: SessionFault) -> ProgramFault<'a>
+    pub fn fault_of(&self, fault: SessionFault) -> ProgramFault<'a>
         requires { IfSome (reader_of fault) (λ k. IsAmong k (owners self.now.scripts.items)) }
         ensures { IsToldAs self.now.scripts.items fault result }
     {

@@ -1,8 +1,9 @@
 //! The open clients: what they have, and what waits for them.
 
+use super::making::{client, filter, make_port, port, queue, queue_at};
 use bitflags::Flags;
 use midi_wire::Message;
-use node_table::{Addr, Caps, ClientId, FilterNo, Node, PortNo, QueueAddr, QueueNo};
+use node_table::{Addr, Caps, ClientId, FilterNo, Node, QueueAddr, QueueNo};
 use route_filter::{Rule, RuleArgs};
 use seq_clients::Clients;
 use seq_state::Arrival;
@@ -10,22 +11,6 @@ use std::alloc::Global;
 use std::process::Abort;
 use std::test::Fail;
 use tempo_clock::{TempoEntry, TempoMap};
-
-fn client(number: u8) -> Result<ClientId, Fail> {
-    Ok(ClientId::new(number).ok_or("a client number")?)
-}
-
-fn port(number: u8) -> Result<PortNo, Fail> {
-    Ok(PortNo::new(number).ok_or("a port number")?)
-}
-
-fn filter(number: u8) -> Result<FilterNo, Fail> {
-    Ok(FilterNo::new(number).ok_or("a filter number")?)
-}
-
-fn queue(number: u8) -> Result<QueueNo, Fail> {
-    Ok(QueueNo::new(number).ok_or("a queue number")?)
-}
 
 /// Client 128, with room for two messages and three playbacks.
 fn one_client(alloc: Global) -> Result<Clients, Fail> {
@@ -50,15 +35,6 @@ fn assert_opened_and_closed(rt: &impl Abort, clients: &mut Clients) -> Result<()
     assert!(rt; !clients.is_open(one));
     assert!(rt; clients.name(one) == None);
     assert!(rt; (clients.in_size(one), clients.out_size(one)) == (0, 0));
-    Ok(())
-}
-
-/// Makes a port named `out` that may be read.
-fn make_port(clients: &mut Clients, one: ClientId, number: PortNo) -> Result<(), Fail> {
-    if !clients.is_open(one) || clients.has_port(one, number) {
-        return Err("an open client and a free number")?;
-    }
-    clients.create_port(one, number, b"out", Caps::READ)?;
     Ok(())
 }
 
@@ -175,13 +151,6 @@ fn make_queue(clients: &mut Clients, alloc: Global, one: ClientId, n: QueueNo) -
     Ok(())
 }
 
-fn queue_addr(number: u8) -> Result<QueueAddr, Fail> {
-    Ok(QueueAddr {
-        client: client(128)?,
-        queue: queue(number)?,
-    })
-}
-
 /// Whether the queue runs, and what it shows at a moment.
 fn shown(clients: &Clients, addr: &QueueAddr, moment: u64) -> Option<(bool, u64)> {
     let held = clients.queue(addr)?;
@@ -199,7 +168,7 @@ fn assert_queues(rt: &impl Abort, alloc: Global, clients: &mut Clients) -> Resul
     make_queue(clients, alloc, one, queue(7)?)?;
     assert!(rt; clients.has_queue(one, queue(7)?));
     assert!(rt; !clients.has_queue(one, queue(0)?));
-    let addr = queue_addr(7)?;
+    let addr = queue_at(128, 7)?;
     assert!(rt; clients.queue(&addr).map(|q| q.is_shared()) == Some(false));
     clients.share(one, queue(7)?);
     assert!(rt; clients.queue(&addr).map(|q| q.is_shared()) == Some(true));
@@ -256,7 +225,7 @@ fn queues_run(rt: HostRuntime) -> Result<(), Fail> {
 
 fn assert_queue_runs(rt: &impl Abort, alloc: Global, clients: &mut Clients) -> Result<(), Fail> {
     make_queue(clients, alloc, client(128)?, queue(0)?)?;
-    let addr = queue_addr(0)?;
+    let addr = queue_at(128, 0)?;
     assert!(rt; shown(clients, &addr, 5) == Some((false, 0)));
     start(clients, &addr, 10)?;
     assert!(rt; shown(clients, &addr, 30) == Some((true, 20)));
@@ -275,7 +244,7 @@ fn a_tempo_is_set(rt: HostRuntime) -> Result<(), Fail> {
 
 fn assert_tempo(rt: &impl Abort, alloc: Global, clients: &mut Clients) -> Result<(), Fail> {
     make_queue(clients, alloc, client(128)?, queue(0)?)?;
-    let addr = queue_addr(0)?;
+    let addr = queue_at(128, 0)?;
     set_tempo(clients, &addr, 0)?;
     // 96 ticks last as long as a quarter note does.
     let nanos = clients.queue(&addr).map(|q| q.clock().map().nanos_at(96));

@@ -1,7 +1,8 @@
 //! Who is there as text, what goes along the subscriptions, and when queues say that events are due.
 
+use super::making::{client, filter, make_port, port, queue_at};
 use midi_wire::Message;
-use node_table::{Addr, Caps, ClientId, FilterNo, Node, PortNo, QueueAddr, QueueNo};
+use node_table::{Addr, Caps, ClientId, FilterNo, Node, PortNo, QueueAddr};
 use patch_graph::PatchGraph;
 use route_filter::{Rule, RuleArgs};
 use seq_clients::Clients;
@@ -13,18 +14,6 @@ use std::process::Abort;
 use std::test::Fail;
 use tempo_clock::{Due, TempoEntry, TempoMap};
 
-fn client(number: u8) -> Result<ClientId, Fail> {
-    Ok(ClientId::new(number).ok_or("a client number")?)
-}
-
-fn port(number: u8) -> Result<PortNo, Fail> {
-    Ok(PortNo::new(number).ok_or("a port number")?)
-}
-
-fn filter(number: u8) -> Result<FilterNo, Fail> {
-    Ok(FilterNo::new(number).ok_or("a filter number")?)
-}
-
 fn port_at(client: ClientId, port: PortNo) -> Addr {
     let node = Node::Port(port);
     Addr { client, node }
@@ -33,12 +22,6 @@ fn port_at(client: ClientId, port: PortNo) -> Addr {
 fn filter_at(client: ClientId, filter: FilterNo) -> Addr {
     let node = Node::Filter(filter);
     Addr { client, node }
-}
-
-fn queue_at(owner: u8, number: u8) -> Result<QueueAddr, Fail> {
-    let queue = QueueNo::new(number).ok_or("a queue number")?;
-    let client = client(owner)?;
-    Ok(QueueAddr { client, queue })
 }
 
 #[tactic(auto, using(seq_clients::proofs::Tested::none_if_not))]
@@ -58,14 +41,6 @@ fn open_synth(clients: &mut Clients) -> Result<(), Fail> {
         return Err("a client that is closed")?;
     }
     clients.open(one, b"synth", 2, 3)?;
-    Ok(())
-}
-
-fn make_port(clients: &mut Clients, one: ClientId, number: PortNo) -> Result<(), Fail> {
-    if !clients.is_open(one) || clients.has_port(one, number) {
-        return Err("an open client and a free number")?;
-    }
-    clients.create_port(one, number, b"out", Caps::READ)?;
     Ok(())
 }
 

@@ -1,5 +1,6 @@
 //! Files of what came to ports.
 
+use super::making::client;
 use agenda_heap::HeapAgenda;
 use midi_wire::{Kind, Message};
 use node_table::{Addr, Caps, ClientId, Node, PortAddr, PortNo};
@@ -8,10 +9,6 @@ use seq_engine::{Command, Input, Items, RunLog, is_timed, run};
 use std::alloc::Global;
 use std::process::Abort;
 use std::test::Fail;
-
-fn client(number: u8) -> Result<ClientId, Fail> {
-    Ok(ClientId::new(number).ok_or("a client number")?)
-}
 
 fn port_at(number: u8) -> Result<PortAddr, Fail> {
     Ok(PortAddr {

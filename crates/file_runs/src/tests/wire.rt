@@ -2,6 +2,7 @@
 
 ghost use Rattle.std.specs.Prelude.{◌<◌};
 
+use crate::read_in_two;
 use memory::OutOfMemory;
 use midi_wire::{Kind, Message, StreamParser, StreamWriter, WireFault};
 use std::alloc::Global;
@@ -29,15 +30,6 @@ fn read_pieces(alloc: Global, stream: &[u8], length: usize) -> Result<Vec<Messag
     Ok(messages)
 }
 
-/// The messages of two pieces.
-fn read_two(alloc: Global, front: &[u8], back: &[u8]) -> Result<Vec<Message>, WireFault> {
-    let mut parser = StreamParser::new(alloc);
-    let mut messages = Vec::new(alloc);
-    parser.feed(front, &mut messages)?;
-    parser.feed(back, &mut messages)?;
-    Ok(messages)
-}
-
 /// A stream has so many messages, with these full bytes, however it is cut.
 fn check_reading(
     rt: &impl Abort,
@@ -51,7 +43,7 @@ fn check_reading(
     assert!(rt; full_bytes(alloc, single.as_slice())?.as_slice() == expected);
     for cut in 0..=stream.len() {
         let (front, back) = stream.split_at(cut);
-        let messages = read_two(alloc, front, back)?;
+        let messages = read_in_two(alloc, front, back)?;
         assert!(rt; messages.len() == count);
         assert!(rt; full_bytes(alloc, messages.as_slice())?.as_slice() == expected);
     }
@@ -65,7 +57,7 @@ fn check_writing(
     stream: &[u8],
     expected: &[u8],
 ) -> Result<(), Fail> {
-    let messages = read_two(alloc, stream, &[])?;
+    let messages = read_in_two(alloc, stream, &[])?;
     let mut writer = StreamWriter::new();
     let mut bytes = Vec::new(alloc);
     for message in messages.as_slice() {
@@ -77,10 +69,10 @@ fn check_writing(
 
 /// A stream has the messages that it has in one piece, wherever it is cut into two.
 fn check_cuts(rt: &impl Abort, alloc: Global, stream: &[u8]) -> Result<(), Fail> {
-    let whole = read_two(alloc, stream, &[])?;
+    let whole = read_in_two(alloc, stream, &[])?;
     for cut in 0..=stream.len() {
         let (front, back) = stream.split_at(cut);
-        let messages = read_two(alloc, front, back)?;
+        let messages = read_in_two(alloc, front, back)?;
         assert!(rt; messages.as_slice() == whole.as_slice());
     }
     Ok(())

@@ -1,9 +1,8 @@
 //! The list and the heap with their stale entries, and both bodies at the same calls.
 
-ghost use Rattle.std.specs.Prelude.{◌≡◌, ◌<◌};
-ghost use Rattle.std.specs.FinMap as map;
-ghost use Rattle.pool_runs.specs.Tracked.{IsTracked};
+ghost use Rattle.std.specs.Prelude.{◌≡◌};
 
+use crate::{CELLS, Driver};
 use agenda_heap::{Agenda, DueKey, HeapAgenda, OutOfMemory, SortedAgenda};
 use cell_pools::CellKey;
 use std::process::Abort;
@@ -32,62 +31,6 @@ fn stale_entries(rt: HostRuntime) -> Result<(), OutOfMemory> {
     assert!(rt; agenda.pop_due(1000) == Some((cell, at(1000))));
     assert!(rt; agenda.len() == 0);
     Ok(())
-}
-
-/// How many cells a driver uses.
-const CELLS: usize = 16;
-
-/// An agenda, and which cells are in it. A key's rank is the number of its cell, so that no two cells have one key.
-#[derive(Drop)]
-struct Driver<A: Agenda> {
-    agenda: A,
-    there: [bool; CELLS],
-    ghost tracked: { IsTracked (A.content agenda) there },
-}
-
-impl<A: Agenda> Driver<A> {
-    fn new(agenda: A) -> Driver<A>
-        requires empty { A.content agenda ≡ map.empty }
-    {
-        Driver {
-            agenda,
-            there: [false; CELLS],
-        }
-    }
-
-    /// Gives a cell a key, whether it is there or not.
-    fn set(&mut self, cell: usize, moment: u64) -> Result<(), OutOfMemory>
-        requires { cell < CELLS }
-    {
-        let key = DueKey {
-            moment,
-            rank: cell as u64,
-            place: 0,
-        };
-        if self.there[cell] {
-            self.agenda.rekey(CellKey::new(cell), key)?;
-            return Ok(());
-        }
-        self.agenda.insert(CellKey::new(cell), key)?;
-        self.there[cell] = true;
-        Ok(())
-    }
-
-    fn remove(&mut self, cell: usize)
-        requires { cell < CELLS }
-    {
-        self.agenda.remove(CellKey::new(cell));
-        self.there[cell] = false;
-    }
-
-    fn pop_due(&mut self, moment: u64) -> Option<(CellKey, DueKey)> {
-        let due = self.agenda.pop_due(moment)?;
-        let number = due.0.number();
-        if number < CELLS {
-            self.there[number] = false;
-        }
-        Some(due)
-    }
 }
 
 /// The next of a row of numbers that look random.

@@ -1,25 +1,8 @@
-use node_table::{Addr, ClientId, FilterNo, Node, PortAddr, PortNo};
+use super::numbers::{client, filter, port};
+use node_table::Addr;
 use patch_graph::{EdgeFault, PatchGraph, Path, Routes};
 use std::process::Abort;
 use std::test::Fail;
-
-fn client(rt: &impl Abort, number: u8) -> ClientId {
-    ClientId::new(number).expect(rt, "a client's number")
-}
-
-fn port(rt: &impl Abort, of: u8, number: u8) -> Addr {
-    Addr::from(PortAddr {
-        client: client(rt, of),
-        port: PortNo::new(number).expect(rt, "a port's number"),
-    })
-}
-
-fn filter(rt: &impl Abort, of: u8, number: u8) -> Addr {
-    Addr {
-        client: client(rt, of),
-        node: Node::Filter(FilterNo::new(number).expect(rt, "a filter's number")),
-    }
-}
 
 /// Joins filter `from` of client 128 to its filter `to`.
 fn join_filters(

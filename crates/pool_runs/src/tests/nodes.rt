@@ -1,3 +1,4 @@
+use super::numbers::{client, filter, port};
 use bitflags::Flags;
 use node_table::{
     Addr, Caps, ClientId, CreateFault, FilterNo, Node, NodeTable, OpenFault, PLACES, PortAddr,
@@ -6,24 +7,6 @@ use node_table::{
 use std::alloc::Global;
 use std::process::Abort;
 use std::test::Fail;
-
-fn client(rt: &impl Abort, number: u8) -> ClientId {
-    ClientId::new(number).expect(rt, "a client's number")
-}
-
-fn port(rt: &impl Abort, of: u8, number: u8) -> Addr {
-    Addr::from(PortAddr {
-        client: client(rt, of),
-        port: PortNo::new(number).expect(rt, "a port's number"),
-    })
-}
-
-fn filter(rt: &impl Abort, of: u8, number: u8) -> Addr {
-    Addr {
-        client: client(rt, of),
-        node: Node::Filter(FilterNo::new(number).expect(rt, "a filter's number")),
-    }
-}
 
 fn caps(rt: &impl Abort, bits: u8) -> Caps {
     Caps::from_bits(bits).expect(rt, "known capabilities")

@@ -1,7 +1,7 @@
 use Rattle.std.proofs.Common.{◌∙◌, ap}
 use Rattle.std.specs.FinMap as map
 use Rattle.pool_runs.proofs.Tracking.{tracked-clear}
-use Rattle.pool_runs.proofs.tests.agendas.Driver.remove.Goals as goal
+use Rattle.pool_runs.proofs.driver.Driver.remove.Goals as goal
 
 pub invariant_of-self : goal.invariant_of-self
 invariant_of-self g c = record {

@@ -2,7 +2,7 @@ use Rattle.std.proofs.Common.{◌∙◌, false, get_or, ap, sym, refl}
 use Rattle.std.specs.FinMap as map
 use Rattle.agenda_heap.specs.declared.due_key.DueKey.{DueKey}
 use Rattle.pool_runs.proofs.Tracking.{tracked-set, tracked-tried}
-use Rattle.pool_runs.proofs.tests.agendas.Driver.set.Goals as goal
+use Rattle.pool_runs.proofs.driver.Driver.set.Goals as goal
 
 pub invariant_of-self : goal.invariant_of-self
 invariant_of-self g c =

@@ -1,7 +1,7 @@
 use Rattle.std.proofs.Common.{◌∙◌, ap, sym}
 use Rattle.std.specs.FinMap as map
 use Rattle.pool_runs.proofs.Tracking.{tracked-clear}
-use Rattle.pool_runs.proofs.tests.agendas.Driver.pop_due.Goals as goal
+use Rattle.pool_runs.proofs.driver.Driver.pop_due.Goals as goal
 
 pub invariant_of-self-then-number-lt-CELLS : goal.invariant_of-self-then-number-lt-CELLS
 invariant_of-self-then-number-lt-CELLS g c = record {

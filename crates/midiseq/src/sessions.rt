@@ -1,55 +1,47 @@
 //! The subcommands that run scripts.
 
-ghost use Rattle.std.specs.Prelude.{◌≡◌, ◌≤◌, true, false, length, map, IfOk, OnOk};
-ghost use Rattle.smf_grammar.specs.Played.{played};
-ghost use Rattle.port_record.specs.Recording.{recording_text};
-ghost use Rattle.script_text.specs.declared.script.TheConstants.{MOST_FILES};
-ghost use Rattle.seq_state.specs.Heard.{port_bytes};
+ghost use Rattle.std.specs.Prelude.{◌≡◌, false, length, IfOk, OnOk};
 ghost use Rattle.seq_session.specs.Rising.{AreRising};
 ghost use Rattle.seq_session.specs.Devices.{AreOpen};
-ghost use Rattle.session_tools.specs.Folder.{seen_files};
 ghost use Rattle.session_files.specs.Sessions.{owners};
 
-use crate::folder::Folder;
-use crate::session::{Session, SessionWords};
 use agenda_heap::HeapAgenda;
 use byte_io::{MemSink, Sink, StdSink, write_all};
+use clap::ArgMatches;
 use node_table::PortAddr;
-use port_record::{WriteFault, record_file};
 use seq_engine::RunLog;
 use seq_session::{NamedFiles, run_scripts, run_sessions};
-use session_tools::{FolderFiles, ScriptWord, port_named, print_logs};
+use session_files::{Folder, Session, named, recorded};
+use session_tools::{ScriptWord, port_named, print_logs};
 use std::alloc::Global;
 use std::rt::Files;
 use std::{fs, io};
 use tool_text::{ProgramFault, STANDARD, ToolFault};
 
-/// The files that a run may play, with their names.
-fn named<'f, 'b>(opened: &'f FolderFiles<'b>) -> NamedFiles<'f, 'b>
-    requires as_many { length opened.now.names.items ≡ length opened.now.files.items }
-    requires few { length opened.now.names.items ≤ MOST_FILES }
-    ensures names { result.names ≡ (seen_files opened.now).names }
-    ensures files { result.files ≡ map played opened.now.files.items }
+/// The session that the words of `run` and `record` say alike.
+fn session_of<'a>(alloc: Global, found: &ArgMatches<'a>) -> Result<Session<'a>, ProgramFault<'a>>
+    ensures rising { IfOk result (λ s. AreRising (owners s.scripts.items)) }
 {
-    match NamedFiles::new(opened.names.as_slice(), opened.files.as_slice()) {
-        Some(files) => files,
-        None => unreachable!(),
-    }
+    let until = found.get_str("until").unwrap_or("");
+    let scripts = found.get_strs("CLIENT=PATH").unwrap_or(&[]);
+    Session::of_words(alloc, until, found.get_str("dir"), scripts)
 }
 
-/// Runs the scripts, named `CLIENT=PATH`, and prints each client's log and, where asked for, who is there at the end.
-pub fn run<'a>(
+/// Runs the scripts, and prints each client's log and, where asked for, who is there at the end.
+pub(crate) fn run<'a>(
     rt: &(impl Files + Print + Eprint + AllocGlobal + Clone + Drop),
-    words: SessionWords<'a>,
-    scripts: &[&'a str],
-    list: bool,
+    found: &ArgMatches<'a>,
 ) -> Result<(), ProgramFault<'a>> {
     let alloc = rt.alloc();
-    let session = Session::of_words(alloc, words, scripts)?;
+    let session = session_of(alloc, found)?;
     let mut logs = session.logs(alloc)?;
     let mut listing = MemSink::new(alloc, 0)?;
     play_with_files(rt, &session, logs.as_mut_slice(), &mut listing)?;
-    let listed = if list { Some(listing.bytes()) } else { None };
+    let listed = if found.get_flag("list") {
+        Some(listing.bytes())
+    } else {
+        None
+    };
     print(rt, session.scripts.as_slice(), logs.as_slice(), listed)
 }
 
@@ -120,24 +112,18 @@ fn print(
     }
 }
 
-/// Runs the scripts, named `CLIENT=PATH`, and writes what came to a port to a file: a Standard MIDI File, or with `raw`
-/// one MIDI stream.
-///
-/// The file is made once all else is done.
-pub fn record<'a>(
+/// Runs the scripts, and writes what came to a port to a file, once all else is done.
+pub(crate) fn record<'a>(
     rt: &(impl Files + Eprint + AllocGlobal + Clone + Drop),
-    words: SessionWords<'a>,
-    scripts: &[&'a str],
-    port: &'a str,
-    raw: bool,
-    out: &'a str,
+    found: &ArgMatches<'a>,
 ) -> Result<(), ProgramFault<'a>> {
-    let session = Session::of_words(rt.alloc(), words, scripts)?;
-    let Some(port) = port_named(port) else {
-        return Err(ProgramFault::NotAPort(port));
+    let session = session_of(rt.alloc(), found)?;
+    let word = found.get_str("port").unwrap_or("");
+    let Some(port) = port_named(word) else {
+        return Err(ProgramFault::NotAPort(word));
     };
-    let bytes = record_port(rt, &session, port, raw)?;
-    write_file(rt, out, bytes.as_slice())
+    let bytes = record_port(rt, &session, port, found.get_flag("raw"))?;
+    write_file(rt, found.get_str("out").unwrap_or(""), bytes.as_slice())
 }
 
 /// Opens the session's folder, runs the scripts, and gives what came to a port.
@@ -169,28 +155,6 @@ fn play_unlogged<'a>(
     match run_scripts(alloc, sources.as_mut_slice(), files, agenda, session.until) {
         Ok(log) => Ok(log),
         Err(fault) => Err(session.fault_of(fault)),
-    }
-}
-
-/// What came to a port, as one stream or as a file.
-fn recorded(
-    alloc: Global,
-    log: &RunLog,
-    port: PortAddr,
-    raw: bool,
-) -> Result<Vec<u8>, ProgramFault<'static>>
-    ensures stream { raw ≡ true
-        → IfOk result (λ bytes. bytes.items ≡ port_bytes port log.now.entries) }
-    ensures file { raw ≡ false
-        → IfOk result (λ bytes. bytes.items ≡ recording_text port log.now.entries) }
-{
-    if raw {
-        return Ok(log.port_bytes(port)?);
-    }
-    match record_file(alloc, log, port) {
-        Ok(bytes) => Ok(bytes),
-        Err(WriteFault::OutOfMemory) => Err(ProgramFault::OutOfMemory),
-        Err(_) => Err(ProgramFault::CannotRecord),
     }
 }
 
