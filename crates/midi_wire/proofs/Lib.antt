@@ -6,6 +6,7 @@ pub mod Settled
 pub mod Machine
 pub mod Calls
 pub mod EndOthers
+pub mod Voices
 pub mod Outcomes
 pub mod Written
 pub mod WrittenNext

@@ -3,6 +3,8 @@ use Rattle.std.specs.Prelude.{◌≡◌, ℕ, List, [], ◌∷◌, ◌++◌, len
 use Rattle.std.specs.Rc.{rc_value}
 use Rattle.midi_wire.specs.declared.message.Form.{Form}
 use Rattle.midi_wire.specs.declared.message.Form.TheVariants.{Alone, WithOne, WithTwo, Exclusive}
+use Rattle.midi_wire.specs.declared.message.ShortMessage.{ShortMessage}
+use Rattle.midi_wire.specs.declared.message.ShortMessage.TheVariants.{One, Two, Three}
 use Rattle.midi_wire.specs.declared.parser.LastBlock.{LastBlock}
 use Rattle.midi_wire.specs.declared.parser.LastBlock.TheVariants.{Idle, Waiting, Half, Collecting, Overlong}
 use Rattle.midi_wire.specs.Messages.{begins, most_data, all_data}
@@ -16,6 +18,12 @@ full_bytes (Alone status) = status ∷ []
 full_bytes (WithOne status first) = status ∷ first ∷ []
 full_bytes (WithTwo status first second) = status ∷ first ∷ second ∷ []
 full_bytes (Exclusive payload) = messages.exclusive_message (rc_value payload).items
+
+-- the bytes of a message that is no exclusive one
+abbrev pub short_bytes : ShortMessage → List ℕ
+short_bytes (One status) = status ∷ []
+short_bytes (Two status first) = status ∷ first ∷ []
+short_bytes (Three status first second) = status ∷ first ∷ second ∷ []
 
 -- what of the last block still matters, as a parser holds it
 abbrev pub pending_bytes : LastBlock → List ℕ → List ℕ

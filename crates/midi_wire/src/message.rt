@@ -1,10 +1,11 @@
 //! One message.
 
-ghost use Rattle.std.specs.Prelude.{◌≡◌, ◌<◌, ℕ, [], ◌∷◌, ◌++◌, ◌+◌, length, vec_len, vec_capacity, slice_get, if◌then◌else◌, bytes_eq, IfOk, OnOk, OnErr, IsTrue};
+ghost use Rattle.std.specs.Prelude.{◌≡◌, ◌<◌, ℕ, [], ◌∷◌, ◌++◌, ◌+◌, length, vec_len, vec_capacity, slice_get, if◌then◌else◌, bytes_eq, IfOk, OnOk, OnErr, IfSome, IfNone, IsTrue};
 ghost use Rattle.std.specs.Cmp.{partial_equiv_from_equiv};
 ghost use Rattle.std.specs.Cmp.Lexicographic.{nat_list_eq_equiv};
 ghost use Rattle.midi_wire.specs.Messages.{One, Two, IsMessage, exclusive_message, is_message};
 ghost use Rattle.midi_wire.specs.Kinds.{kind_of, channel_number, is_base, with_one_data, with_two_data, channel_message};
+ghost use Rattle.midi_wire.specs.Parsing.{short_bytes};
 ghost use Rattle.midi_wire.specs.Writings.{status_of, tail_of};
 
 use crate::kind::{Kind, kind_of_status};
@@ -17,6 +18,14 @@ use std::rc::Rc;
 
 /// So many data bytes of an exclusive message take one allocation; more take two.
 const INLINE_DATA: usize = 64;
+
+/// The full bytes of a message that is no exclusive one: its status, and at most two data bytes.
+#[derive(Clone, Copy, Debug, PartialEq, Eq)]
+pub enum ShortMessage {
+    One(u8),
+    Two(u8, u8),
+    Three(u8, u8, u8),
+}
 
 /// How a message is kept.
 #[derive(Debug, Drop)]
@@ -191,6 +200,7 @@ impl Message {
     pub fn duplicate(&self) -> Result<Message, OutOfMemory>
         ensures ok { IfOk result (λ m. m ≡ self.now) }
         ensures exclusive { OnErr result (kind_of self.now ≡ Kind.Exclusive) }
+        ensures message { IsMessage self.now }
     {
         let form = match &self.form {
             Form::Alone(status) => Form::Alone(*status),
@@ -228,6 +238,25 @@ impl Message {
             Some(status % CHANNELS)
         } else {
             None
+        }
+    }
+
+    /// Its full bytes where it is no exclusive one.
+    // Inline, so that what a caller does for each number of bytes stands where the form is known.
+    #[inline(always)]
+    pub fn short(&self) -> Option<ShortMessage>
+        ensures some { IfSome result (λ short. short_bytes short ≡ self.now) }
+        ensures none { IfNone result (kind_of self.now ≡ Kind.Exclusive) }
+    {
+        match &self.form {
+            Form::Alone(status) => Some(ShortMessage::One(*status)),
+            Form::WithOne { status, first } => Some(ShortMessage::Two(*status, *first)),
+            Form::WithTwo {
+                status,
+                first,
+                second,
+            } => Some(ShortMessage::Three(*status, *first, *second)),
+            Form::Exclusive(_) => None,
         }
     }
 

@@ -1,7 +1,7 @@
 //! A stream of bytes, read in any pieces.
 
 ghost use Rattle.std.specs.Prelude.{◌≡◌, ◌≤◌, ◌<◌, ℕ, [], ◌∷◌, ◌++◌, length, take, Bool, true, false, IsTrue, ◌↔◌, IfOk, OnOk, OnErr, IsErrOf};
-ghost use Rattle.midi_wire.specs.Messages.{begins};
+ghost use Rattle.midi_wire.specs.Messages.{begins, exclusive_message, is_message};
 ghost use Rattle.midi_wire.specs.Readings.{reading, rest};
 ghost use Rattle.midi_wire.specs.Parsing.{next_group, GainsPrefix};
 
@@ -9,7 +9,7 @@ use crate::fault::WireFault;
 use crate::message::Message;
 use crate::status::{
     END_OF_EXCLUSIVE, FIRST_REAL_TIME, FIRST_STATUS, MOST_DATA, StatusClass, Width, is_real_time,
-    is_status,
+    is_status, is_voice_of_two,
 };
 use memory::OutOfMemory;
 use std::alloc::Global;
@@ -40,6 +40,21 @@ fn next_group(status: u8, width: Width) -> LastBlock
     } else {
         LastBlock::Idle
     }
+}
+
+/// Adds an exclusive message of this data.
+// Not inline, so that the end of any other block costs little.
+#[cold]
+#[inline(never)]
+fn tell_exclusive(alloc: Global, payload: &[u8], out: &mut Vec<Message>) -> Result<(), OutOfMemory>
+    requires { IsTrue (is_message (exclusive_message payload.now)) }
+    ensures told { OnOk result
+        (out.new.items ≡ out.old.items ++ exclusive_message payload.now ∷ []) }
+    ensures err { OnErr result (out.new.items ≡ out.old.items) }
+{
+    let message = Message::exclusive(alloc, payload)?;
+    out.push(message)?;
+    Ok(())
 }
 
 /// What of the stream so far still matters.
@@ -77,7 +92,7 @@ impl Pending {
     }
 
     /// Ends the last block, since a status is about to come.
-    #[inline]
+    #[inline(always)]
     fn end(&mut self, out: &mut Vec<Message>) -> Result<(), OutOfMemory>
         requires { rest self.old ≡ self.old }
         ensures told { OnOk result
@@ -86,8 +101,7 @@ impl Pending {
         ensures err { OnErr result (out.new.items ≡ out.old.items) }
     {
         if let LastBlock::Collecting = self.block {
-            let message = Message::exclusive(self.alloc, self.payload.as_slice())?;
-            out.push(message)?;
+            tell_exclusive(self.alloc, self.payload.as_slice(), out)?;
         }
         self.block = LastBlock::Idle;
         Ok(())
@@ -179,6 +193,72 @@ impl Pending {
         }
         Ok(())
     }
+
+    /// Takes a whole message of a channel with two data bytes.
+    #[inline(always)]
+    fn take_voice(
+        &mut self,
+        status: u8,
+        first: u8,
+        second: u8,
+        out: &mut Vec<Message>,
+    ) -> Result<(), OutOfMemory>
+        requires settled { rest self.old ≡ self.old }
+        requires channel { begins status ≡ StatusClass.Channel Width.Two }
+        requires first { first < FIRST_STATUS }
+        requires second { second < FIRST_STATUS }
+        ensures told { OnOk result
+            (out.new.items ≡ out.old.items ++ reading (self.old ++ status ∷ first ∷ second ∷ [])) }
+        ensures leaves { OnOk result (self.new ≡ rest (self.old ++ status ∷ first ∷ second ∷ [])) }
+        ensures err { let stream = self.old ++ status ∷ first ∷ second ∷ [] in
+            OnErr result (GainsPrefix out.old.items out.new.items (reading stream)) }
+    {
+        // No other block gives a message at its end.
+        if let LastBlock::Collecting = self.block {
+            self.end(out)?;
+        }
+        out.push(Message::with_two(status, first, second))?;
+        self.block = LastBlock::Waiting {
+            status,
+            width: Width::Two,
+        };
+        Ok(())
+    }
+
+    /// Takes the first bytes, and answers how many: a whole message of a channel with two data bytes where one stands
+    /// there, also under running status, and else one byte.
+    #[inline(always)]
+    fn take_front(&mut self, bytes: &[u8], out: &mut Vec<Message>) -> Result<usize, OutOfMemory>
+        requires settled { rest self.old ≡ self.old }
+        requires some { 0 < length bytes.now }
+        ensures within { IfOk result (λ n. (0 < n) × (n ≤ length bytes.now)) }
+        ensures told { IfOk result (λ n.
+            out.new.items ≡ out.old.items ++ reading (self.old ++ take n bytes.now)) }
+        ensures leaves { IfOk result (λ n. self.new ≡ rest (self.old ++ take n bytes.now)) }
+        ensures err { OnErr result
+            (GainsPrefix out.old.items out.new.items (reading (self.old ++ bytes.now))) }
+    {
+        let byte = bytes[0];
+        if is_status(byte) {
+            if let [_, first, second, ..] = bytes
+                && is_voice_of_two(byte)
+                && !is_status(*first)
+                && !is_status(*second)
+            {
+                self.take_voice(byte, *first, *second, out)?;
+                return Ok(3);
+            }
+        } else if let LastBlock::Waiting { status, .. } = self.block
+            && let [_, second, ..] = bytes
+            && is_voice_of_two(status)
+            && !is_status(*second)
+        {
+            out.push(Message::with_two(status, byte, *second))?;
+            return Ok(2);
+        }
+        self.take(byte, out)?;
+        Ok(1)
+    }
 }
 
 /// Reads a stream of bytes in any pieces, seen as what of the stream so far still matters, and whether memory was
@@ -237,8 +317,10 @@ impl StreamParser {
         }
         let before = out.len();
         self.failed = true;
-        for &byte in piece {
-            self.pending.take(byte, out)?;
+        let mut left = piece;
+        while !left.is_empty() {
+            let taken = self.pending.take_front(left, out)?;
+            left = &left[taken..];
         }
         self.failed = false;
         Ok(out.len() - before)

@@ -1,6 +1,6 @@
 //! The table of statuses, and what may follow each in a message.
 
-ghost use Rattle.std.specs.Prelude.{◌≡◌, ◌∷◌, ℕ};
+ghost use Rattle.std.specs.Prelude.{◌≡◌, ◌∷◌, ◌↔◌, ℕ, IsTrue};
 ghost use Rattle.midi_wire.specs.Messages.{begins, is_status, is_real_time, is_group, ends_data, is_tail, is_message};
 ghost use Rattle.midi_wire.specs.Writings.{is_channel};
 
@@ -21,6 +21,10 @@ pub(crate) const FIRST_REAL_TIME: u8 = 0xF8;
 
 /// The most data bytes of an exclusive message, between F0 and F7.
 pub(crate) const MOST_DATA: usize = 65536;
+
+/// The statuses of messages of a channel with two data bytes: bit n for those from 16n on.
+// Bits, since a test of both ranges costs twice as much.
+const VOICES_OF_TWO: u32 = 0x4F00;
 
 /// How many data bytes a message has.
 #[derive(Clone, Copy, Debug, PartialEq, Eq)]
@@ -82,6 +86,14 @@ pub(crate) fn is_status(byte: u8) -> bool
     ensures { result ≡ is_status byte }
 {
     byte >= FIRST_STATUS
+}
+
+/// Whether a byte begins messages of a channel with two data bytes.
+#[inline]
+pub(crate) fn is_voice_of_two(byte: u8) -> bool
+    ensures { IsTrue result ↔ (begins byte ≡ StatusClass.Channel Width.Two) }
+{
+    VOICES_OF_TWO >> (byte >> 4) & 1 == 1
 }
 
 /// Whether a byte is a status of real time, also an undefined one.

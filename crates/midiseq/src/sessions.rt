@@ -1,9 +1,8 @@
 //! The subcommands that run scripts.
 
-ghost use Rattle.std.specs.Prelude.{◌≡◌, false, length, IfOk, OnOk};
+ghost use Rattle.std.specs.Prelude.{◌≡◌, length, IfOk, OnOk};
 ghost use Rattle.seq_session.specs.Rising.{AreRising};
-ghost use Rattle.seq_session.specs.Devices.{AreOpen};
-ghost use Rattle.session_files.specs.Sessions.{owners};
+ghost use Rattle.session_files.specs.Sessions.{owners, MayBeRun};
 
 use agenda_heap::HeapAgenda;
 use byte_io::{MemSink, Sink, StdSink, write_all};
@@ -52,10 +51,7 @@ fn play_with_files<'a>(
     logs: &mut [MemSink],
     listing: &mut MemSink,
 ) -> Result<(), ProgramFault<'a>>
-    requires rising { AreRising (owners session.now.scripts.items) }
-    requires as_many { length logs.old ≡ length session.now.scripts.items }
-    requires open { AreOpen (λ l. l.broken) logs.old }
-    requires listing { listing.old.broken ≡ false }
+    requires { MayBeRun session.now.scripts.items logs.old listing.old }
     ensures { OnOk result (length logs.new ≡ length logs.old) }
 {
     let folder = Folder::read(rt, session.dir)?;
@@ -71,10 +67,7 @@ fn play<'a>(
     logs: &mut [MemSink],
     listing: &mut MemSink,
 ) -> Result<(), ProgramFault<'a>>
-    requires rising { AreRising (owners session.now.scripts.items) }
-    requires as_many { length logs.old ≡ length session.now.scripts.items }
-    requires open { AreOpen (λ l. l.broken) logs.old }
-    requires listing { listing.old.broken ≡ false }
+    requires { MayBeRun session.now.scripts.items logs.old listing.old }
     ensures { OnOk result (length logs.new ≡ length logs.old) }
 {
     let alloc = rt.alloc();

@@ -39,6 +39,10 @@ pub(crate) fn send_each(
         let ds = spread_all c.clients graph.now moment targets messages.now in
         OnOk result (out.new.items ≡ out.old.items ++ delivered c.pools ds) }
 {
+    // One copy of each goes to one port, so that room for them all is made once.
+    if let [Way::Straight(_)] = ways {
+        out.reserve(messages.len())?;
+    }
     for message in messages {
         send_message(clients, graph, moment, ways, message, out)?;
     }
@@ -65,6 +69,10 @@ fn send_message(
         let ds = spread c.clients graph.now moment hops targets message.now in
         OnOk result (out.new.items ≡ out.old.items ++ delivered c.pools ds) }
 {
+    // Where no filter asks for its parts, it goes as it is.
+    if let [Way::Straight(end)] = ways {
+        return deliver(clients, moment, *end, message.duplicate()?, out);
+    }
     match VoiceMessage::of(message) {
         Some(voice) => send_along(clients, graph, moment, ways, voice, out),
         None => send_along(clients, graph, moment, ways, message.duplicate()?, out),
@@ -72,6 +80,8 @@ fn send_message(
 }
 
 /// Sends a message along ways, one after another.
+// Not inline, so that the loop over messages that go straight to one port stays small.
+#[inline(never)]
 fn send_along<M: Carried + Drop>(
     clients: &mut Clients,
     graph: &PatchGraph,

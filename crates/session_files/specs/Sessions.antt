@@ -1,5 +1,8 @@
 -- What the subcommands that run scripts tell.
-use Rattle.std.specs.Prelude.{◌≡◌, ℕ, List, map, Contains}
+use Rattle.std.specs.Prelude.{◌≡◌, ℕ, false, List, length, map, Contains}
+use Rattle.byte_io.specs.Memory.{MemOutput}
+use Rattle.seq_session.specs.Devices.{AreOpen}
+use Rattle.seq_session.specs.Rising.{AreRising}
 use Rattle.seq_session.specs.declared.fault.SessionFault.{SessionFault}
 use Rattle.seq_session.specs.declared.fault.SessionFault.TheVariants.{Read}
 use Rattle.session_tools.specs.declared.words.ScriptWord.{ScriptWord}
@@ -10,6 +13,12 @@ use Rattle.tool_text.specs.declared.program_fault.ProgramFault.TheVariants.{OutO
 -- whose scripts they are
 abbrev pub owners : List ScriptWord → List ℕ
 owners scripts = map (λ s. s.client) scripts
+
+-- logs, one for each script, and a listing that scripts in the order of their clients may be run into
+abbrev pub MayBeRun : List ScriptWord → List MemOutput → MemOutput → Type 0
+MayBeRun scripts logs listing =
+    AreRising (owners scripts) × (length logs ≡ length scripts) × AreOpen (λ (l : MemOutput). l.broken) logs
+    × (listing.broken ≡ false)
 
 -- the fault that tells this word
 abbrev pub IsNotAMoment : List ℕ → ProgramFault → Type 0

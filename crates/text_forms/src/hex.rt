@@ -50,7 +50,8 @@ fn spell(bytes: &[u8], digits: &mut [u8])
 /// Adds a space and two upper-case digits for each byte, and the end of the line. After an error the text ends within
 /// them.
 // Most messages have three bytes or less. Where there is room for them, nothing here calls what grows the text, so that
-// no register has to be saved.
+// no register has to be saved; and it stands inline, where the number of bytes is mostly known.
+#[inline(always)]
 pub fn push_spaced_line(text: &mut Vec<u8>, bytes: &[u8]) -> Result<(), OutOfMemory>
     ensures { OnOk result (text.new.items ≡ text.old.items ++ spaced bytes.now ++ 10 ∷ []) }
 {

@@ -1,6 +1,6 @@
 //! The beginning of a line, kept for the lines that follow.
 
-ghost use Rattle.std.specs.Prelude.{◌≡◌, ◌++◌, IfOk, OnOk};
+ghost use Rattle.std.specs.Prelude.{◌≡◌, ◌≤◌, ◌++◌, length, take, IfOk, OnOk};
 ghost use Rattle.tool_text.specs.Thru.{heading};
 
 use memory::OutOfMemory;
@@ -8,14 +8,20 @@ use node_table::PortAddr;
 use std::alloc::Global;
 use text_forms::{push_decimal, push_port_addr};
 
+/// How many bytes are copied at once for a beginning that has no more.
+const BLOCK: usize = 32;
+
 /// A moment and a port, as the line of a delivery begins. Mostly many lines have the same, so that it is made once.
 #[derive(Drop)]
 pub(crate) struct Heading {
     alloc: Global,
     moment: u64,
     target: PortAddr,
+    // The text in its first `len` bytes, and a block of spaces behind it.
     text: Vec<u8>,
-    ghost said: { text.items ≡ heading moment target },
+    len: usize,
+    ghost said: { take len text.items ≡ heading moment target },
+    ghost within: { len ≤ length text.items },
 }
 
 impl Heading {
@@ -29,12 +35,26 @@ impl Heading {
         push_decimal(&mut text, moment)?;
         text.push(b' ')?;
         push_port_addr(&mut text, &target)?;
+        let len = text.len();
+        text.extend_from_slice(&[b' '; BLOCK])?;
         Ok(Heading {
             alloc,
             moment,
             target,
             text,
+            len,
         })
+    }
+
+    /// Takes another moment and port. After an error all stays as it was.
+    #[cold]
+    #[inline(never)]
+    fn renew(&mut self, moment: u64, target: PortAddr) -> Result<(), OutOfMemory>
+        ensures moment { OnOk result (self.new.moment ≡ moment) }
+        ensures target { OnOk result (self.new.target ≡ target) }
+    {
+        *self = Heading::new(self.alloc, moment, target)?;
+        Ok(())
     }
 
     /// Adds the beginning of a line.
@@ -47,9 +67,27 @@ impl Heading {
         ensures { OnOk result (text.new.items ≡ text.old.items ++ heading moment target) }
     {
         if moment != self.moment || target != self.target {
-            *self = Heading::new(self.alloc, moment, target)?;
+            self.renew(moment, target)?;
         }
-        text.extend_from_slice(self.text.as_slice())?;
-        Ok(())
+        push_front(text, self.text.as_slice(), self.len)
     }
+}
+
+/// Adds the first `len` bytes.
+#[inline(always)]
+fn push_front(text: &mut Vec<u8>, bytes: &[u8], len: usize) -> Result<(), OutOfMemory>
+    requires { len ≤ length bytes.now }
+    ensures { OnOk result (text.new.items ≡ text.old.items ++ take len bytes.now) }
+{
+    // A copy of a fixed length takes no call.
+    if len <= BLOCK
+        && let Some(block) = bytes.first_chunk::<BLOCK>()
+    {
+        let end = text.len() + len;
+        text.extend_from_slice(block)?;
+        text.truncate(end);
+        return Ok(());
+    }
+    text.extend_from_slice(&bytes[..len])?;
+    Ok(())
 }

@@ -20,6 +20,7 @@ use bitflags::Flags;
 use byte_io::{Sink, Source};
 use cell_pools::MOST_WAITING;
 use memory::{Items, OutOfMemory};
+use midi_wire::ShortMessage;
 use node_table::{Addr, Caps, ClientId, FIRST_CLIENT, Node, PortNo};
 use seq_engine::{Command, Delivery, Engine, Input, StepOut};
 use std::alloc::Global;
@@ -307,8 +308,16 @@ fn push_delivery(
     ensures { OnOk result (text.new.items ≡ text.old.items ++ passage_line delivery.now) }
 {
     heading.push(text, delivery.moment, delivery.target)?;
-    bytes.clear();
-    delivery.message.append_to(bytes)?;
-    push_spaced_line(text, bytes.as_slice())?;
-    Ok(())
+    match delivery.message.short() {
+        Some(ShortMessage::One(status)) => push_spaced_line(text, &[status]),
+        Some(ShortMessage::Two(status, first)) => push_spaced_line(text, &[status, first]),
+        Some(ShortMessage::Three(status, first, second)) => {
+            push_spaced_line(text, &[status, first, second])
+        }
+        None => {
+            bytes.clear();
+            delivery.message.append_to(bytes)?;
+            push_spaced_line(text, bytes.as_slice())
+        }
+    }
 }

@@ -1,0 +1,33 @@
+use Rattle.std.proofs.Common.{ℕ, ◌∷◌, ◌++◌, [], take, drop, get_or, sym, ap, ◌∙◌}
+use Rattle.std.proofs.lemmas.Bool.{leb-false}
+use Rattle.midi_wire.specs.Parsing.{pending_bytes}
+use Rattle.midi_wire.proofs.Calls.{gains-one}
+use Rattle.midi_wire.proofs.Voices.{running-reading, running-rest}
+use Rattle.memory.proofs.Outcomes.{on_err}
+use Rattle.midi_wire.proofs.Outcomes.{prefix-of-first, cut-one, cut-three, take-two}
+use Rattle.midi_wire.proofs.parser.Pending.take_front.Goals as goal
+
+pub returns-in_err-take_voice-clause-err : goal.returns-in_err-take_voice-clause-err
+returns-in_err-take_voice-clause-err c =
+    on_err c.from_residual.result (prefix-of-first c.args.out.now.items c.take_voice.new.out.items c.args.self.now (get_or c.args.bytes.now 0 0 ∷ get_or c.args.bytes.now 1 0 ∷ get_or c.args.bytes.now 2 0 ∷ []) (drop 3 c.args.bytes.now) c.args.bytes.now (cut-three c.args.bytes.now c.in-len3-up.len_at_least) c.in_err-take_voice.ensures.err)
+
+pub returns-in_err-take-clause-err : goal.returns-in_err-take-clause-err
+returns-in_err-take-clause-err c =
+    on_err c.from_residual-in_err-take.result (prefix-of-first c.args.out.now.items c.take.new.out.items c.args.self.now (get_or c.args.bytes.now 0 0 ∷ []) (drop 1 c.args.bytes.now) c.args.bytes.now (cut-one c.args.bytes.now c.requires.some) c.in_err-take.ensures.err)
+
+pub returns-else-is_status-clause-told : goal.returns-else-is_status-clause-told
+returns-else-is_status-clause-told c =
+    let a : ℕ = get_or c.args.bytes.now 0 0 in
+    let b : ℕ = get_or c.args.bytes.now 1 0 in
+    gains-one _ c.args.out.now.items c.with_two.result (c.in-Waiting.status ∷ a ∷ b ∷ []) (c.args.self.now ++ take 2 c.args.bytes.now) c.in_ok-push.ensures.items c.with_two.ensures
+    (running-reading c.args.self.now (take 2 c.args.bytes.now) c.in-Waiting.status a b
+    (sym c.self.view_is ∙ ap (λ k. pending_bytes k c.self.inside.payload.items) c.in-Waiting.is) (take-two c.args.bytes.now c.in-len2-up.len_at_least) (c.is_voice_of_two-else-is_status.ensures.0 c.if-is_voice_of_two-2.true)
+    (leb-false 128 a (sym c.is_status.ensures ∙ c.if-is_status.false)) (leb-false 128 b (sym c.is_status-else-is_status.ensures ∙ c.if-not-is_status-3.true)))
+
+pub returns-else-is_status-clause-leaves : goal.returns-else-is_status-clause-leaves
+returns-else-is_status-clause-leaves c =
+    let a : ℕ = get_or c.args.bytes.now 0 0 in
+    let b : ℕ = get_or c.args.bytes.now 1 0 in
+    running-rest c.args.self.now (take 2 c.args.bytes.now) c.in-Waiting.status a b
+    (sym c.self.view_is ∙ ap (λ k. pending_bytes k c.self.inside.payload.items) c.in-Waiting.is) (take-two c.args.bytes.now c.in-len2-up.len_at_least) (c.is_voice_of_two-else-is_status.ensures.0 c.if-is_voice_of_two-2.true)
+    (leb-false 128 a (sym c.is_status.ensures ∙ c.if-is_status.false)) (leb-false 128 b (sym c.is_status-else-is_status.ensures ∙ c.if-not-is_status-3.true))
