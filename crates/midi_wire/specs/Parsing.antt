@@ -19,7 +19,7 @@ full_bytes (WithOne status first) = status ∷ first ∷ []
 full_bytes (WithTwo status first second) = status ∷ first ∷ second ∷ []
 full_bytes (Exclusive payload) = messages.exclusive_message (rc_value payload).items
 
--- the bytes of a message that is no exclusive one
+-- the full bytes of a short message
 abbrev pub short_bytes : ShortMessage → List ℕ
 short_bytes (One status) = status ∷ []
 short_bytes (Two status first) = status ∷ first ∷ []

@@ -19,7 +19,7 @@ use std::rc::Rc;
 /// So many data bytes of an exclusive message take one allocation; more take two.
 const INLINE_DATA: usize = 64;
 
-/// The full bytes of a message that is no exclusive one: its status, and at most two data bytes.
+/// The full bytes of a message that has at most three: its status, and what follows it.
 #[derive(Clone, Copy, Debug, PartialEq, Eq)]
 pub enum ShortMessage {
     One(u8),
@@ -241,7 +241,7 @@ impl Message {
         }
     }
 
-    /// Its full bytes where it is no exclusive one.
+    /// Its full bytes as a short message. Only an exclusive message may have none.
     // Inline, so that what a caller does for each number of bytes stands where the form is known.
     #[inline(always)]
     pub fn short(&self) -> Option<ShortMessage>

@@ -69,13 +69,13 @@ impl Heading {
         if moment != self.moment || target != self.target {
             self.renew(moment, target)?;
         }
-        push_front(text, self.text.as_slice(), self.len)
+        push_prefix(text, self.text.as_slice(), self.len)
     }
 }
 
 /// Adds the first `len` bytes.
 #[inline(always)]
-fn push_front(text: &mut Vec<u8>, bytes: &[u8], len: usize) -> Result<(), OutOfMemory>
+fn push_prefix(text: &mut Vec<u8>, bytes: &[u8], len: usize) -> Result<(), OutOfMemory>
     requires { len ≤ length bytes.now }
     ensures { OnOk result (text.new.items ≡ text.old.items ++ take len bytes.now) }
 {

@@ -1,7 +1,7 @@
 use Rattle.std.proofs.Common.{◌++◌, ◌+◌, ℕ, List, take, ap, ◌∙◌}
 use Rattle.std.proofs.Math.Seq.{take-append-add}
 use Rattle.std.proofs.lemmas.List.{take-take}
-use Rattle.tool_text.proofs.heading.push_front.Goals as goal
+use Rattle.tool_text.proofs.heading.push_prefix.Goals as goal
 
 pub returns : goal.returns
 returns c =
