@@ -90,7 +90,7 @@ impl<T> InPool<T> {
         let mut taken = Vec::with_capacity(self.alloc, count)?;
         for _turn in 0..count {
             let item = self.items.pop_front().unwrap();
-            taken.push(item).ok().unwrap();
+            taken.push_reserved(item);
         }
         Ok(taken)
     }

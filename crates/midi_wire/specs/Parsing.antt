@@ -2,7 +2,7 @@
 use Rattle.std.specs.Prelude.{◌≡◌, ℕ, List, [], ◌∷◌, ◌++◌, length, Bool, true, false, nat_le, if◌then◌else◌}
 use Rattle.std.specs.Rc.{rc_value}
 use Rattle.midi_wire.specs.declared.message.Form.{Form}
-use Rattle.midi_wire.specs.declared.message.Form.TheVariants.{Alone, WithOne, WithTwo, Exclusive}
+use Rattle.midi_wire.specs.declared.message.Form.TheVariants.{Short, Exclusive}
 use Rattle.midi_wire.specs.declared.message.ShortMessage.{ShortMessage}
 use Rattle.midi_wire.specs.declared.message.ShortMessage.TheVariants.{One, Two, Three}
 use Rattle.midi_wire.specs.declared.parser.LastBlock.{LastBlock}
@@ -12,18 +12,16 @@ use Rattle.midi_wire.specs.Messages as messages
 use Rattle.midi_wire.specs.Readings.{too_long}
 use Rattle.midi_wire.specs.Writings.{is_channel}
 
--- the full bytes of a message
-abbrev pub full_bytes : Form → List ℕ
-full_bytes (Alone status) = status ∷ []
-full_bytes (WithOne status first) = status ∷ first ∷ []
-full_bytes (WithTwo status first second) = status ∷ first ∷ second ∷ []
-full_bytes (Exclusive payload) = messages.exclusive_message (rc_value payload).items
-
 -- the full bytes of a short message
 abbrev pub short_bytes : ShortMessage → List ℕ
 short_bytes (One status) = status ∷ []
 short_bytes (Two status first) = status ∷ first ∷ []
 short_bytes (Three status first second) = status ∷ first ∷ second ∷ []
+
+-- the full bytes of a message
+abbrev pub full_bytes : Form → List ℕ
+full_bytes (Short short) = short_bytes short
+full_bytes (Exclusive payload) = messages.exclusive_message (rc_value payload).items
 
 -- what of the last block still matters, as a parser holds it
 abbrev pub pending_bytes : LastBlock → List ℕ → List ℕ

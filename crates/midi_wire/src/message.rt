@@ -30,9 +30,7 @@ pub enum ShortMessage {
 /// How a message is kept.
 #[derive(Debug, Drop)]
 enum Form {
-    Alone(u8),
-    WithOne { status: u8, first: u8 },
-    WithTwo { status: u8, first: u8, second: u8 },
+    Short(ShortMessage),
     Exclusive(Rc<SmallVec<u8, INLINE_DATA>>),
 }
 
@@ -90,7 +88,7 @@ impl Message {
         ensures { result ≡ status ∷ [] }
     {
         Message {
-            form: Form::Alone(status),
+            form: Form::Short(ShortMessage::One(status)),
         }
     }
 
@@ -101,7 +99,7 @@ impl Message {
         ensures { result ≡ status ∷ first ∷ [] }
     {
         Message {
-            form: Form::WithOne { status, first },
+            form: Form::Short(ShortMessage::Two(status, first)),
         }
     }
 
@@ -112,11 +110,7 @@ impl Message {
         ensures { result ≡ status ∷ first ∷ second ∷ [] }
     {
         Message {
-            form: Form::WithTwo {
-                status,
-                first,
-                second,
-            },
+            form: Form::Short(ShortMessage::Three(status, first, second)),
         }
     }
 
@@ -203,20 +197,7 @@ impl Message {
         ensures message { IsMessage self.now }
     {
         let form = match &self.form {
-            Form::Alone(status) => Form::Alone(*status),
-            Form::WithOne { status, first } => Form::WithOne {
-                status: *status,
-                first: *first,
-            },
-            Form::WithTwo {
-                status,
-                first,
-                second,
-            } => Form::WithTwo {
-                status: *status,
-                first: *first,
-                second: *second,
-            },
+            Form::Short(short) => Form::Short(*short),
             Form::Exclusive(payload) => Form::Exclusive(payload.clone()?),
         };
         Ok(Message { form })
@@ -249,13 +230,7 @@ impl Message {
         ensures none { IfNone result (kind_of self.now ≡ Kind.Exclusive) }
     {
         match &self.form {
-            Form::Alone(status) => Some(ShortMessage::One(*status)),
-            Form::WithOne { status, first } => Some(ShortMessage::Two(*status, *first)),
-            Form::WithTwo {
-                status,
-                first,
-                second,
-            } => Some(ShortMessage::Three(*status, *first, *second)),
+            Form::Short(short) => Some(*short),
             Form::Exclusive(_) => None,
         }
     }
@@ -265,9 +240,9 @@ impl Message {
         ensures { result ≡ length self.now }
     {
         match &self.form {
-            Form::Alone(_) => 1,
-            Form::WithOne { .. } => 2,
-            Form::WithTwo { .. } => 3,
+            Form::Short(ShortMessage::One(_)) => 1,
+            Form::Short(ShortMessage::Two(_, _)) => 2,
+            Form::Short(ShortMessage::Three(_, _, _)) => 3,
             Form::Exclusive(payload) => payload.as_ref().len() + 2,
         }
     }
@@ -277,13 +252,11 @@ impl Message {
         ensures { result ≡ slice_get self.now i }
     {
         match &self.form {
-            Form::Alone(status) => [*status].get(i).copied(),
-            Form::WithOne { status, first } => [*status, *first].get(i).copied(),
-            Form::WithTwo {
-                status,
-                first,
-                second,
-            } => [*status, *first, *second].get(i).copied(),
+            Form::Short(ShortMessage::One(status)) => [*status].get(i).copied(),
+            Form::Short(ShortMessage::Two(status, first)) => [*status, *first].get(i).copied(),
+            Form::Short(ShortMessage::Three(status, first, second)) => {
+                [*status, *first, *second].get(i).copied()
+            }
             Form::Exclusive(payload) => exclusive_byte(payload.as_ref().as_slice(), i),
         }
     }
@@ -295,9 +268,9 @@ impl Message {
         ensures message { IsMessage self.now }
     {
         match &self.form {
-            Form::Alone(status) => *status,
-            Form::WithOne { status, .. } => *status,
-            Form::WithTwo { status, .. } => *status,
+            Form::Short(ShortMessage::One(status)) => *status,
+            Form::Short(ShortMessage::Two(status, _)) => *status,
+            Form::Short(ShortMessage::Three(status, _, _)) => *status,
             Form::Exclusive(_) => EXCLUSIVE,
         }
     }
@@ -311,17 +284,13 @@ impl Message {
         ensures full { OnErr result (vec_capacity out.old < vec_len out.old + length self.now) }
     {
         match &self.form {
-            Form::Alone(status) => {
+            Form::Short(ShortMessage::One(status)) => {
                 out.extend_from_slice(&[*status])?;
             }
-            Form::WithOne { status, first } => {
+            Form::Short(ShortMessage::Two(status, first)) => {
                 out.extend_from_slice(&[*status, *first])?;
             }
-            Form::WithTwo {
-                status,
-                first,
-                second,
-            } => {
+            Form::Short(ShortMessage::Three(status, first, second)) => {
                 out.extend_from_slice(&[*status, *first, *second])?;
             }
             Form::Exclusive(payload) => {
@@ -343,11 +312,11 @@ impl Message {
             (vec_capacity out.old < vec_len out.old + length (tail_of self.now)) }
     {
         match &self.form {
-            Form::Alone(_) => {}
-            Form::WithOne { first, .. } => {
+            Form::Short(ShortMessage::One(_)) => {}
+            Form::Short(ShortMessage::Two(_, first)) => {
                 out.extend_from_slice(&[*first])?;
             }
-            Form::WithTwo { first, second, .. } => {
+            Form::Short(ShortMessage::Three(_, first, second)) => {
                 out.extend_from_slice(&[*first, *second])?;
             }
             Form::Exclusive(payload) => {

@@ -16,7 +16,6 @@ use Rattle.seq_state.specs.Copies.{copy}
 use Rattle.seq_state.specs.State.{Client}
 use Rattle.seq_state.specs.declared.log.Delivery.{Delivery}
 use Rattle.seq_patchbay.specs.Carrying.{copies_to, spread}
-use Rattle.seq_patchbay.specs.Network.{Network}
 use Rattle.seq_patchbay.specs.declared.ways.Way.{Way}
 use Rattle.seq_patchbay.specs.declared.ways.Way.TheVariants.{Straight, Filtered, Parting, Nowhere}
 

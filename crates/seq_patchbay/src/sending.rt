@@ -1,9 +1,10 @@
 //! What goes along the subscriptions.
 
-ghost use Rattle.std.specs.Prelude.{◌≡◌, ◌++◌, List, Some, OnOk};
+ghost use Rattle.std.specs.Prelude.{◌≡◌, [], ◌∷◌, ◌++◌, List, Some, OnOk};
 ghost use Rattle.std.specs.Option.{option_to_list};
 ghost use Rattle.node_table.specs.declared.number.Addr.{Addr};
 ghost use Rattle.patch_graph.specs.Cursor.{at_port};
+ghost use Rattle.patch_graph.specs.declared.edge.Edge.{Edge};
 ghost use Rattle.patch_graph.specs.Paths.{hops};
 ghost use Rattle.seq_state.specs.Copies.{copy};
 ghost use Rattle.seq_state.specs.Step.{offered, delivered};
@@ -39,12 +40,37 @@ pub(crate) fn send_each(
         let ds = spread_all c.clients graph.now moment targets messages.now in
         OnOk result (out.new.items ≡ out.old.items ++ delivered c.pools ds) }
 {
-    // One copy of each goes to one port, so that room for them all is made once.
-    if let [Way::Straight(_)] = ways {
-        out.reserve(messages.len())?;
+    if let [Way::Straight(end)] = ways {
+        return send_straight(clients, moment, *end, messages, out);
     }
     for message in messages {
         send_message(clients, graph, moment, ways, message, out)?;
+    }
+    Ok(())
+}
+
+/// Sends messages one after another straight to a port: as they are, since no filter asks for their parts.
+fn send_straight(
+    clients: &mut Clients,
+    moment: u64,
+    end: PortAddr,
+    messages: &[Message],
+    out: &mut Vec<Delivery>,
+) -> Result<(), OutOfMemory>
+    ensures clients { clients.new.clients ≡ clients.old.clients }
+    ensures pools { let c = clients.old in (edges : List Edge) (targets : List Addr) →
+        AreWays c.clients edges targets (Way.Straight end ∷ []) →
+        let ds = spread_all c.clients edges moment targets messages.now in
+        OnOk result (clients.new.pools ≡ offered c.pools ds) }
+    ensures sent { let c = clients.old in (edges : List Edge) (targets : List Addr) →
+        AreWays c.clients edges targets (Way.Straight end ∷ []) →
+        let ds = spread_all c.clients edges moment targets messages.now in
+        OnOk result (out.new.items ≡ out.old.items ++ delivered c.pools ds) }
+{
+    // At most one copy of each comes, so that room for them all is made once.
+    out.reserve(messages.len())?;
+    for message in messages {
+        deliver(clients, moment, end, message.duplicate()?, out)?;
     }
     Ok(())
 }
@@ -69,10 +95,6 @@ fn send_message(
         let ds = spread c.clients graph.now moment hops targets message.now in
         OnOk result (out.new.items ≡ out.old.items ++ delivered c.pools ds) }
 {
-    // Where no filter asks for its parts, it goes as it is.
-    if let [Way::Straight(end)] = ways {
-        return deliver(clients, moment, *end, message.duplicate()?, out);
-    }
     match VoiceMessage::of(message) {
         Some(voice) => send_along(clients, graph, moment, ways, voice, out),
         None => send_along(clients, graph, moment, ways, message.duplicate()?, out),

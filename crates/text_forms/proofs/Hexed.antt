@@ -1,14 +1,15 @@
 -- Bytes in hexadecimal: their table, and many of them at a time.
-use Rattle.std.proofs.Common.{◌≡◌, ◌≢◌, ◌<◌, ℕ, ◌+◌, ◌*◌, ◌/◌, ◌%◌, List, [], ◌∷◌, ◌++◌, length, get_or, set, take, ap, ◌∙◌, sym, append_assoc, arith}
+use Rattle.std.proofs.Common.{◌≡◌, ◌≢◌, ◌<◌, ◌≤◌, ℕ, ◌+◌, ◌*◌, ◌/◌, ◌%◌, List, [], ◌∷◌, ◌++◌, length, get_or, set, take, ap, ◌∙◌, sym, append_assoc, arith}
 use Rattle.std.proofs.Math.ListN.{length-set}
-use Rattle.std.proofs.lemmas.List.{take_more, take_more_set, get_or-set_other}
+use Rattle.std.proofs.Math.Seq.{take-append-add}
+use Rattle.std.proofs.lemmas.List.{length-take-le, take-take, take_more, take_more_set, get_or-set_other}
 use Rattle.std.proofs.lemmas.List.Concat.{flat_map-append}
 use Rattle.text_forms.specs.Hex.{digit, spaced, in_hex}
-use Rattle.text_forms.specs.declared.hex.TheConstants.{PAIRS}
-use Rattle.text_forms.proofs.Pairs.{pair_below}
+use Rattle.text_forms.specs.declared.hex.TheConstants.{LINES}
+use Rattle.text_forms.proofs.Lines.{AreFour, line_below}
 
-pub PAIRS_at : (n : ℕ) → n < 256 → (get_or PAIRS.now (n * 2) 0 ≡ digit (n / 16)) × (get_or PAIRS.now (n * 2 + 1) 0 ≡ digit (n % 16))
-PAIRS_at n h = pair_below PAIRS.now (λ k. digit (k / 16)) (λ k. digit (k % 16)) 256 n tt h
+pub LINES_at : (n : ℕ) → n < 256 → AreFour LINES.now n 32 (digit (n / 16)) (digit (n % 16)) 10
+LINES_at n h = line_below LINES.now 32 (λ k. digit (k / 16)) (λ k. digit (k % 16)) 10 256 n tt h
 
 -- ---- bytes that are spelled one by one
 
@@ -45,6 +46,21 @@ module _ (d : List ℕ) (i s t : ℕ) (spaces : (k : ℕ) → 3 * k < length d �
 
   pub spelled_more : (xs : List ℕ) → i < length xs → s ∷ t ∷ [] ≡ in_hex (get_or xs i 0 ∷ []) → take (3 * i) d ≡ spaced (take i xs) → take (3 * (i + 1)) two ≡ spaced (take (i + 1) xs)
   spelled_more xs h e was = three_more ∙ ap (λ ys. ys ++ 32 ∷ s ∷ t ∷ []) was ∙ ap (λ ys. spaced (take i xs) ++ 32 ∷ ys) e ∙ sym (spaced_more xs i h)
+
+-- ---- bytes that are spelled over others, of which each covers the end of the line before it
+
+pub spelled_over : (text new line front xs : List ℕ) (e i : ℕ) → i < length xs → e ≤ length text
+    → take (e + length line) new ≡ take e text ++ line → line ≡ spaced (get_or xs i 0 ∷ []) ++ 10 ∷ []
+    → take e text ≡ front ++ spaced (take i xs) → take (e + 3) new ≡ front ++ spaced (take (i + 1) xs)
+spelled_over text new line front xs e i more room written is was =
+    sym (take-take (e + 3) (e + 4) new (omega arith))
+    ∙ ap (take (e + 3)) (ap (λ k. take (e + k) new) (sym (ap length is)) ∙ written)
+    ∙ ap (λ k. take (k + 3) (take e text ++ line)) (sym (length-take-le e text room))
+    ∙ take-append-add (take e text) line 3
+    ∙ ap (λ xs. take e text ++ take 3 xs) is
+    ∙ ap (λ ys. ys ++ spaced (get_or xs i 0 ∷ [])) was
+    ∙ append_assoc front (spaced (take i xs)) (spaced (get_or xs i 0 ∷ []))
+    ∙ ap (λ ys. front ++ ys) (sym (spaced_more xs i more))
 
 -- a pair of digits
 pub pair_is : (r : List ℕ) (b : ℕ) → r ≡ in_hex (b ∷ []) → get_or r 0 0 ∷ get_or r 1 0 ∷ [] ≡ in_hex (b ∷ [])

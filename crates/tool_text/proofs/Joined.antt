@@ -7,7 +7,6 @@ use Rattle.std.specs.FinMap.{FinMap}
 use Rattle.cell_pools.specs.Pools.{empty_pool, most_waiting}
 use Rattle.midi_wire.specs.Readings.{rest}
 use Rattle.midi_wire.proofs.Settled.{rest-none}
-use Rattle.node_table.specs.declared.caps.Caps.{Caps}
 use Rattle.patch_graph.specs.Edges.{edge, most_sources}
 use Rattle.seq_state.specs.declared.input.Command.{Command}
 use Rattle.seq_state.specs.declared.input.Command.TheVariants.{Open, CreatePort, Connect}

@@ -10,7 +10,7 @@ use Rattle.seq_state.specs.declared.input.Command.{Command}
 use Rattle.seq_state.specs.declared.input.Command.TheVariants.{Bytes, Receive}
 use Rattle.seq_state.specs.declared.log.Delivery.{Delivery}
 use Rattle.seq_state.specs.Files.{File}
-use Rattle.seq_state.specs.State.{State, start}
+use Rattle.seq_state.specs.State.{State}
 use Rattle.seq_state.specs.Step.{step, state_after}
 use Rattle.seq_engine.specs.Seen.{Seen}
 use Rattle.tool_text.specs.Stream.{message_lines}

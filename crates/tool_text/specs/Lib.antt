@@ -1,5 +1,6 @@
 pub mod Gathered
 pub mod Stream
+pub mod Headings
 pub mod Thru
 pub mod Wire
 pub mod Dump

@@ -1,15 +1,22 @@
 //! The beginning of a line, kept for the lines that follow.
 
-ghost use Rattle.std.specs.Prelude.{◌≡◌, ◌≤◌, ◌++◌, length, take, IfOk, OnOk};
+ghost use Rattle.std.specs.Prelude.{◌≡◌, ◌≤◌, ◌+◌, [], ◌∷◌, ◌++◌, length, vec_len, take, IfOk, IfSome, OnOk};
+ghost use Rattle.std.specs.Option.{ForSome};
+ghost use Rattle.text_forms.specs.Hex.{spaced};
 ghost use Rattle.tool_text.specs.Thru.{heading};
+ghost use Rattle.tool_text.specs.Headings.{IsBlock, IsRoomy};
+ghost use Rattle.tool_text.specs.declared.heading.TheConstants.{ROOM};
 
 use memory::OutOfMemory;
 use node_table::PortAddr;
 use std::alloc::Global;
-use text_forms::{push_decimal, push_port_addr};
+use text_forms::{overwrite_spaced_line, push_decimal, push_port_addr};
 
-/// How many bytes are copied at once for a beginning that has no more.
+/// How many bytes are copied at once where a text and the room behind it have no more.
 const BLOCK: usize = 32;
+
+/// How many bytes behind a text the rest of a line takes that ends with three bytes.
+const ROOM: usize = 10;
 
 /// A moment and a port, as the line of a delivery begins. Mostly many lines have the same, so that it is made once.
 #[derive(Drop)]
@@ -17,11 +24,13 @@ pub(crate) struct Heading {
     alloc: Global,
     moment: u64,
     target: PortAddr,
-    // The text in its first `len` bytes, and a block of spaces behind it.
+    // The text in its first `len` bytes, and spaces behind it.
     text: Vec<u8>,
     len: usize,
-    ghost said: { take len text.items ≡ heading moment target },
-    ghost within: { len ≤ length text.items },
+    // The same, where the text is short.
+    block: Option<[u8; BLOCK]>,
+    ghost said: { IsRoomy len (heading moment target) text.items },
+    ghost same: { ForSome block (IsBlock len (heading moment target)) },
 }
 
 impl Heading {
@@ -37,12 +46,14 @@ impl Heading {
         push_port_addr(&mut text, &target)?;
         let len = text.len();
         text.extend_from_slice(&[b' '; BLOCK])?;
+        let block = block_of(text.as_slice(), len);
         Ok(Heading {
             alloc,
             moment,
             target,
             text,
             len,
+            block,
         })
     }
 
@@ -57,37 +68,65 @@ impl Heading {
         Ok(())
     }
 
-    /// Adds the beginning of a line.
-    pub(crate) fn push(
-        &mut self,
-        text: &mut Vec<u8>,
-        moment: u64,
-        target: PortAddr,
-    ) -> Result<(), OutOfMemory>
-        ensures { OnOk result (text.new.items ≡ text.old.items ++ heading moment target) }
+    /// Is of this moment and this port from now on. After an error all stays as it was.
+    #[inline(always)]
+    pub(crate) fn turn_to(&mut self, moment: u64, target: PortAddr) -> Result<(), OutOfMemory>
+        ensures moment { OnOk result (self.new.moment ≡ moment) }
+        ensures target { OnOk result (self.new.target ≡ target) }
     {
         if moment != self.moment || target != self.target {
             self.renew(moment, target)?;
         }
-        push_prefix(text, self.text.as_slice(), self.len)
+        Ok(())
+    }
+
+    /// Adds the beginning of a line.
+    pub(crate) fn push(&self, text: &mut Vec<u8>) -> Result<(), OutOfMemory>
+        ensures { OnOk result (text.new.items
+            ≡ text.old.items ++ heading self.now.moment self.now.target) }
+    {
+        let end = text.len() + self.len;
+        self.push_roomy(text)?;
+        text.truncate(end);
+        Ok(())
+    }
+
+    /// Adds a line: its beginning, and a space and two digits for each of at most three bytes.
+    #[inline(always)]
+    pub(crate) fn push_line(&self, text: &mut Vec<u8>, bytes: &[u8]) -> Result<(), OutOfMemory>
+        requires { length bytes.now ≤ 3 }
+        ensures { OnOk result (text.new.items ≡ text.old.items
+            ++ heading self.now.moment self.now.target ++ spaced bytes.now ++ 10 ∷ []) }
+    {
+        let end = text.len() + self.len;
+        self.push_roomy(text)?;
+        overwrite_spaced_line(text, end, bytes);
+        Ok(())
+    }
+
+    /// Adds the beginning of a line, and bytes behind it to write over.
+    #[inline(always)]
+    fn push_roomy(&self, text: &mut Vec<u8>) -> Result<(), OutOfMemory>
+        ensures front { OnOk result (take (vec_len text.old + self.now.len) text.new.items
+            ≡ text.old.items ++ heading self.now.moment self.now.target) }
+        ensures room { OnOk result (vec_len text.old + self.now.len + ROOM ≤ vec_len text.new) }
+    {
+        match self.block {
+            // A copy of a fixed length takes no call.
+            Some(block) => text.extend_from_slice(&block)?,
+            None => text.extend_from_slice(self.text.as_slice())?,
+        }
+        Ok(())
     }
 }
 
-/// Adds the first `len` bytes.
-#[inline(always)]
-fn push_prefix(text: &mut Vec<u8>, bytes: &[u8], len: usize) -> Result<(), OutOfMemory>
+/// The first bytes, where so many and the room behind them are no more than a block.
+fn block_of(bytes: &[u8], len: usize) -> Option<[u8; BLOCK]>
     requires { len ≤ length bytes.now }
-    ensures { OnOk result (text.new.items ≡ text.old.items ++ take len bytes.now) }
+    ensures { IfSome result (IsBlock len (take len bytes.now)) }
 {
-    // A copy of a fixed length takes no call.
-    if len <= BLOCK
-        && let Some(block) = bytes.first_chunk::<BLOCK>()
-    {
-        let end = text.len() + len;
-        text.extend_from_slice(block)?;
-        text.truncate(end);
-        return Ok(());
+    match bytes.first_chunk::<BLOCK>() {
+        Some(block) if len + ROOM <= BLOCK => Some(*block),
+        _ => None,
     }
-    text.extend_from_slice(&bytes[..len])?;
-    Ok(())
 }

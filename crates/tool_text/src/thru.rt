@@ -307,14 +307,15 @@ fn push_delivery(
 ) -> Result<(), OutOfMemory>
     ensures { OnOk result (text.new.items ≡ text.old.items ++ passage_line delivery.now) }
 {
-    heading.push(text, delivery.moment, delivery.target)?;
+    heading.turn_to(delivery.moment, delivery.target)?;
     match delivery.message.short() {
-        Some(ShortMessage::One(status)) => push_spaced_line(text, &[status]),
-        Some(ShortMessage::Two(status, first)) => push_spaced_line(text, &[status, first]),
+        Some(ShortMessage::One(status)) => heading.push_line(text, &[status]),
+        Some(ShortMessage::Two(status, first)) => heading.push_line(text, &[status, first]),
         Some(ShortMessage::Three(status, first, second)) => {
-            push_spaced_line(text, &[status, first, second])
+            heading.push_line(text, &[status, first, second])
         }
         None => {
+            heading.push(text)?;
             bytes.clear();
             delivery.message.append_to(bytes)?;
             push_spaced_line(text, bytes.as_slice())

@@ -1,7 +1,6 @@
 use Rattle.std.proofs.Common.{◌≡◌, ◌++◌, List, ap, sym, subst, ◌∙◌}
 use Rattle.node_table.specs.declared.number.Addr.{Addr}
 use Rattle.patch_graph.specs.Paths.{hops}
-use Rattle.seq_state.specs.declared.log.Delivery.{Delivery}
 use Rattle.seq_state.specs.Step.{offered, delivered}
 use Rattle.seq_patchbay.specs.Carrying.{spread}
 use Rattle.seq_patchbay.specs.Ways.{AreWays}

@@ -7,7 +7,7 @@ use Rattle.seq_clients.specs.contracts.rows.RowTable.{the_view}
 use Rattle.seq_clients.specs.declared.row.ClientRow.{ClientRow}
 use Rattle.seq_clients.proofs.Arrays.{get_at, inserted, removed}
 use Rattle.seq_clients.proofs.rows.RowTable.offer.Goals as goal
-use Rattle.seq_clients.proofs.rows.RowTable.offer.Goals.{in-Some, in-None+in-Exclusive-1, in-None+in-Alone-1}
+use Rattle.seq_clients.proofs.rows.RowTable.offer.Goals.{in-Some, in-None+in-Exclusive-1, in-None+in-Short-1}
 
 pub returns-clause-kept : goal.returns-clause-kept
 returns-clause-kept c =
@@ -16,7 +16,7 @@ returns-clause-kept c =
     elim c.match-self-row_of.branch [
       | in-Some w ↦ w.result-is ∙ w.offer.ensures.kept ∙ ap (λ (r : ClientRow). pool_has_room (Some r.pool)) w.deref_mut.ensures.value ∙ ap room (ap (option_map (λ b. b.value)) (sym w.in-Some.is) ∙ here)
       | in-None+in-Exclusive-1 w ↦ w.result-is ∙ ap room (ap (option_map (λ b. b.value)) (sym w.in-None.is) ∙ here)
-      | in-None+in-Alone-1 w ↦ w.result-is ∙ ap room (ap (option_map (λ b. b.value)) (sym w.in-None.is) ∙ here)
+      | in-None+in-Short-1 w ↦ w.result-is ∙ ap room (ap (option_map (λ b. b.value)) (sym w.in-None.is) ∙ here)
     ]
 
 pub returns-clause-after : goal.returns-clause-after
@@ -30,7 +30,7 @@ returns-clause-after c =
       | in-None+in-Exclusive-1 w ↦ ap the_view w.self-inside-is
           ∙ removed (option_map (λ b. b.value)) 128 64 _ _ c.self.view_is c.self.invariant _ _ c.row_of.ensures.start c.row_of.ensures.small _ (ap (option_map (λ b. b.value)) w.in-None.is)
           ∙ ap later (ap (option_map (λ b. b.value)) (sym w.in-None.is) ∙ here)
-      | in-None+in-Alone-1 w ↦ ap the_view w.self-inside-is
+      | in-None+in-Short-1 w ↦ ap the_view w.self-inside-is
           ∙ removed (option_map (λ b. b.value)) 128 64 _ _ c.self.view_is c.self.invariant _ _ c.row_of.ensures.start c.row_of.ensures.small _ (ap (option_map (λ b. b.value)) w.in-None.is)
           ∙ ap later (ap (option_map (λ b. b.value)) (sym w.in-None.is) ∙ here)
     ]

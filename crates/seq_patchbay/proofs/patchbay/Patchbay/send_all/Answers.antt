@@ -1,9 +1,8 @@
-use Rattle.std.proofs.Common.{◌≡◌, ◌++◌, List, length, sym, ap, ◌∙◌, subst, append-nil}
+use Rattle.std.proofs.Common.{◌≡◌, ◌++◌, length, sym, ap, ◌∙◌, subst, append-nil}
 use Rattle.std.specs.Prelude.{OnOk}
 use Rattle.std.proofs.lemmas.Bool.{eqb-true}
 use Rattle.memory.proofs.Outcomes.{on_ok}
 use Rattle.patch_graph.specs.Index.{targets_of}
-use Rattle.seq_state.specs.declared.log.Delivery.{Delivery}
 use Rattle.seq_state.specs.Step.{port_addr, offered, delivered}
 use Rattle.seq_patchbay.specs.Carrying.{copies_of_all}
 use Rattle.seq_patchbay.specs.Network.{Network}

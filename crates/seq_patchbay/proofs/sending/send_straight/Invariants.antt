@@ -1,0 +1,18 @@
+use Rattle.std.proofs.Common.{◌≡◌, [], ◌∷◌, ◌++◌, take, List}
+use Rattle.node_table.specs.declared.number.Addr.{Addr}
+use Rattle.patch_graph.specs.declared.edge.Edge.{Edge}
+use Rattle.seq_state.specs.Step.{offered, delivered}
+use Rattle.seq_patchbay.specs.Ways.{spread_all, AreWays}
+use Rattle.seq_patchbay.specs.declared.ways.Way.TheVariants.{Straight}
+use Rattle.seq_patchbay.proofs.sending.send_straight.Given as goal
+
+abbrev pub invariant-loop-message : goal.invariant-loop-message
+invariant-loop-message l =
+    let c = l.fn.clients in
+    record {
+      clients : l.clients.clients ≡ c.clients;
+      pools : (edges : List Edge) (targets : List Addr) → AreWays c.clients edges targets (Straight l.end ∷ []) →
+          l.clients.pools ≡ offered c.pools (spread_all c.clients edges l.moment targets (take l.message-index l.messages));
+      sent : (edges : List Edge) (targets : List Addr) → AreWays c.clients edges targets (Straight l.end ∷ []) →
+          l.out.items ≡ l.fn.out.items ++ delivered c.pools (spread_all c.clients edges l.moment targets (take l.message-index l.messages));
+    }
