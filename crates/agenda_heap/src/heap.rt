@@ -32,13 +32,24 @@ const SLACK: usize = 64;
 /// linear time and in place: each entry is dropped once, so this adds a constant to the call that left it.
 ///
 /// Beside the entries stands a table as long as the greatest number of a cell so far; it never shrinks.
-#[derive(Drop)]
 pub struct HeapAgenda {
     alloc: Global,
     // Reversed as the heap's are, so that one function clears both.
     ascending: VecDeque<Reverse<Entry>>,
     heap: BinaryHeap<Reverse<Entry>>,
     table: KeyTable,
+}
+
+// Not derived: so what it has is taken apart here alone, and not in each crate that drops an agenda.
+impl Drop for HeapAgenda {
+    fn drop(self) {
+        let HeapAgenda {
+            alloc: _,
+            ascending: _,
+            heap: _,
+            table: _,
+        } = self;
+    }
 }
 
 impl Model for HeapAgenda {

@@ -1,12 +1,13 @@
 //! One run under both agendas.
 
 ghost use Rattle.std.specs.Prelude.{◌≡◌, map, IfOk, IfErr};
+ghost use Rattle.std.specs.FinMap as finmap;
 ghost use Rattle.smf_grammar.specs.Played.{played};
 ghost use Rattle.seq_state.specs.State.{start};
 ghost use Rattle.seq_state.specs.Step.{plain, state_after, IsTimed};
 ghost use Rattle.seq_engine.specs.Ending.{listing_of};
 
-use agenda_heap::{HeapAgenda, SortedAgenda};
+use agenda_heap::{Agenda, HeapAgenda, SortedAgenda};
 use seq_engine::{EngineFault, Input, RunLog, run};
 use smf_files::SmfFile;
 use std::alloc::Global;
@@ -29,7 +30,27 @@ pub fn run_under_both(
     ensures same_listing { IfOk result (λ logs. logs.1.listing ≡ logs.0.listing) }
     ensures out_of_memory { IfErr result (λ e. e ≡ EngineFault.OutOfMemory) }
 {
-    let log = run(alloc, files, HeapAgenda::new(alloc), inputs, until)?;
-    let sorted = run(alloc, files, SortedAgenda::new(alloc), inputs, until)?;
+    let log = run_under(alloc, files, HeapAgenda::new(alloc), inputs, until)?;
+    let sorted = run_under(alloc, files, SortedAgenda::new(alloc), inputs, until)?;
     Ok((log, sorted))
+}
+
+/// The same under one agenda.
+// Apart, so that the long contract of `run` is read once.
+fn run_under<A: Agenda + Drop>(
+    alloc: Global,
+    files: &[SmfFile<'_>],
+    agenda: A,
+    inputs: &[Input],
+    until: u64,
+) -> Result<RunLog, EngineFault>
+    requires timed { IsTimed inputs.now until }
+    requires empty { A.content agenda ≡ finmap.empty }
+    ensures plain { IfOk result (λ log.
+        log.entries ≡ plain (map played files.now) inputs.now until) }
+    ensures listing { IfOk result (λ log.
+        log.listing ≡ listing_of (state_after (map played files.now) start inputs.now)) }
+    ensures out_of_memory { IfErr result (λ e. e ≡ EngineFault.OutOfMemory) }
+{
+    run(alloc, files, agenda, inputs, until)
 }

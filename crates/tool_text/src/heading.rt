@@ -34,7 +34,7 @@ pub(crate) struct Heading {
 }
 
 impl Heading {
-    // Apart, so that `push` stays small where the moment and the port are the last ones.
+    // Apart, so that `turn_to` stays small where the moment and the port are the last ones.
     #[inline(never)]
     pub(crate) fn new(alloc: Global, moment: u64, target: PortAddr) -> Result<Heading, OutOfMemory>
         ensures moment { IfOk result (λ h. h.moment ≡ moment) }

@@ -67,7 +67,8 @@ pub fn ran_on(
     ran_with(rt, alloc, &files, inputs, until)
 }
 
-fn ran_with(
+/// The log of these inputs with these files.
+pub fn ran_with(
     rt: &impl Abort,
     alloc: Global,
     files: &[SmfFile<'_>],

@@ -5,7 +5,6 @@ use super::lines::Say::*;
 use super::lines::{ALL, Lines, Say};
 use super::logs::{assert_bytes, assert_log, port_0_of, ran_without_files};
 use super::sending::LISTENS;
-use agenda_heap::HeapAgenda;
 use seq_engine::*;
 use std::alloc::Global;
 use std::test::Fail;
@@ -31,9 +30,7 @@ fn a_hundred_thousand_notes(rt: HostRuntime) -> Result<(), Fail> {
     lines.by(129);
     lines.say_all(LISTENS)?;
     add_notes(&mut lines, 100_000)?;
-    let inputs = lines.inputs();
-    assert!(rt; is_timed(inputs, 100_000));
-    let log = run(alloc, &[], HeapAgenda::new(alloc), inputs, 100_000)?;
+    let log = ran_without_files(&rt, alloc, &lines, 100_000)?;
     assert!(rt; log.entries.len() == 300_005);
     // The status of the first note, and two bytes of each.
     assert!(rt; log.port_bytes(port_0_of(129)?)?.len() == 200_001);

@@ -1,13 +1,12 @@
 //! Files of what came to ports.
 
+use super::logs::ran_with;
 use super::making::client;
-use agenda_heap::HeapAgenda;
 use midi_wire::{Kind, Message};
 use node_table::{Addr, Caps, ClientId, Node, PortAddr, PortNo};
 use port_record::record_file;
-use seq_engine::{Command, Input, Items, RunLog, is_timed, run};
+use seq_engine::{Command, Input, Items};
 use std::alloc::Global;
-use std::process::Abort;
 use std::test::Fail;
 
 fn port_at(number: u8) -> Result<PortAddr, Fail> {
@@ -89,16 +88,11 @@ fn whole_note(alloc: Global) -> Result<Vec<Input>, Fail> {
     Ok(inputs)
 }
 
-fn ran<R: Abort>(rt: &R, alloc: Global, inputs: &[Input], until: u64) -> Result<RunLog, Fail> {
-    assert!(rt; is_timed(inputs, until));
-    Ok(run(alloc, &[], HeapAgenda::new(alloc), inputs, until)?)
-}
-
 #[test]
 fn records_at_ticks(rt: HostRuntime) -> Result<(), Fail> {
     let alloc = rt.alloc();
     let inputs = whole_note(alloc)?;
-    let log = ran(&rt, alloc, inputs.as_slice(), 1_000_000_000)?;
+    let log = ran_with(&rt, alloc, &[], inputs.as_slice(), 1_000_000_000)?;
     let file = record_file(alloc, &log, port_at(129)?)?;
     // 960 ticks are 87 40 as a delta time.
     assert!(rt;
@@ -114,7 +108,7 @@ fn records_at_ticks(rt: HostRuntime) -> Result<(), Fail> {
 fn recording(rt: HostRuntime) -> Result<(), Fail> {
     let alloc = rt.alloc();
     let inputs = fed(alloc, 5, b"\x90\x3C\x40")?;
-    let log = ran(&rt, alloc, inputs.as_slice(), 10)?;
+    let log = ran_with(&rt, alloc, &[], inputs.as_slice(), 10)?;
     let file = record_file(alloc, &log, port_at(129)?)?;
     assert!(rt;
         file.as_slice()
@@ -130,7 +124,7 @@ fn recording(rt: HostRuntime) -> Result<(), Fail> {
 fn records_silence(rt: HostRuntime) -> Result<(), Fail> {
     let alloc = rt.alloc();
     let inputs = whole_note(alloc)?;
-    let log = ran(&rt, alloc, inputs.as_slice(), 1_000_000_000)?;
+    let log = ran_with(&rt, alloc, &[], inputs.as_slice(), 1_000_000_000)?;
     let file = record_file(alloc, &log, port_at(128)?)?;
     assert!(rt;
         file.as_slice()

@@ -3,7 +3,7 @@
 use super::lines::At::P;
 use super::lines::Say::*;
 use super::lines::{Lines, Say};
-use super::logs::heard_by;
+use super::logs::{heard_by, ran_with};
 use agenda_heap::HeapAgenda;
 use seq_engine::*;
 use std::alloc::Global;
@@ -87,7 +87,7 @@ fn assert_step(
 #[test]
 fn nobody_says_anything(rt: HostRuntime) -> Result<(), Fail> {
     let alloc = rt.alloc();
-    let log = run(alloc, &[], HeapAgenda::new(alloc), &[], u64::MAX)?;
+    let log = ran_with(&rt, alloc, &[], &[], u64::MAX)?;
     assert!(rt; log.entries.len() == 0);
     assert!(rt; log.listing.len() == 0);
     assert!(rt; heard_by(alloc, &log, 128)?.as_str() == "");
