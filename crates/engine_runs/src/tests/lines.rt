@@ -127,8 +127,10 @@ impl Lines {
     }
 
     pub fn say(&mut self, moment: u64, said: Say) -> Result<(), Fail> {
-        let command = command_of(self.alloc, said).ok_or("a command")?;
-        self.give(moment, command)
+        match command_of(self.alloc, said) {
+            Some(command) => self.give(moment, command),
+            None => Err("a command".into()),
+        }
     }
 
     /// Adds a command, which comes after all of its moment that the client has said before.

@@ -125,60 +125,52 @@ fn full_listing(alloc: Global) -> Result<String, Fail> {
 /// Adds a client of the full house.
 fn add_client(alloc: Global, text: &mut String, client: u8) -> Result<(), Fail> {
     text.push_str(format!(in alloc; "client {client} c in 2000 out 2000\n")?.as_str())?;
-    add_numbered(
-        alloc,
-        text,
-        &Owned {
-            kind: "port",
-            client,
-            letter: "p",
-            end: " p 99",
-        },
-        16,
-    )?;
-    let end = " 99 65535 1023 0 127 0";
-    add_numbered(
-        alloc,
-        text,
-        &Owned {
-            kind: "filter",
-            client,
-            letter: "f",
-            end,
-        },
-        16,
-    )?;
-    add_numbered(
-        alloc,
-        text,
-        &Owned {
-            kind: "queue",
-            client,
-            letter: "q",
-            end: " stopped",
-        },
-        8,
-    )
+    for owned in &OWNED {
+        add_numbered(alloc, text, client, owned)?;
+    }
+    Ok(())
 }
 
-/// How a line shows what a client has.
+/// How lines show what a client has, and how many there are.
 #[derive(Clone, Copy)]
 struct Owned {
     kind: &'static str,
-    client: u8,
     letter: &'static str,
     end: &'static str,
+    count: u8,
 }
 
-/// Adds so many lines, numbered from 0.
-fn add_numbered(alloc: Global, text: &mut String, owned: &Owned, count: u8) -> Result<(), Fail> {
+/// What each client of the full house has.
+const OWNED: [Owned; 3] = [
+    Owned {
+        kind: "port",
+        letter: "p",
+        end: " p 99",
+        count: 16,
+    },
+    Owned {
+        kind: "filter",
+        letter: "f",
+        end: " 99 65535 1023 0 127 0",
+        count: 16,
+    },
+    Owned {
+        kind: "queue",
+        letter: "q",
+        end: " stopped",
+        count: 8,
+    },
+];
+
+/// Adds the lines of one kind, numbered from 0.
+fn add_numbered(alloc: Global, text: &mut String, client: u8, owned: &Owned) -> Result<(), Fail> {
     let Owned {
         kind,
-        client,
         letter,
         end,
+        count,
     } = owned;
-    for number in 0..count {
+    for number in 0..*count {
         let line = format!(in alloc; "{kind} {client}:{letter}{number}{end}\n")?;
         text.push_str(line.as_str())?;
     }
