@@ -1,11 +1,11 @@
 //! The beginning of a line, kept for the lines that follow.
 
-ghost use Rattle.std.specs.Prelude.{◌≡◌, ◌≤◌, ◌+◌, [], ◌∷◌, ◌++◌, length, vec_len, take, IfOk, IfSome, OnOk};
+ghost use Rattle.std.specs.Prelude.{◌≡◌, ◌≤◌, ◌<◌, ◌+◌, [], ◌∷◌, ◌++◌, length, vec_len, take, IfOk, IfSome, IfNone, OnOk};
 ghost use Rattle.std.specs.Option.{ForSome};
 ghost use Rattle.text_forms.specs.Hex.{spaced};
 ghost use Rattle.tool_text.specs.Thru.{heading};
 ghost use Rattle.tool_text.specs.Headings.{IsBlock, IsRoomy};
-ghost use Rattle.tool_text.specs.declared.heading.TheConstants.{ROOM};
+ghost use Rattle.tool_text.specs.declared.heading.TheConstants.{BLOCK, ROOM};
 
 use memory::OutOfMemory;
 use node_table::PortAddr;
@@ -15,7 +15,7 @@ use text_forms::{overwrite_spaced_line, push_decimal, push_port_addr};
 /// How many bytes are copied at once where a text and the room behind it have no more.
 const BLOCK: usize = 32;
 
-/// How many bytes behind a text the rest of a line takes that ends with three bytes.
+/// How many bytes follow the beginning of a line that ends with three bytes in hexadecimal.
 const ROOM: usize = 10;
 
 /// A moment and a port, as the line of a delivery begins. Mostly many lines have the same, so that it is made once.
@@ -120,10 +120,11 @@ impl Heading {
     }
 }
 
-/// The first bytes, where so many and the room behind them are no more than a block.
+/// A block of the first bytes, where the text in the first `len` and the room behind it stand in it.
 fn block_of(bytes: &[u8], len: usize) -> Option<[u8; BLOCK]>
-    requires { len ≤ length bytes.now }
-    ensures { IfSome result (IsBlock len (take len bytes.now)) }
+    requires { len + BLOCK ≤ length bytes.now }
+    ensures some { IfSome result (IsBlock len (take len bytes.now)) }
+    ensures none { IfNone result (BLOCK < len + ROOM) }
 {
     match bytes.first_chunk::<BLOCK>() {
         Some(block) if len + ROOM <= BLOCK => Some(*block),
