@@ -3,6 +3,8 @@ use Rattle.std.specs.Prelude.{◌≡◌, ℕ, List, [], ◌∷◌, ◌++◌, len
 use Rattle.std.specs.Rc.{rc_value}
 use Rattle.midi_wire.specs.declared.message.Form.{Form}
 use Rattle.midi_wire.specs.declared.message.Form.TheVariants.{Short, Exclusive}
+use Rattle.midi_wire.specs.declared.message.FullBytes.{FullBytes}
+use Rattle.midi_wire.specs.declared.message.FullBytes.TheVariants as full
 use Rattle.midi_wire.specs.declared.message.ShortMessage.{ShortMessage}
 use Rattle.midi_wire.specs.declared.message.ShortMessage.TheVariants.{One, Two, Three}
 use Rattle.midi_wire.specs.declared.parser.LastBlock.{LastBlock}
@@ -22,6 +24,11 @@ short_bytes (Three status first second) = status ∷ first ∷ second ∷ []
 abbrev pub full_bytes : Form → List ℕ
 full_bytes (Short short) = short_bytes short
 full_bytes (Exclusive payload) = messages.exclusive_message (rc_value payload).items
+
+-- all bytes of what a message gives
+abbrev pub all_of : FullBytes → List ℕ
+all_of (full.Short short) = short_bytes short
+all_of (full.Exclusive payload) = messages.exclusive_message payload.now
 
 -- what of the last block still matters, as a parser holds it
 abbrev pub pending_bytes : LastBlock → List ℕ → List ℕ

@@ -16,7 +16,7 @@ ghost use Rattle.midi_wire.specs.Laws.{TestsMessages, ReadsMessages, ReadsInTwo,
 
 pub use fault::WireFault;
 pub use kind::Kind;
-pub use message::{Message, ShortMessage};
+pub use message::{FullBytes, Message, ShortMessage};
 pub use parser::StreamParser;
 pub use status::{CHANNELS, END_OF_EXCLUSIVE, EXCLUSIVE, StatusClass, Width, is_exclusive_tail};
 pub use writer::StreamWriter;

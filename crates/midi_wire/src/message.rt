@@ -5,7 +5,7 @@ ghost use Rattle.std.specs.Cmp.{partial_equiv_from_equiv};
 ghost use Rattle.std.specs.Cmp.Lexicographic.{nat_list_eq_equiv};
 ghost use Rattle.midi_wire.specs.Messages.{One, Two, IsMessage, exclusive_message, is_message};
 ghost use Rattle.midi_wire.specs.Kinds.{kind_of, channel_number, is_base, with_one_data, with_two_data, channel_message};
-ghost use Rattle.midi_wire.specs.Parsing.{short_bytes};
+ghost use Rattle.midi_wire.specs.Parsing.{all_of};
 ghost use Rattle.midi_wire.specs.Writings.{status_of, tail_of};
 
 use crate::kind::{Kind, kind_of_status};
@@ -25,6 +25,14 @@ pub enum ShortMessage {
     One(u8),
     Two(u8, u8),
     Three(u8, u8, u8),
+}
+
+/// The full bytes of a message.
+#[derive(Clone, Copy, Debug)]
+pub enum FullBytes<'m> {
+    Short(ShortMessage),
+    /// The data of an exclusive message, which stands between F0 and F7.
+    Exclusive(&'m [u8]),
 }
 
 /// How a message is kept.
@@ -222,16 +230,15 @@ impl Message {
         }
     }
 
-    /// Its full bytes as a short message. Only an exclusive message may have none.
+    /// Its full bytes, in the form in which it has them. It takes no memory.
     // Inline, so that what a caller does for each number of bytes stands where the form is known.
     #[inline(always)]
-    pub fn short(&self) -> Option<ShortMessage>
-        ensures some { IfSome result (λ short. short_bytes short ≡ self.now) }
-        ensures none { IfNone result (kind_of self.now ≡ Kind.Exclusive) }
+    pub fn full_bytes(&self) -> FullBytes<'_>
+        ensures { all_of result ≡ self.now }
     {
         match &self.form {
-            Form::Short(short) => Some(*short),
-            Form::Exclusive(_) => None,
+            Form::Short(short) => FullBytes::Short(*short),
+            Form::Exclusive(payload) => FullBytes::Exclusive(payload.as_ref().as_slice()),
         }
     }
 
@@ -239,11 +246,11 @@ impl Message {
     pub fn len(&self) -> usize
         ensures { result ≡ length self.now }
     {
-        match &self.form {
-            Form::Short(ShortMessage::One(_)) => 1,
-            Form::Short(ShortMessage::Two(_, _)) => 2,
-            Form::Short(ShortMessage::Three(_, _, _)) => 3,
-            Form::Exclusive(payload) => payload.as_ref().len() + 2,
+        match self.full_bytes() {
+            FullBytes::Short(ShortMessage::One(_)) => 1,
+            FullBytes::Short(ShortMessage::Two(_, _)) => 2,
+            FullBytes::Short(ShortMessage::Three(_, _, _)) => 3,
+            FullBytes::Exclusive(payload) => payload.len() + 2,
         }
     }
 
@@ -251,13 +258,13 @@ impl Message {
     pub fn byte_at(&self, i: usize) -> Option<u8>
         ensures { result ≡ slice_get self.now i }
     {
-        match &self.form {
-            Form::Short(ShortMessage::One(status)) => [*status].get(i).copied(),
-            Form::Short(ShortMessage::Two(status, first)) => [*status, *first].get(i).copied(),
-            Form::Short(ShortMessage::Three(status, first, second)) => {
-                [*status, *first, *second].get(i).copied()
+        match self.full_bytes() {
+            FullBytes::Short(ShortMessage::One(status)) => [status].get(i).copied(),
+            FullBytes::Short(ShortMessage::Two(status, first)) => [status, first].get(i).copied(),
+            FullBytes::Short(ShortMessage::Three(status, first, second)) => {
+                [status, first, second].get(i).copied()
             }
-            Form::Exclusive(payload) => exclusive_byte(payload.as_ref().as_slice(), i),
+            FullBytes::Exclusive(payload) => exclusive_byte(payload, i),
         }
     }
 
@@ -283,18 +290,17 @@ impl Message {
         ensures err { OnErr result (out.new.items ≡ out.old.items) }
         ensures full { OnErr result (vec_capacity out.old < vec_len out.old + length self.now) }
     {
-        match &self.form {
-            Form::Short(ShortMessage::One(status)) => {
-                out.extend_from_slice(&[*status])?;
+        match self.full_bytes() {
+            FullBytes::Short(ShortMessage::One(status)) => {
+                out.extend_from_slice(&[status])?;
             }
-            Form::Short(ShortMessage::Two(status, first)) => {
-                out.extend_from_slice(&[*status, *first])?;
+            FullBytes::Short(ShortMessage::Two(status, first)) => {
+                out.extend_from_slice(&[status, first])?;
             }
-            Form::Short(ShortMessage::Three(status, first, second)) => {
-                out.extend_from_slice(&[*status, *first, *second])?;
+            FullBytes::Short(ShortMessage::Three(status, first, second)) => {
+                out.extend_from_slice(&[status, first, second])?;
             }
-            Form::Exclusive(payload) => {
-                let data = payload.as_ref().as_slice();
+            FullBytes::Exclusive(data) => {
                 out.reserve(data.len() + 2)?;
                 out.push(EXCLUSIVE).ok().unwrap();
                 out.extend_from_slice(data).ok().unwrap();
@@ -311,16 +317,15 @@ impl Message {
         ensures full { OnErr result
             (vec_capacity out.old < vec_len out.old + length (tail_of self.now)) }
     {
-        match &self.form {
-            Form::Short(ShortMessage::One(_)) => {}
-            Form::Short(ShortMessage::Two(_, first)) => {
-                out.extend_from_slice(&[*first])?;
+        match self.full_bytes() {
+            FullBytes::Short(ShortMessage::One(_)) => {}
+            FullBytes::Short(ShortMessage::Two(_, first)) => {
+                out.extend_from_slice(&[first])?;
             }
-            Form::Short(ShortMessage::Three(_, first, second)) => {
-                out.extend_from_slice(&[*first, *second])?;
+            FullBytes::Short(ShortMessage::Three(_, first, second)) => {
+                out.extend_from_slice(&[first, second])?;
             }
-            Form::Exclusive(payload) => {
-                let data = payload.as_ref().as_slice();
+            FullBytes::Exclusive(data) => {
                 out.reserve(data.len() + 1)?;
                 out.extend_from_slice(data).ok().unwrap();
                 out.push(END_OF_EXCLUSIVE).ok().unwrap();

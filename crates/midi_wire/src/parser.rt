@@ -1,7 +1,8 @@
 //! A stream of bytes, read in any pieces.
 
-ghost use Rattle.std.specs.Prelude.{◌≡◌, ◌≤◌, ◌<◌, ℕ, [], ◌∷◌, ◌++◌, length, take, Bool, true, false, IsTrue, ◌↔◌, IfOk, OnOk, OnErr, IsErrOf};
-ghost use Rattle.midi_wire.specs.Messages.{begins, exclusive_message, is_message};
+ghost use Rattle.std.specs.Prelude.{◌≡◌, ◌≤◌, ◌<◌, ℕ, [], ◌∷◌, ◌++◌, length, take, nat_le, if◌then◌else◌, Bool, true, false, IsTrue, ◌↔◌, IfOk, OnOk, OnErr, IsErrOf};
+ghost use Rattle.std.specs.List.{position_or_len};
+ghost use Rattle.midi_wire.specs.Messages.{begins, exclusive_message, is_message, is_status, most_data};
 ghost use Rattle.midi_wire.specs.Readings.{reading, rest};
 ghost use Rattle.midi_wire.specs.Parsing.{next_group, GainsPrefix};
 
@@ -55,6 +56,37 @@ fn tell_exclusive(alloc: Global, payload: &[u8], out: &mut Vec<Message>) -> Resu
     let message = Message::exclusive(alloc, payload)?;
     out.push(message)?;
     Ok(())
+}
+
+/// How many data bytes stand before the first status.
+#[inline(always)]
+fn data_len(bytes: &[u8]) -> usize
+    ensures value { result ≡ position_or_len is_status bytes.now }
+    ensures within { result ≤ length bytes.now }
+{
+    let mut n = 0;
+    while n < bytes.len() && !is_status(bytes[n]) {
+        n += 1;
+    }
+    n
+}
+
+/// Adds data to that of an exclusive message, and answers whether it is not too much. What is too much takes no memory,
+/// and drops what is there.
+fn add_data(payload: &mut Vec<u8>, data: &[u8]) -> Result<bool, OutOfMemory>
+    requires { length payload.old.items ≤ most_data }
+    ensures fits { let all = payload.old.items ++ data.now in
+        IfOk result (λ fits. fits ≡ nat_le (length all) most_data) }
+    ensures added { let all = payload.old.items ++ data.now in
+        OnOk result (payload.new.items ≡ (if nat_le (length all) most_data then all else [])) }
+    ensures err { OnErr result (payload.new.items ≡ payload.old.items) }
+{
+    if data.len() > MOST_DATA - payload.len() {
+        payload.clear();
+        return Ok(false);
+    }
+    payload.extend_from_slice(data)?;
+    Ok(true)
 }
 
 /// What of the stream so far still matters.
@@ -160,10 +192,7 @@ impl Pending {
                 self.block = next_group(status, Width::Two);
             }
             LastBlock::Collecting => {
-                if self.payload.len() < MOST_DATA {
-                    self.payload.push(byte)?;
-                } else {
-                    self.payload.clear();
+                if !add_data(&mut self.payload, &[byte])? {
                     self.block = LastBlock::Overlong;
                 }
             }
@@ -226,7 +255,7 @@ impl Pending {
     }
 
     /// Takes the first bytes, and answers how many: a whole message of a channel with two data bytes where one stands
-    /// there, also under running status, and else one byte.
+    /// there, also under running status; all data bytes inside an exclusive message; and else one byte.
     #[inline(always)]
     fn take_front(&mut self, bytes: &[u8], out: &mut Vec<Message>) -> Result<usize, OutOfMemory>
         requires settled { rest self.old ≡ self.old }
@@ -255,6 +284,12 @@ impl Pending {
         {
             out.push(Message::with_two(status, byte, *second))?;
             return Ok(2);
+        } else if let LastBlock::Collecting = self.block {
+            let count = data_len(bytes);
+            if !add_data(&mut self.payload, &bytes[..count])? {
+                self.block = LastBlock::Overlong;
+            }
+            return Ok(count);
         }
         self.take(byte, out)?;
         Ok(1)

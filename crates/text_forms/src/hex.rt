@@ -186,7 +186,8 @@ pub fn overwrite_spaced_line(text: &mut Vec<u8>, at: usize, bytes: &[u8])
 #[inline(always)]
 fn overwrite(text: &mut Vec<u8>, at: usize, bytes: &[u8])
     requires { at + length bytes.now ≤ vec_len text.old }
-    ensures written { take (at + length bytes.now) text.new.items ≡ take at text.old.items ++ bytes.now }
+    ensures written { take (at + length bytes.now) text.new.items
+        ≡ take at text.old.items ++ bytes.now }
     ensures len { vec_len text.new ≡ vec_len text.old }
 {
     text[at..at + bytes.len()].copy_from_slice(bytes);

@@ -2,6 +2,7 @@
 
 ghost use Rattle.std.specs.Prelude.{◌≡◌, ◌≤◌, ◌<◌, ◌+◌, [], ◌∷◌, ◌++◌, length, vec_len, take, IfOk, IfSome, IfNone, OnOk};
 ghost use Rattle.std.specs.Option.{ForSome};
+ghost use Rattle.midi_wire.specs.Messages.{exclusive_message};
 ghost use Rattle.text_forms.specs.Hex.{spaced};
 ghost use Rattle.tool_text.specs.Thru.{heading};
 ghost use Rattle.tool_text.specs.Headings.{IsBlock, IsRoomy};
@@ -10,7 +11,7 @@ ghost use Rattle.tool_text.specs.declared.heading.TheConstants.{BLOCK, ROOM};
 use memory::OutOfMemory;
 use node_table::PortAddr;
 use std::alloc::Global;
-use text_forms::{overwrite_spaced_line, push_decimal, push_port_addr};
+use text_forms::{overwrite_spaced_line, push_decimal, push_port_addr, push_spaced};
 
 /// How many bytes are copied at once where a text and the room behind it have no more.
 const BLOCK: usize = 32;
@@ -81,7 +82,7 @@ impl Heading {
     }
 
     /// Adds the beginning of a line.
-    pub(crate) fn push(&self, text: &mut Vec<u8>) -> Result<(), OutOfMemory>
+    fn push(&self, text: &mut Vec<u8>) -> Result<(), OutOfMemory>
         ensures { OnOk result (text.new.items
             ≡ text.old.items ++ heading self.now.moment self.now.target) }
     {
@@ -101,6 +102,23 @@ impl Heading {
         let end = text.len() + self.len;
         self.push_roomy(text)?;
         overwrite_spaced_line(text, end, bytes);
+        Ok(())
+    }
+
+    /// Adds a line: its beginning, and an exclusive message of this data.
+    pub(crate) fn push_exclusive(
+        &self,
+        text: &mut Vec<u8>,
+        payload: &[u8],
+    ) -> Result<(), OutOfMemory>
+        ensures { let message = exclusive_message payload.now in
+            OnOk result (text.new.items ≡ text.old.items
+            ++ heading self.now.moment self.now.target ++ spaced message ++ 10 ∷ []) }
+    {
+        self.push(text)?;
+        text.extend_from_slice(b" F0")?;
+        push_spaced(text, payload)?;
+        text.extend_from_slice(b" F7\n")?;
         Ok(())
     }
 

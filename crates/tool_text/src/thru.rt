@@ -20,11 +20,10 @@ use bitflags::Flags;
 use byte_io::{Sink, Source};
 use cell_pools::MOST_WAITING;
 use memory::{Items, OutOfMemory};
-use midi_wire::ShortMessage;
+use midi_wire::{FullBytes, ShortMessage};
 use node_table::{Addr, Caps, ClientId, FIRST_CLIENT, Node, PortNo};
 use seq_engine::{Command, Delivery, Engine, Input, StepOut};
 use std::alloc::Global;
-use text_forms::push_spaced_line;
 
 /// How many bytes are passed on at once. Each completes at most two messages, so that a piece completes no more than
 /// `MOST_WAITING`, for which the second client has room.
@@ -70,7 +69,6 @@ pub fn thru_text<R: Source, W: Sink>(
 struct Passage<'b, A: Agenda> {
     alloc: Global,
     engine: Engine<'b, 'b, A>,
-    bytes: Vec<u8>,
 }
 
 impl<'b, A: Agenda + Drop> Passage<'b, A> {
@@ -83,7 +81,6 @@ impl<'b, A: Agenda + Drop> Passage<'b, A> {
         Ok(Passage {
             alloc,
             engine: joined(alloc, agenda)?,
-            bytes: Vec::new(alloc),
         })
     }
 }
@@ -97,7 +94,7 @@ impl<'b, A: Agenda> Printer for Passage<'b, A> {
     ghost lines = { message_lines thru_line };
 
     fn take(&mut self, piece: &[u8], text: &mut Vec<u8>) -> Result<(), ToolFault> {
-        pass_on(self.alloc, &mut self.engine, piece, &mut self.bytes, text)
+        pass_on(self.alloc, &mut self.engine, piece, text)
     }
 }
 
@@ -225,13 +222,11 @@ fn piece_of(alloc: Global, piece: &[u8]) -> Result<Command, OutOfMemory>
     })
 }
 
-/// Feeds the first client's port, and adds a line for each message that comes to the second's. What was in `bytes` is
-/// lost.
+/// Feeds the first client's port, and adds a line for each message that comes to the second's.
 fn pass_on<'b, A: Agenda>(
     alloc: Global,
     engine: &mut Engine<'b, 'b, A>,
     piece: &[u8],
-    bytes: &mut Vec<u8>,
     text: &mut Vec<u8>,
 ) -> Result<(), ToolFault>
     requires passing { IsPassing engine.old }
@@ -246,7 +241,7 @@ fn pass_on<'b, A: Agenda>(
     ensures only { IfErr result (λ e. e ≡ ToolFault.OutOfMemory) }
 {
     for part in piece.chunks(MOST_PIECE) {
-        pass_part(alloc, engine, part, bytes, text)?;
+        pass_part(alloc, engine, part, text)?;
     }
     Ok(())
 }
@@ -257,7 +252,6 @@ fn pass_part<'b, A: Agenda>(
     alloc: Global,
     engine: &mut Engine<'b, 'b, A>,
     part: &[u8],
-    bytes: &mut Vec<u8>,
     text: &mut Vec<u8>,
 ) -> Result<(), ToolFault>
     requires passing { IsPassing engine.old }
@@ -275,15 +269,14 @@ fn pass_part<'b, A: Agenda>(
     let source = ClientId::new(FIRST_CLIENT).unwrap();
     let sink = ClientId::new(FIRST_CLIENT + 1).unwrap();
     let delivered = take(engine, source, piece_of(alloc, part)?)?;
-    add_lines(alloc, delivered, bytes, text)?;
+    add_lines(alloc, delivered, text)?;
     say(engine, sink, Command::Receive { max: MOST_WAITING })
 }
 
-/// Adds a line for each delivery. What was in `bytes` is lost.
+/// Adds a line for each delivery.
 fn add_lines(
     alloc: Global,
     delivered: Items<Delivery>,
-    bytes: &mut Vec<u8>,
     text: &mut Vec<u8>,
 ) -> Result<(), OutOfMemory>
     ensures { OnOk result (text.new.items ≡ text.old.items ++ flat_map passage_line delivered) }
@@ -293,32 +286,28 @@ fn add_lines(
     };
     let mut heading = Heading::new(alloc, first.moment, first.target)?;
     for delivery in delivered.as_slice() {
-        push_delivery(delivery, &mut heading, bytes, text)?;
+        push_delivery(delivery, &mut heading, text)?;
     }
     Ok(())
 }
 
-/// Adds the line of a delivery. What was in `bytes` is lost.
+/// Adds the line of a delivery.
 fn push_delivery(
     delivery: &Delivery,
     heading: &mut Heading,
-    bytes: &mut Vec<u8>,
     text: &mut Vec<u8>,
 ) -> Result<(), OutOfMemory>
     ensures { OnOk result (text.new.items ≡ text.old.items ++ passage_line delivery.now) }
 {
     heading.turn_to(delivery.moment, delivery.target)?;
-    match delivery.message.short() {
-        Some(ShortMessage::One(status)) => heading.push_line(text, &[status]),
-        Some(ShortMessage::Two(status, first)) => heading.push_line(text, &[status, first]),
-        Some(ShortMessage::Three(status, first, second)) => {
+    match delivery.message.full_bytes() {
+        FullBytes::Short(ShortMessage::One(status)) => heading.push_line(text, &[status]),
+        FullBytes::Short(ShortMessage::Two(status, first)) => {
+            heading.push_line(text, &[status, first])
+        }
+        FullBytes::Short(ShortMessage::Three(status, first, second)) => {
             heading.push_line(text, &[status, first, second])
         }
-        None => {
-            heading.push(text)?;
-            bytes.clear();
-            delivery.message.append_to(bytes)?;
-            push_spaced_line(text, bytes.as_slice())
-        }
+        FullBytes::Exclusive(payload) => heading.push_exclusive(text, payload),
     }
 }

@@ -179,6 +179,19 @@ fn exclusive_bound(rt: HostRuntime) -> Result<(), Fail> {
     Ok(())
 }
 
+/// Data that stands in the message, that takes one allocation, and that takes two.
+#[test]
+fn exclusive_messages_of_many_lengths(rt: HostRuntime) -> Result<(), Fail> {
+    for length in [0, 29, 30, 31, 64, 65] {
+        let mut stream = Vec::new(rt.alloc());
+        stream.push(0xF0)?;
+        stream.resize(length + 1, 0x2A)?;
+        stream.push(0xF7)?;
+        check_reading(&rt, rt.alloc(), stream.as_slice(), 1, stream.as_slice())?;
+    }
+    Ok(())
+}
+
 #[test]
 fn channel_messages(rt: HostRuntime) -> Result<(), Fail> {
     let bend = Message::channel(Kind::PitchBend, 5, 0x00, 0x40).ok_or("a message")?;

@@ -1,10 +1,9 @@
-use Rattle.std.proofs.Common.{◌≡◌, List, ℕ, ◌∷◌, ◌++◌, [], true, refl, sym, ap, subst, ◌∙◌, inl, inr, length, ◌<◌, ◌≤◌, arith}
+use Rattle.std.proofs.Common.{◌≡◌, ◌∷◌, ◌++◌, [], true, refl, sym, ap, subst, ◌∙◌, inl, inr}
 use Rattle.std.specs.Prelude.{IsTrue}
 use Rattle.midi_wire.specs.Messages.{One, Two, begins}
 use Rattle.midi_wire.specs.Parsing.{pending_bytes, is_sound, waits_for, waits_for_two}
 use Rattle.midi_wire.specs.Writings.{is_channel}
-use Rattle.midi_wire.proofs.Calls.{gains-none, gains-one, idle-data-reading, idle-data-rest, collecting-reading, collecting-rest, overlong-rest, overlong-again, after-data-reading, after-data-rest, two-silent, two-half, one-told, two-told, one-left, two-left, waits-for, waits-one, waits-both, next-left}
-use Rattle.midi_wire.specs.Readings.{too_long}
+use Rattle.midi_wire.proofs.Calls.{gains-none, gains-one, idle-data-reading, idle-data-rest, collecting-reading, collected-whole, collected-overlong, overlong-reading, overlong-again, after-data-reading, after-data-rest, two-silent, two-half, one-told, two-told, one-left, two-left, waits-for, waits-one, waits-both, next-left}
 use Rattle.midi_wire.proofs.AllRead.{read-test}
 use Rattle.midi_wire.proofs.parser.Pending.data.Goals as goal
 
@@ -12,7 +11,7 @@ pub returns-in-Idle-clause-told : goal.returns-in-Idle-clause-told
 returns-in-Idle-clause-told c =
     elim c.in-Idle.is [
       | inl e ↦ gains-none c.args.out.now.items (c.args.self.now ++ c.args.byte ∷ []) (idle-data-reading c.args.self.now c.args.byte (sym c.self.view_is ∙ ap (λ k. pending_bytes k c.self.inside.payload.items) e) c.requires.low)
-      | inr e ↦ gains-none c.args.out.now.items (c.args.self.now ++ c.args.byte ∷ []) (collecting-reading c.args.self.now too_long c.args.byte (sym c.self.view_is ∙ ap (λ k. pending_bytes k c.self.inside.payload.items) e) c.requires.settled c.requires.low)
+      | inr e ↦ gains-none c.args.out.now.items (c.args.self.now ++ c.args.byte ∷ []) (overlong-reading c.args.self.now c.args.byte (sym c.self.view_is ∙ ap (λ k. pending_bytes k c.self.inside.payload.items) e) c.requires.settled c.requires.low)
     ]
 
 pub returns-in-Idle-clause-leaves : goal.returns-in-Idle-clause-leaves
@@ -58,23 +57,24 @@ returns-in_ok-push-in-Half-clause-leaves c =
     ∙ next-left Two c.in-Half.status c.self.inside.payload.items
     ∙ sym (after-data-rest c.args.self.now c.in-Half.status (c.in-Half.first ∷ []) c.args.byte (sym c.self.view_is ∙ ap (λ k. pending_bytes k c.self.inside.payload.items) c.in-Half.is) c.requires.settled c.requires.low ∙ two-left (begins c.in-Half.status) c.in-Half.status c.in-Half.first c.args.byte (is_channel (begins c.in-Half.status)) waits refl)
 
-pub returns-in_ok-push-in-Collecting-clause-told : goal.returns-in_ok-push-in-Collecting-clause-told
-returns-in_ok-push-in-Collecting-clause-told c = gains-none c.args.out.now.items (c.args.self.now ++ c.args.byte ∷ []) (collecting-reading c.args.self.now c.self.inside.payload.items c.args.byte (sym c.self.view_is ∙ ap (λ k. pending_bytes k c.self.inside.payload.items) c.in-Collecting.is) c.requires.settled c.requires.low)
+pub returns-then-not-branch-clause-told : goal.returns-then-not-branch-clause-told
+returns-then-not-branch-clause-told c =
+    gains-none c.args.out.now.items (c.args.self.now ++ c.args.byte ∷ [])
+    (collecting-reading c.args.self.now c.self.inside.payload.items (c.args.byte ∷ []) (sym c.self.view_is ∙ ap (λ k. pending_bytes k c.self.inside.payload.items) c.in-Collecting.is) c.self.invariant.1 c.requires.settled (c.requires.low, tt))
 
-pub returns-in_ok-push-in-Collecting-clause-leaves : goal.returns-in_ok-push-in-Collecting-clause-leaves
-returns-in_ok-push-in-Collecting-clause-leaves c =
-    let few : length c.self.inside.payload.items < 65536 = omega arith in
-    ap (λ k. pending_bytes k c.push-then-len-lt-MOST_DATA.new.self.items) c.in-Collecting.is
-    ∙ ap (λ (xs : List ℕ). 240 ∷ xs) c.in_ok-push-in-Collecting.ensures.items
-    ∙ sym (collecting-rest c.args.self.now c.self.inside.payload.items c.args.byte (sym c.self.view_is ∙ ap (λ k. pending_bytes k c.self.inside.payload.items) c.in-Collecting.is) c.requires.settled c.requires.low few)
+pub returns-else-not-branch-clause-told : goal.returns-else-not-branch-clause-told
+returns-else-not-branch-clause-told c =
+    gains-none c.args.out.now.items (c.args.self.now ++ c.args.byte ∷ [])
+    (collecting-reading c.args.self.now c.self.inside.payload.items (c.args.byte ∷ []) (sym c.self.view_is ∙ ap (λ k. pending_bytes k c.self.inside.payload.items) c.in-Collecting.is) c.self.invariant.1 c.requires.settled (c.requires.low, tt))
 
-pub returns-else-len-lt-MOST_DATA-clause-told : goal.returns-else-len-lt-MOST_DATA-clause-told
-returns-else-len-lt-MOST_DATA-clause-told c = gains-none c.args.out.now.items (c.args.self.now ++ c.args.byte ∷ []) (collecting-reading c.args.self.now c.self.inside.payload.items c.args.byte (sym c.self.view_is ∙ ap (λ k. pending_bytes k c.self.inside.payload.items) c.in-Collecting.is) c.requires.settled c.requires.low)
+pub returns-then-not-branch-clause-leaves : goal.returns-then-not-branch-clause-leaves
+returns-then-not-branch-clause-leaves c =
+    collected-overlong c.args.self.now c.self.inside.payload.items (c.args.byte ∷ []) c.in_ok-add_data-in-Collecting.field-0 (sym c.self.view_is ∙ ap (λ k. pending_bytes k c.self.inside.payload.items) c.in-Collecting.is) c.self.invariant.1 c.requires.settled (c.requires.low, tt) c.in_ok-add_data-in-Collecting.ensures.fits c.if-not-branch.true
 
-pub returns-else-len-lt-MOST_DATA-clause-leaves : goal.returns-else-len-lt-MOST_DATA-clause-leaves
-returns-else-len-lt-MOST_DATA-clause-leaves c =
-    let many : 65536 ≤ length c.self.inside.payload.items = omega arith in
-    sym (overlong-rest c.args.self.now c.self.inside.payload.items c.args.byte (sym c.self.view_is ∙ ap (λ k. pending_bytes k c.self.inside.payload.items) c.in-Collecting.is) c.requires.settled c.requires.low many)
+pub returns-else-not-branch-clause-leaves : goal.returns-else-not-branch-clause-leaves
+returns-else-not-branch-clause-leaves c =
+    ap (λ k. pending_bytes k c.add_data.new.payload.items) c.in-Collecting.is
+    ∙ collected-whole c.args.self.now c.self.inside.payload.items (c.args.byte ∷ []) c.add_data.new.payload.items c.in_ok-add_data-in-Collecting.field-0 (sym c.self.view_is ∙ ap (λ k. pending_bytes k c.self.inside.payload.items) c.in-Collecting.is) c.self.invariant.1 c.requires.settled (c.requires.low, tt) c.in_ok-add_data-in-Collecting.ensures.fits c.if-not-branch.false c.in_ok-add_data-in-Collecting.ensures.added
 
 pub with_two-requires : goal.with_two-requires
 with_two-requires c = read-test (c.args.self.now ++ c.args.byte ∷ []) (c.in-Half.status ∷ c.in-Half.first ∷ c.args.byte ∷ []) (after-data-reading c.args.self.now c.in-Half.status (c.in-Half.first ∷ []) c.args.byte (sym c.self.view_is ∙ ap (λ k. pending_bytes k c.self.inside.payload.items) c.in-Half.is) c.requires.settled c.requires.low ∙ two-told (begins c.in-Half.status) c.in-Half.status c.in-Half.first c.args.byte (subst (λ k. IsTrue (is_sound k c.self.inside.payload.items)) c.in-Half.is c.self.invariant.0))

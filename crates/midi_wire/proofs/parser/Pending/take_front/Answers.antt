@@ -1,7 +1,7 @@
 use Rattle.std.proofs.Common.{ℕ, ◌∷◌, ◌++◌, [], take, drop, get_or, sym, ap, ◌∙◌}
 use Rattle.std.proofs.lemmas.Bool.{leb-false}
 use Rattle.midi_wire.specs.Parsing.{pending_bytes}
-use Rattle.midi_wire.proofs.Calls.{gains-one}
+use Rattle.midi_wire.proofs.Calls.{gains-none, gains-one, collecting-reading, collected-whole, collected-overlong, data-taken}
 use Rattle.midi_wire.proofs.Voices.{running-reading, running-rest}
 use Rattle.memory.proofs.Outcomes.{on_err}
 use Rattle.midi_wire.proofs.Outcomes.{prefix-of-first, cut-one, cut-three, take-two}
@@ -31,3 +31,23 @@ returns-else-is_status-clause-leaves c =
     running-rest c.args.self.now (take 2 c.args.bytes.now) c.in-Waiting.status a b
     (sym c.self.view_is ∙ ap (λ k. pending_bytes k c.self.inside.payload.items) c.in-Waiting.is) (take-two c.args.bytes.now c.in-len2-up.len_at_least) (c.is_voice_of_two-else-is_status.ensures.0 c.if-is_voice_of_two-2.true)
     (leb-false 128 a (sym c.is_status.ensures ∙ c.if-is_status.false)) (leb-false 128 b (sym c.is_status-else-is_status.ensures ∙ c.if-not-is_status-3.true))
+
+-- the bytes before the first status, of an exclusive message
+pub returns-then-not-branch-clause-told : goal.returns-then-not-branch-clause-told
+returns-then-not-branch-clause-told c =
+    gains-none c.args.out.now.items (c.args.self.now ++ take c.data_len-count.result c.args.bytes.now)
+    (collecting-reading c.args.self.now c.self.inside.payload.items (take c.data_len-count.result c.args.bytes.now) (sym c.self.view_is ∙ ap (λ k. pending_bytes k c.self.inside.payload.items) c.in-Collecting.is) c.self.invariant.1 c.requires.settled (data-taken c.args.bytes.now c.data_len-count.result c.data_len-count.ensures.value))
+
+pub returns-else-not-branch-clause-told : goal.returns-else-not-branch-clause-told
+returns-else-not-branch-clause-told c =
+    gains-none c.args.out.now.items (c.args.self.now ++ take c.data_len-count.result c.args.bytes.now)
+    (collecting-reading c.args.self.now c.self.inside.payload.items (take c.data_len-count.result c.args.bytes.now) (sym c.self.view_is ∙ ap (λ k. pending_bytes k c.self.inside.payload.items) c.in-Collecting.is) c.self.invariant.1 c.requires.settled (data-taken c.args.bytes.now c.data_len-count.result c.data_len-count.ensures.value))
+
+pub returns-then-not-branch-clause-leaves : goal.returns-then-not-branch-clause-leaves
+returns-then-not-branch-clause-leaves c =
+    collected-overlong c.args.self.now c.self.inside.payload.items (take c.data_len-count.result c.args.bytes.now) c.in_ok-add_data.field-0 (sym c.self.view_is ∙ ap (λ k. pending_bytes k c.self.inside.payload.items) c.in-Collecting.is) c.self.invariant.1 c.requires.settled (data-taken c.args.bytes.now c.data_len-count.result c.data_len-count.ensures.value) c.in_ok-add_data.ensures.fits c.if-not-branch.true
+
+pub returns-else-not-branch-clause-leaves : goal.returns-else-not-branch-clause-leaves
+returns-else-not-branch-clause-leaves c =
+    ap (λ k. pending_bytes k c.add_data.new.payload.items) c.in-Collecting.is
+    ∙ collected-whole c.args.self.now c.self.inside.payload.items (take c.data_len-count.result c.args.bytes.now) c.add_data.new.payload.items c.in_ok-add_data.field-0 (sym c.self.view_is ∙ ap (λ k. pending_bytes k c.self.inside.payload.items) c.in-Collecting.is) c.self.invariant.1 c.requires.settled (data-taken c.args.bytes.now c.data_len-count.result c.data_len-count.ensures.value) c.in_ok-add_data.ensures.fits c.if-not-branch.false c.in_ok-add_data.ensures.added
