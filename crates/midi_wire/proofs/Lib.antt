@@ -8,6 +8,7 @@ pub mod Calls
 pub mod EndOthers
 pub mod Voices
 pub mod Outcomes
+pub mod Exclusives
 pub mod Written
 pub mod WrittenNext
 pub mod MessageTests

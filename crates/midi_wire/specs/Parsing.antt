@@ -1,5 +1,5 @@
 -- What a message and a parser are seen as.
-use Rattle.std.specs.Prelude.{◌≡◌, ℕ, List, [], ◌∷◌, ◌++◌, length, Bool, true, false, nat_le, if◌then◌else◌}
+use Rattle.std.specs.Prelude.{◌≡◌, ◌≤◌, ℕ, ◌+◌, List, [], ◌∷◌, ◌++◌, length, take, drop, Bool, true, false, nat_le, if◌then◌else◌, IsTrue}
 use Rattle.std.specs.Rc.{rc_value}
 use Rattle.midi_wire.specs.declared.message.Form.{Form}
 use Rattle.midi_wire.specs.declared.message.Form.TheVariants.{Short, Exclusive}
@@ -20,15 +20,34 @@ short_bytes (One status) = status ∷ []
 short_bytes (Two status first) = status ∷ first ∷ []
 short_bytes (Three status first second) = status ∷ first ∷ second ∷ []
 
+-- so many of these bytes, from a place on
+abbrev pub data_in : ℕ → ℕ → List ℕ → List ℕ
+data_in from len bytes = take len (drop from bytes)
+
+-- the exclusive message of these
+abbrev pub message_in : ℕ → ℕ → List ℕ → List ℕ
+message_in from len bytes = messages.exclusive_message (data_in from len bytes)
+
+-- they are there
+abbrev pub IsWithin : Form → Type 0
+IsWithin (Short short) = Unit {0}
+IsWithin (Exclusive from len bytes) = from + len ≤ length (rc_value bytes).items
+
 -- the full bytes of a message
 abbrev pub full_bytes : Form → List ℕ
 full_bytes (Short short) = short_bytes short
-full_bytes (Exclusive payload) = messages.exclusive_message (rc_value payload).items
+full_bytes (Exclusive from len bytes) = message_in from len (rc_value bytes).items
 
 -- all bytes of what a message gives
-abbrev pub all_of : FullBytes → List ℕ
-all_of (full.Short short) = short_bytes short
-all_of (full.Exclusive payload) = messages.exclusive_message payload.now
+abbrev pub bytes_given : FullBytes → List ℕ
+bytes_given (full.Short short) = short_bytes short
+bytes_given (full.Exclusive payload) = messages.exclusive_message payload.now
+
+-- a whole exclusive message with so many data bytes stands first
+abbrev pub IsExclusiveFront : List ℕ → ℕ → Type 0
+IsExclusiveFront bytes count =
+    (take (count + 2) bytes ≡ message_in 1 count bytes)
+    × IsTrue (all_data (data_in 1 count bytes)) × (count + 2 ≤ length bytes)
 
 -- what of the last block still matters, as a parser holds it
 abbrev pub pending_bytes : LastBlock → List ℕ → List ℕ

@@ -1,11 +1,13 @@
 //! One message.
 
-ghost use Rattle.std.specs.Prelude.{◌≡◌, ◌<◌, ℕ, [], ◌∷◌, ◌++◌, ◌+◌, length, vec_len, vec_capacity, slice_get, if◌then◌else◌, bytes_eq, IfOk, OnOk, OnErr, IfSome, IfNone, IsTrue};
+ghost use Rattle.std.specs.Prelude.{◌≡◌, ◌≤◌, ◌<◌, ℕ, [], ◌∷◌, ◌++◌, ◌+◌, length, vec_len, vec_capacity, slice_get, if◌then◌else◌, bytes_eq, IfOk, OnOk, OnErr, IfSome, IfNone, IsTrue};
 ghost use Rattle.std.specs.Cmp.{partial_equiv_from_equiv};
 ghost use Rattle.std.specs.Cmp.Lexicographic.{nat_list_eq_equiv};
 ghost use Rattle.midi_wire.specs.Messages.{One, Two, IsMessage, exclusive_message, is_message};
 ghost use Rattle.midi_wire.specs.Kinds.{kind_of, channel_number, is_base, with_one_data, with_two_data, channel_message};
-ghost use Rattle.midi_wire.specs.Parsing.{all_of};
+ghost use Rattle.std.specs.Rc.{rc_value};
+ghost use Rattle.midi_wire.specs.Parsing.{bytes_given, message_in};
+ghost use Rattle.midi_wire.specs.declared.message.TheConstants.{SHARED};
 ghost use Rattle.midi_wire.specs.Writings.{status_of, tail_of};
 
 use crate::kind::{Kind, kind_of_status};
@@ -16,8 +18,8 @@ use std::alloc::Global;
 use std::marker::Model;
 use std::rc::Rc;
 
-/// So many data bytes of an exclusive message take one allocation; more take two.
-const INLINE_DATA: usize = 64;
+/// So many data bytes of exclusive messages take one allocation, which several messages may share; more take two.
+pub(crate) const SHARED: usize = 128;
 
 /// The full bytes of a message that has at most three: its status, and what follows it.
 #[derive(Clone, Copy, Debug, PartialEq, Eq)]
@@ -39,7 +41,13 @@ pub enum FullBytes<'m> {
 #[derive(Debug, Drop)]
 enum Form {
     Short(ShortMessage),
-    Exclusive(Rc<SmallVec<u8, INLINE_DATA>>),
+    /// The data of an exclusive message: `len` of these bytes, from this place on.
+    // In this order a message takes 16 bytes.
+    Exclusive {
+        from: u8,
+        len: u32,
+        bytes: Rc<SmallVec<u8, SHARED>>,
+    },
 }
 
 /// One message, seen as its full bytes: its status, its data, and F7 at the end of an exclusive message.
@@ -56,13 +64,13 @@ impl Model for Message {
 
     ghost Value = { List ℕ };
 
-    ghost use Rattle.midi_wire.specs.Parsing.{full_bytes};
+    ghost use Rattle.midi_wire.specs.Parsing.{full_bytes, IsWithin};
     ghost use Rattle.std.specs.Prelude.{IsTrue};
     ghost use Rattle.midi_wire.specs.Messages.{is_message};
 
     ghost view = { λ m. full_bytes m.form };
 
-    ghost invariant = { λ m. IsTrue (is_message (full_bytes m.form)) };
+    ghost invariant = { λ m. IsTrue (is_message (full_bytes m.form)) × IsWithin m.form };
 }
 
 impl PartialEq for Message {
@@ -127,9 +135,34 @@ impl Message {
         requires { IsTrue (is_message (exclusive_message payload.now)) }
         ensures { IfOk result (λ m. m ≡ exclusive_message payload.now) }
     {
-        let data = SmallVec::from_slice(alloc, payload)?;
+        let bytes = SmallVec::from_slice(alloc, payload)?;
         Ok(Message {
-            form: Form::Exclusive(Rc::new(alloc, data)?),
+            form: Form::Exclusive {
+                from: 0,
+                len: payload.len() as u32,
+                bytes: Rc::new(alloc, bytes)?,
+            },
+        })
+    }
+
+    /// An exclusive message whose data stands among bytes that others share, under the same condition.
+    #[inline(always)]
+    pub(crate) fn exclusive_in(
+        bytes: &Rc<SmallVec<u8, SHARED>>,
+        from: usize,
+        len: usize,
+    ) -> Result<Message, OutOfMemory>
+        requires few { length (rc_value bytes.now).items ≤ SHARED }
+        requires within { from + len ≤ length (rc_value bytes.now).items }
+        requires message { IsTrue (is_message (message_in from len (rc_value bytes.now).items)) }
+        ensures { IfOk result (λ m. m ≡ message_in from len (rc_value bytes.now).items) }
+    {
+        Ok(Message {
+            form: Form::Exclusive {
+                from: from as u8,
+                len: len as u32,
+                bytes: bytes.clone()?,
+            },
         })
     }
 
@@ -206,7 +239,11 @@ impl Message {
     {
         let form = match &self.form {
             Form::Short(short) => Form::Short(*short),
-            Form::Exclusive(payload) => Form::Exclusive(payload.clone()?),
+            Form::Exclusive { from, len, bytes } => Form::Exclusive {
+                from: *from,
+                len: *len,
+                bytes: bytes.clone()?,
+            },
         };
         Ok(Message { form })
     }
@@ -234,11 +271,14 @@ impl Message {
     // Inline, so that what a caller does for each number of bytes stands where the form is known.
     #[inline(always)]
     pub fn full_bytes(&self) -> FullBytes<'_>
-        ensures { all_of result ≡ self.now }
+        ensures { bytes_given result ≡ self.now }
     {
         match &self.form {
             Form::Short(short) => FullBytes::Short(*short),
-            Form::Exclusive(payload) => FullBytes::Exclusive(payload.as_ref().as_slice()),
+            Form::Exclusive { from, len, bytes } => {
+                let from = *from as usize;
+                FullBytes::Exclusive(&bytes.as_ref().as_slice()[from..from + *len as usize])
+            }
         }
     }
 
@@ -278,7 +318,7 @@ impl Message {
             Form::Short(ShortMessage::One(status)) => *status,
             Form::Short(ShortMessage::Two(status, _)) => *status,
             Form::Short(ShortMessage::Three(status, _, _)) => *status,
-            Form::Exclusive(_) => EXCLUSIVE,
+            Form::Exclusive { .. } => EXCLUSIVE,
         }
     }
 

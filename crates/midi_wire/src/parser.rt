@@ -1,20 +1,24 @@
 //! A stream of bytes, read in any pieces.
 
-ghost use Rattle.std.specs.Prelude.{◌≡◌, ◌≤◌, ◌<◌, ℕ, [], ◌∷◌, ◌++◌, length, take, nat_le, if◌then◌else◌, Bool, true, false, IsTrue, ◌↔◌, IfOk, OnOk, OnErr, IsErrOf};
+ghost use Rattle.std.specs.Prelude.{◌≡◌, ◌≤◌, ◌<◌, ℕ, [], ◌∷◌, ◌++◌, length, take, nat_le, if◌then◌else◌, Bool, true, false, IsTrue, IfSome, ◌+◌, ◌↔◌, IfOk, OnOk, OnErr, IsErrOf};
 ghost use Rattle.std.specs.List.{position_or_len};
-ghost use Rattle.midi_wire.specs.Messages.{begins, exclusive_message, is_message, is_status, most_data};
+ghost use Rattle.std.specs.Rc.{rc_value};
+ghost use Rattle.midi_wire.specs.declared.message.TheConstants.{SHARED};
+ghost use Rattle.midi_wire.specs.Messages.{all_data, begins, exclusive_message, is_message, is_status, most_data};
 ghost use Rattle.midi_wire.specs.Readings.{reading, rest};
-ghost use Rattle.midi_wire.specs.Parsing.{next_group, GainsPrefix};
+ghost use Rattle.midi_wire.specs.Parsing.{next_group, data_in, message_in, GainsPrefix, IsExclusiveFront};
 
 use crate::fault::WireFault;
-use crate::message::Message;
+use crate::message::{Message, SHARED};
 use crate::status::{
-    END_OF_EXCLUSIVE, FIRST_REAL_TIME, FIRST_STATUS, MOST_DATA, StatusClass, Width, is_real_time,
-    is_status, is_voice_of_two,
+    END_OF_EXCLUSIVE, EXCLUSIVE, FIRST_REAL_TIME, FIRST_STATUS, MOST_DATA, StatusClass, Width,
+    is_real_time, is_status, is_voice_of_two,
 };
 use memory::OutOfMemory;
+use smallvec::SmallVec;
 use std::alloc::Global;
 use std::marker::Model;
+use std::rc::Rc;
 
 /// What the last block of the stream waits for. A block is a status with the data up to the next status.
 #[derive(Clone, Copy, Drop)]
@@ -71,21 +75,37 @@ fn data_len(bytes: &[u8]) -> usize
     n
 }
 
+/// How many data bytes an exclusive message has that stands first, from its status to F7.
+#[inline(always)]
+fn exclusive_count(bytes: &[u8]) -> Option<usize>
+    ensures { IfSome result (λ count. IsExclusiveFront bytes.now count) }
+{
+    if let [status, data @ ..] = bytes
+        && *status == EXCLUSIVE
+    {
+        let count = data_len(data);
+        if count < data.len() && data[count] == END_OF_EXCLUSIVE {
+            return Some(count);
+        }
+    }
+    None
+}
+
 /// Adds data to that of an exclusive message, and answers whether it is not too much. What is too much takes no memory,
 /// and drops what is there.
-fn add_data(payload: &mut Vec<u8>, data: &[u8]) -> Result<bool, OutOfMemory>
+fn add_data(payload: &mut Vec<u8>, more: &[u8]) -> Result<bool, OutOfMemory>
     requires { length payload.old.items ≤ most_data }
-    ensures fits { let all = payload.old.items ++ data.now in
+    ensures fits { let all = payload.old.items ++ more.now in
         IfOk result (λ fits. fits ≡ nat_le (length all) most_data) }
-    ensures added { let all = payload.old.items ++ data.now in
+    ensures added { let all = payload.old.items ++ more.now in
         OnOk result (payload.new.items ≡ (if nat_le (length all) most_data then all else [])) }
     ensures err { OnErr result (payload.new.items ≡ payload.old.items) }
 {
-    if data.len() > MOST_DATA - payload.len() {
+    if more.len() > MOST_DATA - payload.len() {
         payload.clear();
         return Ok(false);
     }
-    payload.extend_from_slice(data)?;
+    payload.extend_from_slice(more)?;
     Ok(true)
 }
 
@@ -254,8 +274,68 @@ impl Pending {
         Ok(())
     }
 
+    /// Takes an exclusive message with `count` data bytes, which stand among these from this place on.
+    #[inline(always)]
+    fn take_exclusive(
+        &mut self,
+        bytes: &Rc<SmallVec<u8, SHARED>>,
+        from: usize,
+        count: usize,
+        out: &mut Vec<Message>,
+    ) -> Result<(), OutOfMemory>
+        requires settled { rest self.old ≡ self.old }
+        requires few { length (rc_value bytes.now).items ≤ SHARED }
+        requires within { from + count ≤ length (rc_value bytes.now).items }
+        requires data { IsTrue (all_data (data_in from count (rc_value bytes.now).items)) }
+        ensures told { let message = message_in from count (rc_value bytes.now).items in
+            OnOk result (out.new.items ≡ out.old.items ++ reading (self.old ++ message)) }
+        ensures leaves { let message = message_in from count (rc_value bytes.now).items in
+            OnOk result (self.new ≡ rest (self.old ++ message)) }
+        ensures err { let message = message_in from count (rc_value bytes.now).items in
+            OnErr result (GainsPrefix out.old.items out.new.items (reading (self.old ++ message))) }
+    {
+        if let LastBlock::Collecting = self.block {
+            self.end(out)?;
+        }
+        out.push(Message::exclusive_in(bytes, from, count)?)?;
+        self.block = LastBlock::Idle;
+        Ok(())
+    }
+
+    /// Takes the exclusive messages that stand first, whole and one behind the other, and answers how many bytes. The
+    /// first has `first` data bytes. They share one allocation.
+    // Not inline, so that channel messages cost little.
+    #[inline(never)]
+    fn take_exclusives(
+        &mut self,
+        bytes: &[u8],
+        first: usize,
+        out: &mut Vec<Message>,
+    ) -> Result<usize, OutOfMemory>
+        requires settled { rest self.old ≡ self.old }
+        requires few { length bytes.now ≤ SHARED }
+        requires first { IsExclusiveFront bytes.now first }
+        ensures within { IfOk result (λ n. (0 < n) × (n ≤ length bytes.now)) }
+        ensures told { IfOk result (λ n.
+            out.new.items ≡ out.old.items ++ reading (self.old ++ take n bytes.now)) }
+        ensures leaves { IfOk result (λ n. self.new ≡ rest (self.old ++ take n bytes.now)) }
+        ensures err { OnErr result
+            (GainsPrefix out.old.items out.new.items (reading (self.old ++ bytes.now))) }
+    {
+        let shared = Rc::new(self.alloc, SmallVec::from_slice(self.alloc, bytes)?)?;
+        let mut at = 0;
+        let mut next = Some(first);
+        while let Some(count) = next {
+            self.take_exclusive(&shared, at + 1, count, out)?;
+            at += count + 2;
+            next = exclusive_count(&bytes[at..]);
+        }
+        Ok(at)
+    }
+
     /// Takes the first bytes, and answers how many: a whole message of a channel with two data bytes where one stands
-    /// there, also under running status; all data bytes inside an exclusive message; and else one byte.
+    /// there, also under running status; whole exclusive messages among the next `SHARED` bytes; all data bytes inside
+    /// another; and else one byte.
     #[inline(always)]
     fn take_front(&mut self, bytes: &[u8], out: &mut Vec<Message>) -> Result<usize, OutOfMemory>
         requires settled { rest self.old ≡ self.old }
@@ -276,6 +356,10 @@ impl Pending {
             {
                 self.take_voice(byte, *first, *second, out)?;
                 return Ok(3);
+            }
+            let near = &bytes[..bytes.len().min(SHARED)];
+            if let Some(count) = exclusive_count(near) {
+                return self.take_exclusives(near, count, out);
             }
         } else if let LastBlock::Waiting { status, .. } = self.block
             && let [_, second, ..] = bytes

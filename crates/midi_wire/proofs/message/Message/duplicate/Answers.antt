@@ -12,7 +12,7 @@ pub returns-in_err-clone-in-Exclusive-clause-exclusive : goal.returns-in_err-clo
 returns-in_err-clone-in-Exclusive-clause-exclusive c = on_err c.from_residual.result (ap kind_of (sym c.self.view_is ∙ ap full_bytes c.in-Exclusive.is) ∙ kind-F0)
 
 pub returns-clause-message : goal.returns-clause-message
-returns-clause-message c = message-tested c.args.self.now (subst (λ m. IsTrue (is_message m)) c.self.view_is c.self.invariant)
+returns-clause-message c = message-tested c.args.self.now (subst (λ m. IsTrue (is_message m)) c.self.view_is c.self.invariant.0)
 
 pub returns-in_err-clone-in-Exclusive-clause-message : goal.returns-in_err-clone-in-Exclusive-clause-message
-returns-in_err-clone-in-Exclusive-clause-message c = message-tested c.args.self.now (subst (λ m. IsTrue (is_message m)) c.self.view_is c.self.invariant)
+returns-in_err-clone-in-Exclusive-clause-message c = message-tested c.args.self.now (subst (λ m. IsTrue (is_message m)) c.self.view_is c.self.invariant.0)

@@ -5,13 +5,13 @@ use Rattle.midi_wire.proofs.MessageTests.{message-tested}
 use Rattle.midi_wire.proofs.message.Message.status.Goals as goal
 
 pub returns-in-Short-One-clause-message : goal.returns-in-Short-One-clause-message
-returns-in-Short-One-clause-message c = message-tested c.args.self.now (subst (λ m. IsTrue (is_message m)) c.self.view_is c.self.invariant)
+returns-in-Short-One-clause-message c = message-tested c.args.self.now (subst (λ m. IsTrue (is_message m)) c.self.view_is c.self.invariant.0)
 
 pub returns-in-Short-Two-clause-message : goal.returns-in-Short-Two-clause-message
-returns-in-Short-Two-clause-message c = message-tested c.args.self.now (subst (λ m. IsTrue (is_message m)) c.self.view_is c.self.invariant)
+returns-in-Short-Two-clause-message c = message-tested c.args.self.now (subst (λ m. IsTrue (is_message m)) c.self.view_is c.self.invariant.0)
 
 pub returns-in-Short-Three-clause-message : goal.returns-in-Short-Three-clause-message
-returns-in-Short-Three-clause-message c = message-tested c.args.self.now (subst (λ m. IsTrue (is_message m)) c.self.view_is c.self.invariant)
+returns-in-Short-Three-clause-message c = message-tested c.args.self.now (subst (λ m. IsTrue (is_message m)) c.self.view_is c.self.invariant.0)
 
 pub returns-in-Exclusive-clause-message : goal.returns-in-Exclusive-clause-message
-returns-in-Exclusive-clause-message c = message-tested c.args.self.now (subst (λ m. IsTrue (is_message m)) c.self.view_is c.self.invariant)
+returns-in-Exclusive-clause-message c = message-tested c.args.self.now (subst (λ m. IsTrue (is_message m)) c.self.view_is c.self.invariant.0)

@@ -1,10 +1,11 @@
 use Rattle.std.proofs.Common.{ℕ, ◌∷◌, ◌++◌, [], take, drop, get_or, sym, ap, ◌∙◌}
 use Rattle.std.proofs.lemmas.Bool.{leb-false}
+use Rattle.std.proofs.lemmas.List.{take-append-drop}
 use Rattle.midi_wire.specs.Parsing.{pending_bytes}
 use Rattle.midi_wire.proofs.Calls.{gains-none, gains-one, collecting-reading, collected-whole, collected-overlong, data-taken}
 use Rattle.midi_wire.proofs.Voices.{running-reading, running-rest}
 use Rattle.memory.proofs.Outcomes.{on_err}
-use Rattle.midi_wire.proofs.Outcomes.{prefix-of-first, cut-one, cut-three, take-two}
+use Rattle.midi_wire.proofs.Outcomes.{prefix-of-first, cut-one, cut-three, take-two, on_err-then}
 use Rattle.midi_wire.proofs.parser.Pending.take_front.Goals as goal
 
 pub returns-in_err-take_voice-clause-err : goal.returns-in_err-take_voice-clause-err
@@ -31,6 +32,11 @@ returns-else-is_status-clause-leaves c =
     running-rest c.args.self.now (take 2 c.args.bytes.now) c.in-Waiting.status a b
     (sym c.self.view_is ∙ ap (λ k. pending_bytes k c.self.inside.payload.items) c.in-Waiting.is) (take-two c.args.bytes.now c.in-len2-up.len_at_least) (c.is_voice_of_two-else-is_status.ensures.0 c.if-is_voice_of_two-2.true)
     (leb-false 128 a (sym c.is_status.ensures ∙ c.if-is_status.false)) (leb-false 128 b (sym c.is_status-else-is_status.ensures ∙ c.if-not-is_status-3.true))
+
+-- whole exclusive messages among the first bytes
+pub returns-in-Some-clause-err : goal.returns-in-Some-clause-err
+returns-in-Some-clause-err c =
+    on_err-then c.take_exclusives.result (prefix-of-first c.args.out.now.items c.take_exclusives.new.out.items c.args.self.now (take c.min.result c.args.bytes.now) (drop c.min.result c.args.bytes.now) c.args.bytes.now (sym (take-append-drop c.min.result c.args.bytes.now))) c.take_exclusives.ensures.err
 
 -- the bytes before the first status, of an exclusive message
 pub returns-then-not-branch-clause-told : goal.returns-then-not-branch-clause-told
