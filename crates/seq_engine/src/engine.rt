@@ -28,13 +28,25 @@ pub struct StepOut {
 }
 
 /// A sequencer. Moments are nanoseconds, and never fall from one call to the next.
-#[derive(Drop)]
 pub struct Engine<'f, 'b, A: Agenda> {
     alloc: Global,
     sequencer: Sequencer<'f, 'b>,
     agenda: A,
     moment: u64,
     failed: bool,
+}
+
+// Not derived: so what it has is taken apart here alone, and not in each crate that drops an engine.
+impl<'f, 'b, A: Agenda + Drop> Drop for Engine<'f, 'b, A> {
+    fn drop(self) {
+        let Engine {
+            alloc: _,
+            sequencer: _,
+            agenda: _,
+            moment: _,
+            failed: _,
+        } = self;
+    }
 }
 
 impl<'f, 'b, A: Agenda> Model for Engine<'f, 'b, A> {

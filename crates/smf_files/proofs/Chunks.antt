@@ -1,11 +1,12 @@
 -- A file that is read chunk by chunk.
 use Rattle.std.proofs.Common.{◌≡◌, ◌≤◌, ◌<◌, ◌^◌, ℕ, suc, ◌+◌, Bool, true, false, not, List, [], ◌∷◌, ◌++◌, ◌∙◌, length, map, refl, arith, ap, sym, subst, append_assoc, inr}
-use Rattle.std.specs.Prelude.{Ok, if◌then◌else◌, is_ok, nat_le, ◌&&◌, IsTrue}
+use Rattle.std.specs.Prelude.{Result, Ok, if◌then◌else◌, is_ok, nat_le, ◌&&◌, IsTrue}
 use Rattle.std.specs.List.{flat_map, list_all}
 use denote.Ref.{Bor}
 use Rattle.std.proofs.lemmas.Bool.{le-leb}
 use Rattle.tempo_clock.specs.declared.entry.TempoEntry.{TempoEntry}
 use Rattle.smf_grammar.specs.declared.fault.SmfFault.{SmfFault}
+use Rattle.smf_grammar.specs.declared.fault.ChunkFault.{ChunkFault}
 use Rattle.smf_grammar.specs.Pairs.{Pair}
 use Rattle.smf_grammar.specs.Chunks.{Header, header_at, Chunk, chunk_at, is_frame_division}
 use Rattle.smf_grammar.specs.Files.{IsTrack, Item, Other, Track, tracks_in, AreChunks, MidiFile, IsFile, IsChunkFault, Fault}
@@ -183,6 +184,9 @@ chunks-fault metrical bytes after left header contents tempos skipped x w head f
       fewer = omega arith;
       next = subst (λ (k : ℕ). IsChunkFault (length bytes) k left (chunk_at left) x) (sym count) told;
     })
+
+pub told-at : (size track : ℕ) (left : List ℕ) (found : Result (Chunk × List ℕ) ChunkFault) (x : SmfFault) → chunk_at left ≡ found → IsChunkFault size track left found x → IsChunkFault size track left (chunk_at left) x
+told-at size track left found x e told = subst (λ (r : Result (Chunk × List ℕ) ChunkFault). IsChunkFault size track left r x) (sym e) told
 
 abbrev pub nows : List (Bor (List ℕ)) → List (List ℕ)
 nows xs = map (λ c. c.now) xs

@@ -1,5 +1,5 @@
 -- Events that are written one after another.
-use Rattle.std.proofs.Common.{◌≡◌, ◌≤◌, ◌<◌, ℕ, zero, suc, ◌+◌, ◌-◌, Bool, true, false, List, [], ◌∷◌, ◌++◌, ◌∙◌, ◌⊎◌, inl, inr, length, map, take, drop, get_or, refl, arith, ap, sym, subst, length-append}
+use Rattle.std.proofs.Common.{◌≡◌, ◌≤◌, ◌<◌, ℕ, zero, suc, ◌+◌, ◌-◌, Bool, true, false, List, [], ◌∷◌, ◌++◌, ◌∙◌, ◌⊎◌, inl, inr, length, map, take, drop, get_or, refl, arith, ap, sym, subst, length-append, append_assoc}
 use Rattle.std.specs.Prelude.{Option, Some, None, if◌then◌else◌, IsTrue, not, nat_le, ◌==◌, ◌&&◌, codes, Result, Ok, Err, IfErr}
 use Rattle.std.specs.Option.{option_map}
 use Rattle.std.proofs.lemmas.Bool.{cases_lt, cases_eq, eqb-true, leb-true, le-leb}
@@ -162,6 +162,16 @@ follows before events i e is none =
         let a : _ = and_true (nat_le before e.tick) (nat_le (e.tick - before) 268435455 && stands_in_files (begins (status_of e.message))) f in
         let b : _ = and_true (nat_le (e.tick - before) 268435455) (stands_in_files (begins (status_of e.message))) a.1 in
         record { later = leb-true before e.tick a.0; near = leb-true (e.tick - before) 268435455 b.0; rest = some-none (bad_event e.tick (drop (i + 1) events)) h; text = ap (events_text before) is }
+
+pub at-next : (before : ℕ) (events : List Event) (i : ℕ) (e : Event) → i < length events → e ≡ get_or events i e → bad_event before (drop i events) ≡ None → Follows before events i e
+at-next before events i e h is none = follows before events i e (front events i e h is) none
+
+-- after an event was written, what is written and what is to come are as before
+pub text-more : (a b c quantity message rest text all : List ℕ) → b ≡ a ++ quantity → c ≡ b ++ message → text ≡ quantity ++ message ++ rest → a ++ text ≡ all → c ++ rest ≡ all
+text-more a b c quantity message rest text all first second is whole =
+    let long : ((a ++ quantity) ++ message) ++ rest ≡ a ++ (quantity ++ (message ++ rest)) = simp append_assoc in
+    let short : a ++ text ≡ a ++ (quantity ++ (message ++ rest)) = ap (λ (t : List ℕ). a ++ t) is ∙ simp append_assoc in
+    cc
 
 -- ---- messages one after another
 
