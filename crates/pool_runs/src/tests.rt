@@ -6,3 +6,4 @@ mod graph;
 mod nodes;
 mod numbers;
 mod pools;
+mod texts;

@@ -1,5 +1,6 @@
 ghost use Rattle.std.specs.Prelude.{◌≡◌, IfOk, false};
 
+use super::texts::check_text;
 use byte_io::{
     DeviceFault, MemSink, MemSource, OutOfMemory, Sink, Source, StdSink, StdSource, WriteFault,
     read_to, write_all,
@@ -160,23 +161,15 @@ fn passes_on_an_error_of_std(rt: HostRuntime) {
 
 #[test]
 fn shows_each_fault(rt: HostRuntime) -> Result<(), Fail> {
-    let faults = [
-        (
-            format!(in rt.alloc(); "{}", DeviceFault::Broken)?,
-            "the device is broken",
-        ),
-        (format!(in rt.alloc(); "{}", OutOfMemory)?, "out of memory"),
-        (
-            format!(in rt.alloc(); "{}", WriteFault::Device(DeviceFault::OutOfMemory))?,
-            "out of memory",
-        ),
-        (
-            format!(in rt.alloc(); "{}", WriteFault::TookNothing)?,
-            "the device took no byte",
-        ),
-    ];
-    for (text, wanted) in &faults {
-        assert!(rt; text.as_str() == *wanted);
-    }
-    Ok(())
+    let alloc = rt.alloc();
+    let grows = WriteFault::Device(DeviceFault::OutOfMemory);
+    check_text(&rt, alloc, &DeviceFault::Broken, "the device is broken")?;
+    check_text(&rt, alloc, &OutOfMemory, "out of memory")?;
+    check_text(&rt, alloc, &grows, "out of memory")?;
+    check_text(
+        &rt,
+        alloc,
+        &WriteFault::TookNothing,
+        "the device took no byte",
+    )
 }

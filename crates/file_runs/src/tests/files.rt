@@ -1,5 +1,6 @@
 //! Worked files, and a written file with each kind of event.
 
+use super::texts::check_text;
 use midi_wire::{Kind, Message};
 use smf_files::{
     Cursor, Event, OutOfMemory, QuantityFault, SmfFault, SmfFile, TempoEntry, WriteFault, quantity,
@@ -7,7 +8,6 @@ use smf_files::{
 };
 use smf_grammar::{ChunkFault, PairFault};
 use std::alloc::Global;
-use std::fmt;
 use std::process::Abort;
 use std::test::Fail;
 
@@ -55,19 +55,44 @@ fn damaged(alloc: Global, at: usize, byte: u8) -> Result<Vec<u8>, OutOfMemory> {
     Ok(bytes)
 }
 
-/// The next event has this tick and these bytes.
+/// All bytes of a message.
+fn full_bytes(alloc: Global, message: &Message) -> Result<Vec<u8>, OutOfMemory> {
+    let mut full = Vec::new(alloc);
+    message.append_to(&mut full)?;
+    Ok(full)
+}
+
+/// An event has this tick and these bytes.
 fn check_event(
     rt: &impl Abort,
     alloc: Global,
-    event: Option<Event>,
+    event: &Event,
     tick: u64,
     bytes: &[u8],
 ) -> Result<(), Fail> {
-    let event = event.ok_or("an event")?;
-    let mut full = Vec::new(alloc);
-    event.message.append_to(&mut full)?;
     assert!(rt; event.tick == tick);
+    let full = full_bytes(alloc, &event.message)?;
     assert!(rt; full.as_slice() == bytes);
+    Ok(())
+}
+
+// A cursor is lent by the function that makes it, so that it is dropped at one place alone: that is proved sooner.
+
+/// The next event has this tick and these bytes.
+fn check_next(
+    rt: &impl Abort,
+    alloc: Global,
+    cursor: &mut Cursor<'_>,
+    tick: u64,
+    bytes: &[u8],
+) -> Result<(), Fail> {
+    let event = cursor.next()?.ok_or("an event")?;
+    check_event(rt, alloc, &event, tick, bytes)
+}
+
+/// No event is left.
+fn check_end(rt: &impl Abort, cursor: &mut Cursor<'_>) -> Result<(), Fail> {
+    assert!(rt; cursor.next()?.is_none());
     Ok(())
 }
 
@@ -97,16 +122,18 @@ fn reads_the_small_file(rt: HostRuntime) -> Result<(), Fail> {
     Ok(())
 }
 
+fn check_small_events(rt: &impl Abort, alloc: Global, cursor: &mut Cursor<'_>) -> Result<(), Fail> {
+    check_next(rt, alloc, cursor, 0, &[0x90, 0x3C, 0x40])?;
+    assert!(rt; cursor.peek_tick() == Some(480));
+    check_next(rt, alloc, cursor, 480, &[0x90, 0x3C, 0x00])?;
+    assert!(rt; cursor.peek_tick() == None);
+    check_end(rt, cursor)
+}
+
 #[test]
 fn plays_the_small_file(rt: HostRuntime) -> Result<(), Fail> {
-    let file = SmfFile::read(rt.alloc(), &SMALL)?;
-    let mut cursor = file.cursor()?;
-    check_event(&rt, rt.alloc(), cursor.next()?, 0, &[0x90, 0x3C, 0x40])?;
-    assert!(rt; cursor.peek_tick() == Some(480));
-    check_event(&rt, rt.alloc(), cursor.next()?, 480, &[0x90, 0x3C, 0x00])?;
-    assert!(rt; cursor.peek_tick() == None);
-    assert!(rt; cursor.next()?.is_none());
-    Ok(())
+    let mut cursor = SmfFile::read(rt.alloc(), &SMALL)?.cursor()?;
+    check_small_events(&rt, rt.alloc(), &mut cursor)
 }
 
 #[test]
@@ -135,20 +162,39 @@ fn tells_damage(rt: HostRuntime) -> Result<(), Fail> {
     Ok(())
 }
 
-#[test]
-fn reads_frames(rt: HostRuntime) -> Result<(), Fail> {
-    let mut bytes = damaged(rt.alloc(), 12, 0xE7)?;
+/// The small file with two other bytes in place of its division.
+fn divided(alloc: Global, first: u8, second: u8) -> Result<Vec<u8>, OutOfMemory> {
+    let mut bytes = damaged(alloc, 12, first)?;
     if let Some(place) = bytes.get_mut(13) {
-        *place = 40;
+        *place = second;
     }
-    let file = SmfFile::read(rt.alloc(), bytes.as_slice())?;
+    Ok(bytes)
+}
+
+fn check_frames(rt: &impl Abort, file: &SmfFile<'_>) {
     assert!(rt; file.division() == 59_176);
     assert!(rt; file.tempo_entries().is_empty());
     assert!(rt; file.skipped() == 0);
-    let dropped = damaged(rt.alloc(), 12, 0xE3)?;
-    assert!(rt; fault_of(rt.alloc(), dropped.as_slice()) == Some(SmfFault::DropFrame));
-    let other = damaged(rt.alloc(), 12, 0xE0)?;
-    assert!(rt; fault_of(rt.alloc(), other.as_slice()) == Some(SmfFault::SmpteDivision));
+}
+
+#[test]
+fn reads_frames(rt: HostRuntime) -> Result<(), Fail> {
+    let bytes = divided(rt.alloc(), 0xE7, 40)?;
+    let file = SmfFile::read(rt.alloc(), bytes.as_slice())?;
+    check_frames(&rt, &file);
+    Ok(())
+}
+
+/// The fault of the small file with another byte at a place.
+fn fault_at(alloc: Global, at: usize, byte: u8) -> Result<Option<SmfFault>, OutOfMemory> {
+    let bytes = damaged(alloc, at, byte)?;
+    Ok(fault_of(alloc, bytes.as_slice()))
+}
+
+#[test]
+fn tells_other_divisions(rt: HostRuntime) -> Result<(), Fail> {
+    assert!(rt; fault_at(rt.alloc(), 12, 0xE3)? == Some(SmfFault::DropFrame));
+    assert!(rt; fault_at(rt.alloc(), 12, 0xE0)? == Some(SmfFault::SmpteDivision));
     Ok(())
 }
 
@@ -162,15 +208,17 @@ fn reads_two_tracks(rt: HostRuntime) -> Result<(), Fail> {
     Ok(())
 }
 
+fn check_merged(rt: &impl Abort, alloc: Global, cursor: &mut Cursor<'_>) -> Result<(), Fail> {
+    for note in [1, 2, 3] {
+        check_next(rt, alloc, cursor, 96, &[0x90, note, 0x40])?;
+    }
+    check_end(rt, cursor)
+}
+
 #[test]
 fn merges_two_tracks(rt: HostRuntime) -> Result<(), Fail> {
-    let file = SmfFile::read(rt.alloc(), &TWO_TRACKS)?;
-    let mut cursor = file.cursor()?;
-    for note in [1, 2, 3] {
-        check_event(&rt, rt.alloc(), cursor.next()?, 96, &[0x90, note, 0x40])?;
-    }
-    assert!(rt; cursor.next()?.is_none());
-    Ok(())
+    let mut cursor = SmfFile::read(rt.alloc(), &TWO_TRACKS)?.cursor()?;
+    check_merged(&rt, rt.alloc(), &mut cursor)
 }
 
 #[test]
@@ -223,15 +271,23 @@ fn plays_by_frames(rt: HostRuntime) -> Result<(), Fail> {
         (0xE7, 40, 1_000_000, 480_000_000),
         (0xE2, 80, 416_667, 200_000_000),
     ] {
-        let mut bytes = damaged(rt.alloc(), 12, minus_frames)?;
-        if let Some(place) = bytes.get_mut(13) {
-            *place = per_frame;
-        }
-        let map = SmfFile::read(rt.alloc(), bytes.as_slice())?.tempo_map()?;
-        assert!(rt; map.entries().is_empty());
-        assert!(rt; map.nanos_at(1) == first);
-        assert!(rt; map.nanos_at(480) == last);
+        let bytes = divided(rt.alloc(), minus_frames, per_frame)?;
+        check_by_frames(&rt, rt.alloc(), bytes.as_slice(), first, last)?;
     }
+    Ok(())
+}
+
+fn check_by_frames(
+    rt: &impl Abort,
+    alloc: Global,
+    bytes: &[u8],
+    first: u128,
+    last: u128,
+) -> Result<(), Fail> {
+    let map = SmfFile::read(alloc, bytes)?.tempo_map()?;
+    assert!(rt; map.entries().is_empty());
+    assert!(rt; map.nanos_at(1) == first);
+    assert!(rt; map.nanos_at(480) == last);
     Ok(())
 }
 
@@ -241,16 +297,23 @@ fn plays_exclusive_messages(rt: HostRuntime) -> Result<(), Fail> {
     let file = SmfFile::read(rt.alloc(), &EXCLUSIVES)?;
     assert!(rt; file.skipped() == 2);
     let mut cursor = file.cursor()?;
-    let first = match cursor.next() {
-        Ok(first) => first,
+    check_exclusive(&rt, rt.alloc(), &mut cursor)
+}
+
+fn check_exclusive(rt: &impl Abort, alloc: Global, cursor: &mut Cursor<'_>) -> Result<(), Fail> {
+    let first = next_or_again(rt, cursor)?.ok_or("an event")?;
+    check_event(rt, alloc, &first, 0, &[0xF0, 0x7D, 0x01, 0xF7])?;
+    check_end(rt, cursor)
+}
+
+fn next_or_again(rt: &impl Abort, cursor: &mut Cursor<'_>) -> Result<Option<Event>, OutOfMemory> {
+    match cursor.next() {
+        Ok(first) => Ok(first),
         Err(_) => {
             assert!(rt; cursor.peek_tick() == Some(0));
-            cursor.next()?
+            cursor.next()
         }
-    };
-    check_event(&rt, rt.alloc(), first, 0, &[0xF0, 0x7D, 0x01, 0xF7])?;
-    assert!(rt; cursor.next()?.is_none());
-    Ok(())
+    }
 }
 
 /// An exclusive message of so many data bytes.
@@ -309,22 +372,20 @@ fn check_written(
     assert!(rt; file.tempo_entries() == [entry(0, tempo)].as_slice());
     assert!(rt; file.skipped() == 0);
     let mut cursor = file.cursor()?;
-    for event in events {
-        check_next(rt, alloc, &mut cursor, event)?;
-    }
-    assert!(rt; cursor.next()?.is_none());
-    Ok(())
+    check_all(rt, alloc, &mut cursor, events)
 }
 
-fn check_next(
+fn check_all(
     rt: &impl Abort,
     alloc: Global,
     cursor: &mut Cursor<'_>,
-    event: &Event,
+    events: &[Event],
 ) -> Result<(), Fail> {
-    let mut full = Vec::new(alloc);
-    event.message.append_to(&mut full)?;
-    check_event(rt, alloc, cursor.next()?, event.tick, full.as_slice())
+    for event in events {
+        let full = full_bytes(alloc, &event.message)?;
+        check_next(rt, alloc, cursor, event.tick, full.as_slice())?;
+    }
+    check_end(rt, cursor)
 }
 
 #[test]
@@ -369,63 +430,41 @@ fn refuses_real_time(rt: HostRuntime) -> Result<(), Fail> {
     Ok(())
 }
 
-/// It prints as this text.
-fn check_text<T: fmt::Display + Drop>(
-    rt: &impl Abort,
-    alloc: Global,
-    shown: T,
-    text: &str,
-) -> Result<(), Fail> {
-    assert!(rt; format!(in alloc; "{}", shown)?.as_str() == text);
-    Ok(())
+#[test]
+fn write_faults_print(rt: HostRuntime) -> Result<(), Fail> {
+    let alloc = rt.alloc();
+    let bad_ppq = "the ticks per quarter note are out of range";
+    let bad_event = WriteFault::BadEvent { index: 3 };
+    check_text(&rt, alloc, &WriteFault::BadPpq, bad_ppq)?;
+    check_text(
+        &rt,
+        alloc,
+        &WriteFault::BadTempo,
+        "the tempo is out of range",
+    )?;
+    check_text(&rt, alloc, &bad_event, "event 3 can't be written")?;
+    check_text(&rt, alloc, &WriteFault::TooLarge, "the file is too large")?;
+    check_text(&rt, alloc, &WriteFault::OutOfMemory, "out of memory")
 }
 
 #[test]
-fn faults_print(rt: HostRuntime) -> Result<(), Fail> {
-    check_text(
-        &rt,
-        rt.alloc(),
-        WriteFault::BadPpq,
-        "the ticks per quarter note are out of range",
-    )?;
-    check_text(
-        &rt,
-        rt.alloc(),
-        WriteFault::BadTempo,
-        "the tempo is out of range",
-    )?;
-    check_text(
-        &rt,
-        rt.alloc(),
-        WriteFault::BadEvent { index: 3 },
-        "event 3 can't be written",
-    )?;
-    check_text(
-        &rt,
-        rt.alloc(),
-        WriteFault::TooLarge,
-        "the file is too large",
-    )?;
-    check_text(&rt, rt.alloc(), WriteFault::OutOfMemory, "out of memory")?;
-    check_text(&rt, rt.alloc(), QuantityFault::Short, "the quantity is cut")?;
-    check_text(
-        &rt,
-        rt.alloc(),
-        QuantityFault::Long,
-        "the quantity has more than four bytes",
-    )?;
-    check_text(&rt, rt.alloc(), PairFault::NoPair, "no end of track")?;
-    check_text(&rt, rt.alloc(), PairFault::Truncated, "the event is cut")?;
-    check_text(
-        &rt,
-        rt.alloc(),
-        PairFault::LongQuantity,
-        "a quantity has more than four bytes",
-    )?;
-    check_text(&rt, rt.alloc(), PairFault::NoStatus, "no running status")?;
-    check_text(&rt, rt.alloc(), PairFault::BadStatus, "no status of a file")?;
-    check_text(&rt, rt.alloc(), PairFault::BadData, "no data byte")?;
-    check_text(&rt, rt.alloc(), ChunkFault::Missing, "no chunk")?;
-    check_text(&rt, rt.alloc(), ChunkFault::Cut, "the chunk is cut")?;
-    Ok(())
+fn reading_faults_print(rt: HostRuntime) -> Result<(), Fail> {
+    let alloc = rt.alloc();
+    let long = "the quantity has more than four bytes";
+    check_text(&rt, alloc, &QuantityFault::Short, "the quantity is cut")?;
+    check_text(&rt, alloc, &QuantityFault::Long, long)?;
+    check_text(&rt, alloc, &ChunkFault::Missing, "no chunk")?;
+    check_text(&rt, alloc, &ChunkFault::Cut, "the chunk is cut")
+}
+
+#[test]
+fn pair_faults_print(rt: HostRuntime) -> Result<(), Fail> {
+    let alloc = rt.alloc();
+    let long = "a quantity has more than four bytes";
+    check_text(&rt, alloc, &PairFault::NoPair, "no end of track")?;
+    check_text(&rt, alloc, &PairFault::Truncated, "the event is cut")?;
+    check_text(&rt, alloc, &PairFault::LongQuantity, long)?;
+    check_text(&rt, alloc, &PairFault::NoStatus, "no running status")?;
+    check_text(&rt, alloc, &PairFault::BadStatus, "no status of a file")?;
+    check_text(&rt, alloc, &PairFault::BadData, "no data byte")
 }

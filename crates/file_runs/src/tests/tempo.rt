@@ -1,7 +1,9 @@
 //! Worked examples, computed by hand from the definitions.
 
-ghost use Rattle.std.specs.Prelude.{◌≡◌, IfOk};
+ghost use Rattle.std.specs.Prelude.{◌≡◌, ◌<◌, IfOk, None};
 
+use super::texts::check_text;
+use std::process::Abort;
 use std::test::Fail;
 use tempo_clock::{Due, MapFault, QueueClock, TempoEntry, TempoMap};
 
@@ -16,9 +18,9 @@ fn two_a_second(rt: &HostRuntime) -> Result<TempoMap, MapFault>
     TempoMap::new(rt.alloc(), 480, &[entry])
 }
 
-#[test]
-fn ticks_of_one_tempo(rt: HostRuntime) -> Result<(), MapFault> {
-    let mut map = two_a_second(&rt)?;
+// Each map is lent by the test that makes it, so that it is dropped at one place alone: that is proved sooner.
+
+fn assert_one_tempo(rt: &impl Abort, map: &TempoMap) {
     assert!(rt; map.division() == 480);
     assert!(rt; map.ppq() == 480);
     for (tick, nanos) in [(0, 0), (1, 1_041_667), (3, 3_125_000), (480, 500_000_000)] {
@@ -28,6 +30,11 @@ fn ticks_of_one_tempo(rt: HostRuntime) -> Result<(), MapFault> {
     assert!(rt; map.tick_at(1_041_667) == 1);
     assert!(rt; map.first_tick_from(1_041_666) == Some(1));
     assert!(rt; map.first_tick_from(1_041_667) == Some(2));
+}
+
+fn assert_changed(rt: &impl Abort, map: &mut TempoMap) -> Result<(), MapFault>
+    requires { map.old.division ≡ 480 }
+{
     map.change(1, 250_000)?;
     // 1,041,666 and two thirds, and half of that: rounded once, at the end.
     assert!(rt; map.nanos_at(2) == 1_562_500);
@@ -35,12 +42,13 @@ fn ticks_of_one_tempo(rt: HostRuntime) -> Result<(), MapFault> {
 }
 
 #[test]
-fn ticks_of_three_tempos(rt: HostRuntime) -> Result<(), MapFault> {
-    let entries = [(0, 500_000), (96, 250_000), (192, 1_000_000)].map(|e| TempoEntry {
-        tick: e.0,
-        tempo: e.1,
-    });
-    let mut map = TempoMap::new(rt.alloc(), 96, &entries)?;
+fn ticks_of_one_tempo(rt: HostRuntime) -> Result<(), MapFault> {
+    let mut map = two_a_second(&rt)?;
+    assert_one_tempo(&rt, &map);
+    assert_changed(&rt, &mut map)
+}
+
+fn assert_three_tempos(rt: &impl Abort, map: &TempoMap) {
     for (tick, nanos) in [
         (96, 500_000_000),
         (144, 625_000_000),
@@ -51,27 +59,62 @@ fn ticks_of_three_tempos(rt: HostRuntime) -> Result<(), MapFault> {
         assert!(rt; map.tick_at(nanos as u64) == tick);
         assert!(rt; map.first_tick_from(nanos as u64) == Some(tick));
     }
-    let copy = map.duplicate()?;
+}
+
+/// A change leaves a copy of the map as it was.
+fn assert_copied(
+    rt: &impl Abort,
+    map: &mut TempoMap,
+    copy: &TempoMap,
+    entries: &[TempoEntry],
+) -> Result<(), MapFault>
+    requires { map.old.division < 32768 }
+{
     map.change(96, 500_000)?;
     assert!(rt; map.entries().len() == 2);
     assert!(rt; map.nanos_at(192) == 1_000_000_000);
-    assert!(rt; copy.entries() == &entries[..]);
+    assert!(rt; copy.entries() == entries);
     Ok(())
 }
 
 #[test]
-fn frames(rt: HostRuntime) -> Result<(), MapFault> {
-    let map = TempoMap::smpte(rt.alloc(), 30, 80)?;
+fn ticks_of_three_tempos(rt: HostRuntime) -> Result<(), MapFault> {
+    let entries = [(0, 500_000), (96, 250_000), (192, 1_000_000)].map(|e| TempoEntry {
+        tick: e.0,
+        tempo: e.1,
+    });
+    let mut map = TempoMap::new(rt.alloc(), 96, &entries)?;
+    assert_three_tempos(&rt, &map);
+    let copy = map.duplicate()?;
+    assert_copied(&rt, &mut map, &copy, &entries)
+}
+
+fn assert_frames(rt: &impl Abort, map: &TempoMap) {
     assert!(rt; map.nanos_at(1) == 416_667);
     assert!(rt; map.nanos_at(3) == 1_250_000);
     assert!(rt; map.tick_at(416_666) == 0);
     assert!(rt; map.ppq() == 2_400);
     assert!(rt; map.division() == 0xE250);
     assert!(rt; map.entries().len() == 0);
-    assert!(rt; matches!(TempoMap::smpte(rt.alloc(), 29, 80), Err(MapFault::BadMap)));
-    assert!(rt; matches!(TempoMap::smpte(rt.alloc(), 25, 0), Err(MapFault::BadMap)));
+}
+
+#[test]
+fn frames(rt: HostRuntime) -> Result<(), MapFault> {
+    let map = TempoMap::smpte(rt.alloc(), 30, 80)?;
+    assert_frames(&rt, &map);
+    Ok(())
+}
+
+#[test]
+fn refused_frames(rt: HostRuntime) -> Result<(), MapFault> {
+    assert!(rt; is_bad(TempoMap::smpte(rt.alloc(), 29, 80)));
+    assert!(rt; is_bad(TempoMap::smpte(rt.alloc(), 25, 0)));
     assert!(rt; TempoMap::smpte(rt.alloc(), 25, 40)?.division() == 0xE728);
     Ok(())
+}
+
+fn is_bad(map: Result<TempoMap, MapFault>) -> bool {
+    matches!(map, Err(MapFault::BadMap))
 }
 
 #[test]
@@ -85,10 +128,10 @@ fn refused_maps(rt: HostRuntime) {
     }];
     assert!(rt; TempoMap::new(rt.alloc(), 32_767, &good).is_ok());
     for ppq in [0, 32_768] {
-        assert!(rt; matches!(TempoMap::new(rt.alloc(), ppq, &good), Err(MapFault::BadMap)));
+        assert!(rt; is_bad(TempoMap::new(rt.alloc(), ppq, &good)));
     }
     for entries in [&[], &late[..], &twice[..], &slow[..]] {
-        assert!(rt; matches!(TempoMap::new(rt.alloc(), 1, entries), Err(MapFault::BadMap)));
+        assert!(rt; is_bad(TempoMap::new(rt.alloc(), 1, entries)));
     }
 }
 
@@ -107,9 +150,12 @@ fn ends_of_the_range(rt: HostRuntime) -> Result<(), MapFault> {
     Ok(())
 }
 
-#[test]
-fn clock_of_a_queue(rt: HostRuntime) -> Result<(), MapFault> {
-    let mut clock = QueueClock::new(two_a_second(&rt)?);
+/// The clock starts, stops, goes on and changes its tempo.
+fn run_on(rt: &impl Abort, clock: &mut QueueClock) -> Result<(), MapFault>
+    requires held { clock.old.since ≡ None }
+    requires first { clock.old.time ≡ 0 }
+    requires metrical { clock.old.map.division ≡ 480 }
+{
     assert!(rt; clock.due_moment(Due::Tick(2), 0) == None);
     clock.start(10);
     clock.stop(110);
@@ -119,6 +165,11 @@ fn clock_of_a_queue(rt: HostRuntime) -> Result<(), MapFault> {
     assert!(rt; clock.running());
     clock.set_tempo(1_300, 250_000)?;
     assert!(rt; clock.elapsed(1_300) == 1_000);
+    Ok(())
+}
+
+/// The clock after that.
+fn assert_run_on(rt: &impl Abort, clock: &QueueClock) {
     let entries = [(0, 500_000), (1, 250_000)].map(|e| TempoEntry {
         tick: e.0,
         tempo: e.1,
@@ -130,12 +181,18 @@ fn clock_of_a_queue(rt: HostRuntime) -> Result<(), MapFault> {
     assert!(rt; clock.due_moment(Due::Nanos(u64::MAX), 0) == None);
     assert!(rt; clock.tick(1_562_800) == 2);
     assert!(rt; clock.tick(1_562_799) == 1);
+}
+
+#[test]
+fn clock_of_a_queue(rt: HostRuntime) -> Result<(), MapFault> {
+    let mut clock = QueueClock::new(two_a_second(&rt)?);
+    run_on(&rt, &mut clock)?;
+    assert_run_on(&rt, &clock);
     Ok(())
 }
 
 #[test]
 fn faults_print(rt: HostRuntime) -> Result<(), Fail> {
-    assert!(rt; format!(in rt.alloc(); "{}", MapFault::BadMap)?.as_str() == "no tempo map");
-    assert!(rt; format!(in rt.alloc(); "{}", MapFault::OutOfMemory)?.as_str() == "out of memory");
-    Ok(())
+    check_text(&rt, rt.alloc(), &MapFault::BadMap, "no tempo map")?;
+    check_text(&rt, rt.alloc(), &MapFault::OutOfMemory, "out of memory")
 }

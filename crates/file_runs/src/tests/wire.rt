@@ -2,6 +2,7 @@
 
 ghost use Rattle.std.specs.Prelude.{◌<◌};
 
+use super::texts::check_text;
 use crate::read_in_two;
 use memory::OutOfMemory;
 use midi_wire::{Kind, Message, StreamParser, StreamWriter, WireFault};
@@ -30,6 +31,46 @@ fn read_pieces(alloc: Global, stream: &[u8], length: usize) -> Result<Vec<Messag
     Ok(messages)
 }
 
+/// There are so many messages, with these full bytes.
+// Lists of messages are made by one function and lent to the next, so that each is dropped at one place alone: that is
+// proved sooner.
+fn check_messages(
+    rt: &impl Abort,
+    alloc: Global,
+    messages: &[Message],
+    count: usize,
+    expected: &[u8],
+) -> Result<(), Fail> {
+    assert!(rt; messages.len() == count);
+    let bytes = full_bytes(alloc, messages)?;
+    assert!(rt; bytes.as_slice() == expected);
+    Ok(())
+}
+
+/// A stream in two pieces has so many messages, with these full bytes.
+fn check_cut(
+    rt: &impl Abort,
+    alloc: Global,
+    (front, back): (&[u8], &[u8]),
+    count: usize,
+    expected: &[u8],
+) -> Result<(), Fail> {
+    let messages = read_in_two(alloc, front, back)?;
+    check_messages(rt, alloc, messages.as_slice(), count, expected)
+}
+
+/// The same of a stream that is read byte by byte.
+fn check_bytes(
+    rt: &impl Abort,
+    alloc: Global,
+    stream: &[u8],
+    count: usize,
+    expected: &[u8],
+) -> Result<(), Fail> {
+    let messages = read_pieces(alloc, stream, 1)?;
+    check_messages(rt, alloc, messages.as_slice(), count, expected)
+}
+
 /// A stream has so many messages, with these full bytes, however it is cut.
 fn check_reading(
     rt: &impl Abort,
@@ -38,16 +79,21 @@ fn check_reading(
     count: usize,
     expected: &[u8],
 ) -> Result<(), Fail> {
-    let single = read_pieces(alloc, stream, 1)?;
-    assert!(rt; single.len() == count);
-    assert!(rt; full_bytes(alloc, single.as_slice())?.as_slice() == expected);
+    check_bytes(rt, alloc, stream, count, expected)?;
     for cut in 0..=stream.len() {
-        let (front, back) = stream.split_at(cut);
-        let messages = read_in_two(alloc, front, back)?;
-        assert!(rt; messages.len() == count);
-        assert!(rt; full_bytes(alloc, messages.as_slice())?.as_slice() == expected);
+        check_cut(rt, alloc, stream.split_at(cut), count, expected)?;
     }
     Ok(())
+}
+
+/// The messages as a writer writes them.
+fn written(alloc: Global, messages: &[Message]) -> Result<Vec<u8>, OutOfMemory> {
+    let mut writer = StreamWriter::new();
+    let mut bytes = Vec::new(alloc);
+    for message in messages {
+        writer.write(message, &mut bytes)?;
+    }
+    Ok(bytes)
 }
 
 /// The messages of a stream are written as these bytes.
@@ -58,24 +104,40 @@ fn check_writing(
     expected: &[u8],
 ) -> Result<(), Fail> {
     let messages = read_in_two(alloc, stream, &[])?;
-    let mut writer = StreamWriter::new();
-    let mut bytes = Vec::new(alloc);
-    for message in messages.as_slice() {
-        writer.write(message, &mut bytes)?;
-    }
+    let bytes = written(alloc, messages.as_slice())?;
     assert!(rt; bytes.as_slice() == expected);
+    Ok(())
+}
+
+/// A stream in two pieces has these messages.
+fn check_same(
+    rt: &impl Abort,
+    alloc: Global,
+    (front, back): (&[u8], &[u8]),
+    whole: &[Message],
+) -> Result<(), Fail> {
+    let messages = read_in_two(alloc, front, back)?;
+    assert!(rt; messages.as_slice() == whole);
+    Ok(())
+}
+
+/// The same of a stream that is cut anywhere.
+fn check_each_cut(
+    rt: &impl Abort,
+    alloc: Global,
+    stream: &[u8],
+    whole: &[Message],
+) -> Result<(), Fail> {
+    for cut in 0..=stream.len() {
+        check_same(rt, alloc, stream.split_at(cut), whole)?;
+    }
     Ok(())
 }
 
 /// A stream has the messages that it has in one piece, wherever it is cut into two.
 fn check_cuts(rt: &impl Abort, alloc: Global, stream: &[u8]) -> Result<(), Fail> {
     let whole = read_in_two(alloc, stream, &[])?;
-    for cut in 0..=stream.len() {
-        let (front, back) = stream.split_at(cut);
-        let messages = read_in_two(alloc, front, back)?;
-        assert!(rt; messages.as_slice() == whole.as_slice());
-    }
-    Ok(())
+    check_each_cut(rt, alloc, stream, whole.as_slice())
 }
 
 #[test]
@@ -99,6 +161,18 @@ fn status_ends_exclusive(rt: HostRuntime) -> Result<(), Fail> {
     let stream = [0xF0, 0x7D, 0x01, 0x90, 0x3C, 0x40];
     let expected = [0xF0, 0x7D, 0x01, 0xF7, 0x90, 0x3C, 0x40];
     check_reading(&rt, rt.alloc(), &stream, 2, &expected)
+}
+
+#[test]
+fn real_time_and_status_among_exclusives(rt: HostRuntime) -> Result<(), Fail> {
+    let stream = [
+        0xF0, 0x01, 0xF7, 0xF0, 0x02, 0xF8, 0x03, 0xF7, 0xF0, 0x04, 0x90, 0x3C, 0x40, 0xF0, 0xF7,
+    ];
+    let expected = [
+        0xF0, 0x01, 0xF7, 0xF8, 0xF0, 0x02, 0x03, 0xF7, 0xF0, 0x04, 0xF7, 0x90, 0x3C, 0x40, 0xF0,
+        0xF7,
+    ];
+    check_reading(&rt, rt.alloc(), &stream, 6, &expected)
 }
 
 #[test]
@@ -167,48 +241,101 @@ fn feed_long(
     Ok(())
 }
 
-#[test]
-fn exclusive_bound(rt: HostRuntime) -> Result<(), Fail> {
-    let mut parser = StreamParser::new(rt.alloc());
-    let mut messages = Vec::new(rt.alloc());
-    feed_long(&mut parser, &[], &mut messages)?;
+/// The longest message is kept, and the next, which is longer, is dropped.
+fn check_bound(
+    rt: &(impl Abort + AllocGlobal),
+    parser: &mut StreamParser,
+    messages: &mut Vec<Message>,
+) -> Result<(), Fail> {
+    feed_long(parser, &[], messages)?;
     assert!(rt; messages.len() == 1);
     assert!(rt; full_bytes(rt.alloc(), messages.as_slice())?.len() == 65538);
-    feed_long(&mut parser, &[0x01], &mut messages)?;
+    feed_long(parser, &[0x01], messages)?;
     assert!(rt; messages.len() == 1);
     Ok(())
 }
 
-/// No data, and data on both sides of 64 bytes, the most that takes one allocation.
+#[test]
+fn exclusive_bound(rt: HostRuntime) -> Result<(), Fail> {
+    let mut parser = StreamParser::new(rt.alloc());
+    let mut messages = Vec::new(rt.alloc());
+    check_bound(&rt, &mut parser, &mut messages)
+}
+
+/// An exclusive message of so many data bytes, whole.
+fn exclusive(alloc: Global, length: u16) -> Result<Vec<u8>, OutOfMemory> {
+    let mut stream = Vec::new(alloc);
+    extend_exclusive(&mut stream, length)?;
+    Ok(stream)
+}
+
+fn extend_exclusive(stream: &mut Vec<u8>, length: u16) -> Result<(), OutOfMemory> {
+    stream.push(0xF0)?;
+    for _data in 0..length {
+        stream.push(0x2A)?;
+    }
+    stream.push(0xF7)?;
+    Ok(())
+}
+
+/// No data, and data on both sides of what stands whole among 128 bytes, and of 128 bytes, the most that takes one
+/// allocation.
 #[test]
 fn exclusive_messages_of_many_lengths(rt: HostRuntime) -> Result<(), Fail> {
-    for length in [0, 1, 63, 64, 65] {
-        let mut stream = Vec::new(rt.alloc());
-        stream.push(0xF0)?;
-        stream.resize(length + 1, 0x2A)?;
-        stream.push(0xF7)?;
+    for length in [0, 1, 125, 126, 127, 128, 129] {
+        let stream = exclusive(rt.alloc(), length)?;
         check_reading(&rt, rt.alloc(), stream.as_slice(), 1, stream.as_slice())?;
     }
     Ok(())
 }
 
+/// One behind the other, with 0 to 19 data bytes: 230 bytes, so that more than one allocation is shared.
 #[test]
-fn channel_messages(rt: HostRuntime) -> Result<(), Fail> {
-    let bend = Message::channel(Kind::PitchBend, 5, 0x00, 0x40).ok_or("a message")?;
+fn exclusive_messages_in_a_row(rt: HostRuntime) -> Result<(), Fail> {
+    let mut stream = Vec::new(rt.alloc());
+    check_row(&rt, rt.alloc(), &mut stream)
+}
+
+fn check_row(rt: &impl Abort, alloc: Global, stream: &mut Vec<u8>) -> Result<(), Fail> {
+    for length in 0..20 {
+        extend_exclusive(stream, length)?;
+    }
+    check_reading(rt, alloc, stream.as_slice(), 20, stream.as_slice())
+}
+
+fn check_bend(rt: &impl Abort, bend: &Message) {
     assert!(rt; bend.kind() == Kind::PitchBend);
     assert!(rt; bend.status() == 0xE5);
     assert!(rt; bend.channel_of() == Some(5));
     assert!(rt; bend.len() == 3);
     assert!(rt; bend.byte_at(2) == Some(0x40));
     assert!(rt; bend.byte_at(3) == None);
-    let program = Message::channel(Kind::ProgramChange, 15, 0x7F, 0).ok_or("a message")?;
+}
+
+fn check_program(rt: &impl Abort, program: &Message) {
     assert!(rt; program.status() == 0xCF);
     assert!(rt; program.len() == 2);
-    assert!(rt; Message::channel(Kind::ProgramChange, 0, 1, 1).is_none());
-    assert!(rt; Message::channel(Kind::NoteOn, 16, 0x3C, 0x40).is_none());
-    assert!(rt; Message::channel(Kind::NoteOn, 0, 0x80, 0x40).is_none());
-    assert!(rt; Message::channel(Kind::RealTime, 0, 0, 0).is_none());
+}
+
+#[test]
+fn channel_messages(rt: HostRuntime) -> Result<(), Fail> {
+    let bend = Message::channel(Kind::PitchBend, 5, 0x00, 0x40).ok_or("a message")?;
+    check_bend(&rt, &bend);
+    let program = Message::channel(Kind::ProgramChange, 15, 0x7F, 0).ok_or("a message")?;
+    check_program(&rt, &program);
     Ok(())
+}
+
+#[test]
+fn no_channel_messages(rt: HostRuntime) {
+    for (kind, channel, first, second) in [
+        (Kind::ProgramChange, 0, 1, 1),
+        (Kind::NoteOn, 16, 0x3C, 0x40),
+        (Kind::NoteOn, 0, 0x80, 0x40),
+        (Kind::RealTime, 0, 0, 0),
+    ] {
+        assert!(rt; Message::channel(kind, channel, first, second).is_none());
+    }
 }
 
 /// The bytes are no message.
@@ -238,10 +365,13 @@ fn a_song_position_from_bytes(rt: HostRuntime) -> Result<(), Fail> {
 fn an_exclusive_message_from_bytes(rt: HostRuntime) -> Result<(), Fail> {
     let bytes = [0xF0, 0x7E, 0x7F, 0x06, 0x01, 0xF7];
     let inquiry = Message::from_bytes(rt.alloc(), &bytes)?.ok_or("a message")?;
-    let copy = inquiry.duplicate()?;
+    check_copy(&rt, rt.alloc(), inquiry.duplicate()?, &bytes)
+}
+
+fn check_copy(rt: &impl Abort, alloc: Global, copy: Message, bytes: &[u8]) -> Result<(), Fail> {
     assert!(rt; copy.kind() == Kind::Exclusive);
     assert!(rt; copy.byte_at(5) == Some(0xF7));
-    assert!(rt; full_bytes(rt.alloc(), &[copy])?.as_slice() == bytes.as_slice());
+    assert!(rt; full_bytes(alloc, &[copy])?.as_slice() == bytes);
     Ok(())
 }
 
@@ -250,8 +380,12 @@ fn equal_messages(rt: HostRuntime) -> Result<(), Fail> {
     let song = Message::from_bytes(rt.alloc(), &[0xF2, 0x10, 0x01])?.ok_or("a message")?;
     let bytes = [0xF0, 0x7E, 0x7F, 0x06, 0x01, 0xF7];
     let inquiry = Message::from_bytes(rt.alloc(), &bytes)?.ok_or("a message")?;
-    assert!(rt; inquiry.duplicate()? == inquiry);
-    assert!(rt; song != inquiry);
+    check_equal(&rt, &song, &inquiry)
+}
+
+fn check_equal(rt: &impl Abort, song: &Message, inquiry: &Message) -> Result<(), Fail> {
+    assert!(rt; inquiry.duplicate()? == *inquiry);
+    assert!(rt; *song != *inquiry);
     Ok(())
 }
 
@@ -269,16 +403,23 @@ fn refused_growth(rt: HostRuntime) {
     }
 }
 
-#[test]
-fn many_messages_in_one_piece(rt: HostRuntime) -> Result<(), Fail> {
-    let mut stream = Vec::new(rt.alloc());
+fn extend_notes(stream: &mut Vec<u8>) -> Result<(), OutOfMemory> {
     stream.push(0x90)?;
     for _ in 0..10_000 {
         stream.extend_from_slice(b"\x3C\x40")?;
     }
+    Ok(())
+}
+
+/// Ten thousand messages, all in one piece.
+fn check_many(
+    rt: &(impl Abort + AllocGlobal),
+    stream: &mut Vec<u8>,
+    messages: &mut Vec<Message>,
+) -> Result<(), Fail> {
+    extend_notes(stream)?;
     let mut parser = StreamParser::new(rt.alloc());
-    let mut messages = Vec::new(rt.alloc());
-    assert!(rt; parser.feed(stream.as_slice(), &mut messages)? == 10_000);
+    assert!(rt; parser.feed(stream.as_slice(), messages)? == 10_000);
     assert!(rt; messages.len() == 10_000);
     let last = full_bytes(rt.alloc(), &messages.as_slice()[9_999..])?;
     assert!(rt; last.as_slice() == [0x90, 0x3C, 0x40].as_slice());
@@ -286,11 +427,15 @@ fn many_messages_in_one_piece(rt: HostRuntime) -> Result<(), Fail> {
 }
 
 #[test]
+fn many_messages_in_one_piece(rt: HostRuntime) -> Result<(), Fail> {
+    let mut stream = Vec::new(rt.alloc());
+    let mut messages = Vec::new(rt.alloc());
+    check_many(&rt, &mut stream, &mut messages)
+}
+
+#[test]
 fn faults_print(rt: HostRuntime) -> Result<(), Fail> {
-    assert!(rt; format!(in rt.alloc(); "{}", WireFault::OutOfMemory)?.as_str() == "out of memory");
-    assert!(rt;
-        format!(in rt.alloc(); "{}", WireFault::Failed)?.as_str()
-            == "an earlier call found no memory"
-    );
-    Ok(())
+    check_text(&rt, rt.alloc(), &WireFault::OutOfMemory, "out of memory")?;
+    let failed = "an earlier call found no memory";
+    check_text(&rt, rt.alloc(), &WireFault::Failed, failed)
 }

@@ -3,6 +3,7 @@
 use midi_wire::{Message, WireFault};
 use route_filter::{Rule, RuleArgs};
 use std::alloc::Global;
+use std::process::Abort;
 
 /// Note on of channel 0, from note 60 to 72, an octave up.
 const OCTAVE_UP: RuleArgs = RuleArgs {
@@ -66,71 +67,88 @@ fn makes_both(
     makes(alloc, one.then(&next).args(), bytes, expected)
 }
 
+/// A message, and what a rule makes of it.
+type Row = (&'static [u8], &'static [u8]);
+
+// A loop over rows is proved sooner than a row of assertions.
+
+fn check(rt: &impl Abort, alloc: Global, args: &RuleArgs, rows: &[Row]) -> Result<(), WireFault> {
+    for (bytes, expected) in rows {
+        assert!(rt; makes(alloc, *args, bytes, expected)?, "of {bytes:?}");
+    }
+    Ok(())
+}
+
+fn check_both(
+    rt: &impl Abort,
+    alloc: Global,
+    one: &RuleArgs,
+    next: &RuleArgs,
+    rows: &[Row],
+) -> Result<(), WireFault> {
+    for (bytes, expected) in rows {
+        assert!(rt;
+            makes_both(alloc, *one, *next, bytes, expected)?,
+            "of {bytes:?}"
+        );
+    }
+    Ok(())
+}
+
+const AN_OCTAVE_UP: &[Row] = &[
+    (&[0x90, 0x3C, 0x40], &[0x90, 0x48, 0x40]),
+    (&[0x91, 0x3C, 0x40], &[]),
+    (&[0x90, 0x3B, 0x40], &[]),
+    (&[0x80, 0x3C, 0x40], &[]),
+    (&[0xF8], &[]),
+];
+
+const REAL_TIME: &[Row] = &[(&[0xF8], &[0xF8])];
+
 #[test]
 fn octave_up(rt: HostRuntime) -> Result<(), WireFault> {
-    let alloc = rt.alloc();
-    assert!(rt; makes(alloc, OCTAVE_UP, &[0x90, 0x3C, 0x40], &[0x90, 0x48, 0x40])?);
-    assert!(rt; makes(alloc, OCTAVE_UP, &[0x91, 0x3C, 0x40], &[])?);
-    assert!(rt; makes(alloc, OCTAVE_UP, &[0x90, 0x3B, 0x40], &[])?);
-    assert!(rt; makes(alloc, OCTAVE_UP, &[0x80, 0x3C, 0x40], &[])?);
-    assert!(rt; makes(alloc, OCTAVE_UP, &[0xF8], &[])?);
+    check(&rt, rt.alloc(), &OCTAVE_UP, AN_OCTAVE_UP)?;
     let with_real_time = RuleArgs {
         kinds: 258,
         ..OCTAVE_UP
     };
-    assert!(rt; makes(alloc, with_real_time, &[0xF8], &[0xF8])?);
-    Ok(())
+    check(&rt, rt.alloc(), &with_real_time, REAL_TIME)
 }
+
+const ON_CHANNEL_NINE: &[Row] = &[
+    (&[0x90, 0x3C, 0x40], &[0x99, 0x3C, 0x40]),
+    (&[0xE0, 0x00, 0x40], &[0xE9, 0x00, 0x40]),
+    (&[0x91, 0x3C, 0x40], &[]),
+    (&[0xF8], &[0xF8]),
+    (&[0xF6], &[0xF6]),
+    (&[0xC0, 0x05], &[0xC9, 0x05]),
+    (&[0xF0, 0x7D, 0xF7], &[0xF0, 0x7D, 0xF7]),
+];
 
 #[test]
 fn to_channel_nine(rt: HostRuntime) -> Result<(), WireFault> {
-    let alloc = rt.alloc();
-    assert!(rt;
-        makes(
-            alloc,
-            TO_CHANNEL_NINE,
-            &[0x90, 0x3C, 0x40],
-            &[0x99, 0x3C, 0x40]
-        )?
-    );
-    assert!(rt;
-        makes(
-            alloc,
-            TO_CHANNEL_NINE,
-            &[0xE0, 0x00, 0x40],
-            &[0xE9, 0x00, 0x40]
-        )?
-    );
-    assert!(rt; makes(alloc, TO_CHANNEL_NINE, &[0x91, 0x3C, 0x40], &[])?);
-    assert!(rt; makes(alloc, TO_CHANNEL_NINE, &[0xF8], &[0xF8])?);
-    assert!(rt; makes(alloc, TO_CHANNEL_NINE, &[0xF6], &[0xF6])?);
-    assert!(rt; makes(alloc, TO_CHANNEL_NINE, &[0xC0, 0x05], &[0xC9, 0x05])?);
-    assert!(rt;
-        makes(
-            alloc,
-            TO_CHANNEL_NINE,
-            &[0xF0, 0x7D, 0xF7],
-            &[0xF0, 0x7D, 0xF7]
-        )?
-    );
-    Ok(())
+    check(&rt, rt.alloc(), &TO_CHANNEL_NINE, ON_CHANNEL_NINE)
 }
+
+const TOO_HIGH: &[Row] = &[(&[0x90, 0x7D, 0x40], &[])];
+
+const TOO_LOW: &[Row] = &[
+    (&[0x90, 0x3C, 0x40], &[]),
+    (&[0x90, 0x3D, 0x40], &[0x99, 0x00, 0x40]),
+];
 
 #[test]
 fn notes_are_dropped(rt: HostRuntime) -> Result<(), WireFault> {
-    let alloc = rt.alloc();
     let up = RuleArgs {
         shift: 7,
         ..TO_CHANNEL_NINE
     };
-    assert!(rt; makes(alloc, up, &[0x90, 0x7D, 0x40], &[])?);
+    check(&rt, rt.alloc(), &up, TOO_HIGH)?;
     let down = RuleArgs {
         shift: -61,
         ..TO_CHANNEL_NINE
     };
-    assert!(rt; makes(alloc, down, &[0x90, 0x3C, 0x40], &[])?);
-    assert!(rt; makes(alloc, down, &[0x90, 0x3D, 0x40], &[0x99, 0x00, 0x40])?);
-    Ok(())
+    check(&rt, rt.alloc(), &down, TOO_LOW)
 }
 
 #[test]
@@ -168,101 +186,104 @@ fn rules_are_tested(rt: HostRuntime) {
     assert!(rt; Rule::new(empty).is_some_and(|rule| rule.args() == empty));
 }
 
+// Of the notes 60 to 72, which go to 72 to 84, the second takes 72 alone.
+const UP_TWICE: &[Row] = &[
+    (&[0x90, 60, 0x40], &[0x90, 84, 0x40]),
+    (&[0x90, 61, 0x40], &[]),
+    (&[0x90, 59, 0x40], &[]),
+    (&[0x91, 60, 0x40], &[]),
+    (&[0x80, 60, 0x40], &[]),
+];
+
 #[test]
 fn two_octaves_up(rt: HostRuntime) -> Result<(), WireFault> {
-    let alloc = rt.alloc();
-    // Of the notes 60 to 72, which go to 72 to 84, the second takes 72 alone.
-    assert!(rt;
-        makes_both(
-            alloc,
-            OCTAVE_UP,
-            OCTAVE_UP,
-            &[0x90, 60, 0x40],
-            &[0x90, 84, 0x40]
-        )?
-    );
-    assert!(rt; makes_both(alloc, OCTAVE_UP, OCTAVE_UP, &[0x90, 61, 0x40], &[])?);
-    assert!(rt; makes_both(alloc, OCTAVE_UP, OCTAVE_UP, &[0x90, 59, 0x40], &[])?);
-    assert!(rt; makes_both(alloc, OCTAVE_UP, OCTAVE_UP, &[0x91, 60, 0x40], &[])?);
-    assert!(rt; makes_both(alloc, OCTAVE_UP, OCTAVE_UP, &[0x80, 60, 0x40], &[])?);
-    Ok(())
+    check_both(&rt, rt.alloc(), &OCTAVE_UP, &OCTAVE_UP, UP_TWICE)
 }
+
+/// All of channel 9, unchanged.
+const NINE: RuleArgs = RuleArgs {
+    channels: 512,
+    ..OPEN
+};
+
+/// All of channel 9, to channel 3.
+const NINE_TO_THREE: RuleArgs = RuleArgs {
+    channel: Some(3),
+    ..NINE
+};
+
+const THROUGH_NINE: &[Row] = &[
+    (&[0x90, 60, 0x40], &[0x99, 60, 0x40]),
+    (&[0x99, 60, 0x40], &[]),
+];
+
+const THEN_TO_THREE: &[Row] = &[(&[0xC0, 5], &[0xC3, 5])];
+
+const FIRST_TO_THREE: &[Row] = &[(&[0xC9, 5], &[0xC3, 5])];
 
 #[test]
 fn channel_is_given_first(rt: HostRuntime) -> Result<(), WireFault> {
     let alloc = rt.alloc();
-    let nine = RuleArgs {
-        channels: 512,
-        ..OPEN
-    };
-    assert!(rt;
-        makes_both(
-            alloc,
-            TO_CHANNEL_NINE,
-            nine,
-            &[0x90, 60, 0x40],
-            &[0x99, 60, 0x40]
-        )?
-    );
-    assert!(rt; makes_both(alloc, TO_CHANNEL_NINE, nine, &[0x99, 60, 0x40], &[])?);
-    let nine_to_three = RuleArgs {
-        channel: Some(3),
-        ..nine
-    };
-    assert!(rt;
-        makes_both(
-            alloc,
-            TO_CHANNEL_NINE,
-            nine_to_three,
-            &[0xC0, 5],
-            &[0xC3, 5]
-        )?
-    );
-    assert!(rt; makes_both(alloc, nine_to_three, OPEN, &[0xC9, 5], &[0xC3, 5])?);
-    Ok(())
+    check_both(&rt, alloc, &TO_CHANNEL_NINE, &NINE, THROUGH_NINE)?;
+    check_both(&rt, alloc, &TO_CHANNEL_NINE, &NINE_TO_THREE, THEN_TO_THREE)?;
+    check_both(&rt, alloc, &NINE_TO_THREE, &OPEN, FIRST_TO_THREE)
 }
+
+const REAL_TIME_ALONE: &[Row] = &[
+    (&[0x90, 60, 0x40], &[]),
+    (&[0xE0, 0, 0x40], &[]),
+    (&[0xF8], &[0xF8]),
+];
 
 #[test]
 fn given_channel_is_refused(rt: HostRuntime) -> Result<(), WireFault> {
-    let alloc = rt.alloc();
     let zero = RuleArgs {
         channels: 1,
         ..OPEN
     };
-    assert!(rt; makes_both(alloc, TO_CHANNEL_NINE, zero, &[0x90, 60, 0x40], &[])?);
-    assert!(rt; makes_both(alloc, TO_CHANNEL_NINE, zero, &[0xE0, 0, 0x40], &[])?);
-    assert!(rt; makes_both(alloc, TO_CHANNEL_NINE, zero, &[0xF8], &[0xF8])?);
-    Ok(())
+    check_both(&rt, rt.alloc(), &TO_CHANNEL_NINE, &zero, REAL_TIME_ALONE)
 }
+
+const NO_NOTE: &[Row] = &[
+    (&[0x90, 0, 0x40], &[]),
+    (&[0x80, 27, 0x40], &[]),
+    (&[0xA0, 127, 0x40], &[]),
+    (&[0xE0, 0, 0x40], &[0xE0, 0, 0x40]),
+];
 
 #[test]
 fn no_note_is_left(rt: HostRuntime) -> Result<(), WireFault> {
-    let alloc = rt.alloc();
     let up = RuleArgs { shift: 100, ..OPEN };
-    assert!(rt; makes_both(alloc, up, up, &[0x90, 0, 0x40], &[])?);
-    assert!(rt; makes_both(alloc, up, up, &[0x80, 27, 0x40], &[])?);
-    assert!(rt; makes_both(alloc, up, up, &[0xA0, 127, 0x40], &[])?);
-    assert!(rt; makes_both(alloc, up, up, &[0xE0, 0, 0x40], &[0xE0, 0, 0x40])?);
-    Ok(())
+    check_both(&rt, rt.alloc(), &up, &up, NO_NOTE)
 }
+
+const ABOVE_FORTY: &[Row] = &[
+    (&[0x90, 0, 0x40], &[]),
+    (&[0x90, 40, 0x40], &[]),
+    (&[0xB0, 7, 100], &[0xB0, 7, 100]),
+];
+
+const BELOW_HUNDRED: &[Row] = &[(&[0x90, 127, 0x40], &[])];
 
 #[test]
 fn shift_leaves_the_next_range(rt: HostRuntime) -> Result<(), WireFault> {
-    let alloc = rt.alloc();
     let up = RuleArgs { shift: 50, ..OPEN };
     let to_forty = RuleArgs { high: 40, ..OPEN };
-    assert!(rt; makes_both(alloc, up, to_forty, &[0x90, 0, 0x40], &[])?);
-    assert!(rt; makes_both(alloc, up, to_forty, &[0x90, 40, 0x40], &[])?);
-    assert!(rt; makes_both(alloc, up, to_forty, &[0xB0, 7, 100], &[0xB0, 7, 100])?);
+    check_both(&rt, rt.alloc(), &up, &to_forty, ABOVE_FORTY)?;
     let down = RuleArgs { shift: -50, ..OPEN };
     let from_hundred = RuleArgs { low: 100, ..OPEN };
-    assert!(rt; makes_both(alloc, down, from_hundred, &[0x90, 127, 0x40], &[])?);
-    Ok(())
+    check_both(&rt, rt.alloc(), &down, &from_hundred, BELOW_HUNDRED)
 }
+
+const TEN_TO_TWENTY: &[Row] = &[
+    (&[0x90, 9, 0x40], &[]),
+    (&[0x90, 10, 0x40], &[0x90, 55, 0x40]),
+    (&[0x90, 20, 0x40], &[0x90, 65, 0x40]),
+    (&[0x90, 21, 0x40], &[]),
+];
 
 #[test]
 fn range_is_shifted_back(rt: HostRuntime) -> Result<(), WireFault> {
-    let alloc = rt.alloc();
     let up = RuleArgs { shift: 50, ..OPEN };
     let next = RuleArgs {
         low: 60,
@@ -270,22 +291,20 @@ fn range_is_shifted_back(rt: HostRuntime) -> Result<(), WireFault> {
         shift: -5,
         ..OPEN
     };
-    assert!(rt; makes_both(alloc, up, next, &[0x90, 9, 0x40], &[])?);
-    assert!(rt; makes_both(alloc, up, next, &[0x90, 10, 0x40], &[0x90, 55, 0x40])?);
-    assert!(rt; makes_both(alloc, up, next, &[0x90, 20, 0x40], &[0x90, 65, 0x40])?);
-    assert!(rt; makes_both(alloc, up, next, &[0x90, 21, 0x40], &[])?);
-    Ok(())
+    check_both(&rt, rt.alloc(), &up, &next, TEN_TO_TWENTY)
 }
+
+const UP_TO_27: &[Row] = &[
+    (&[0x90, 27, 0x40], &[0x90, 27, 0x40]),
+    (&[0x90, 28, 0x40], &[]),
+];
 
 #[test]
 fn first_shift_loses_notes(rt: HostRuntime) -> Result<(), WireFault> {
-    let alloc = rt.alloc();
     let up = RuleArgs { shift: 100, ..OPEN };
     let down = RuleArgs {
         shift: -100,
         ..OPEN
     };
-    assert!(rt; makes_both(alloc, up, down, &[0x90, 27, 0x40], &[0x90, 27, 0x40])?);
-    assert!(rt; makes_both(alloc, up, down, &[0x90, 28, 0x40], &[])?);
-    Ok(())
+    check_both(&rt, rt.alloc(), &up, &down, UP_TO_27)
 }

@@ -1,4 +1,5 @@
 use super::numbers::{client, filter, port};
+use super::texts::assert_text;
 use node_table::Addr;
 use patch_graph::{EdgeFault, PatchGraph, Path, Routes};
 use std::process::Abort;
@@ -38,17 +39,24 @@ fn assert_sources(rt: &impl Abort, graph: &PatchGraph, of: u8, number: u8, sourc
     assert!(rt; graph.sources(&port(rt, of, number)) == sources);
 }
 
-#[test]
-fn a_new_graph_joins_nobody(rt: HostRuntime) {
-    let mut graph = PatchGraph::new(rt.alloc());
-    let one = port(&rt, 128, 0);
+// Each test makes its graph and lends it, so that it is dropped at one place alone: that is proved sooner.
+
+/// A new graph joins nobody.
+fn assert_new(rt: &impl Abort, graph: &mut PatchGraph) {
+    let one = port(rt, 128, 0);
     assert!(rt; graph.sources(&one) == 0);
     assert!(rt; graph.targets(&one).is_empty());
     assert!(rt; graph.routes(&one).next().is_none());
     assert!(rt; !graph.disconnect(&one, &one));
     graph.remove_node(&one);
-    graph.remove_client(client(&rt, 191));
+    graph.remove_client(client(rt, 191));
     assert!(rt; graph.is_empty());
+}
+
+#[test]
+fn a_new_graph_joins_nobody(rt: HostRuntime) {
+    let mut graph = PatchGraph::new(rt.alloc());
+    assert_new(&rt, &mut graph);
 }
 
 /// Joins 32 ports to port 0 of client 150.
@@ -58,16 +66,21 @@ fn fill_sources(rt: &impl Abort, graph: &mut PatchGraph) -> Result<(), EdgeFault
     join_ports(rt, graph, 129)
 }
 
-#[test]
-fn the_33rd_source_is_refused(rt: HostRuntime) -> Result<(), Fail> {
-    let mut graph = PatchGraph::new(rt.alloc());
-    fill_sources(&rt, &mut graph)?;
-    assert_sources(&rt, &graph, 150, 0, 32);
-    assert_sources(&rt, &graph, 128, 0, 0);
-    let refused = graph.connect(port(&rt, 130, 0), port(&rt, 150, 0));
+/// After 32 sources comes no other.
+fn assert_33rd_refused(rt: &impl Abort, graph: &mut PatchGraph) -> Result<(), Fail> {
+    fill_sources(rt, graph)?;
+    assert_sources(rt, graph, 150, 0, 32);
+    assert_sources(rt, graph, 128, 0, 0);
+    let refused = graph.connect(port(rt, 130, 0), port(rt, 150, 0));
     assert!(rt; refused == Err(EdgeFault::SourcesFull));
     assert!(rt; graph.len() == 32);
     Ok(())
+}
+
+#[test]
+fn the_33rd_source_is_refused(rt: HostRuntime) -> Result<(), Fail> {
+    let mut graph = PatchGraph::new(rt.alloc());
+    assert_33rd_refused(&rt, &mut graph)
 }
 
 /// Takes the oldest of 32 edges away, and joins its ports again.
@@ -82,16 +95,21 @@ fn join_again(rt: &impl Abort, graph: &mut PatchGraph) -> Result<(), EdgeFault> 
     graph.connect(first, target)
 }
 
+/// A source that was joined again is the youngest.
+fn assert_joined_again(rt: &impl Abort, graph: &mut PatchGraph) -> Result<(), Fail> {
+    fill_sources(rt, graph)?;
+    join_again(rt, graph)?;
+    assert_sources(rt, graph, 150, 0, 32);
+    assert_edge(rt, graph, 0, port(rt, 128, 1), port(rt, 150, 0));
+    assert_edge(rt, graph, 31, port(rt, 128, 0), port(rt, 150, 0));
+    assert!(rt; graph.edge(32) == None);
+    Ok(())
+}
+
 #[test]
 fn a_source_comes_back(rt: HostRuntime) -> Result<(), Fail> {
     let mut graph = PatchGraph::new(rt.alloc());
-    fill_sources(&rt, &mut graph)?;
-    join_again(&rt, &mut graph)?;
-    assert_sources(&rt, &graph, 150, 0, 32);
-    assert_edge(&rt, &graph, 0, port(&rt, 128, 1), port(&rt, 150, 0));
-    assert_edge(&rt, &graph, 31, port(&rt, 128, 0), port(&rt, 150, 0));
-    assert!(rt; graph.edge(32) == None);
-    Ok(())
+    assert_joined_again(&rt, &mut graph)
 }
 
 /// Joins filter 0 to filters 1 and 2, and 1 to 2. No edge back is taken.
@@ -104,15 +122,20 @@ fn join_without_cycles(rt: &impl Abort, graph: &mut PatchGraph) -> Result<(), Ed
     join_filters(rt, graph, 0, 2)
 }
 
+/// Of six edges three are taken.
+fn assert_no_cycles(rt: &impl Abort, graph: &mut PatchGraph) -> Result<(), Fail> {
+    join_without_cycles(rt, graph)?;
+    assert!(rt; graph.len() == 3);
+    assert!(rt; graph.reaches(&filter(rt, 128, 0), &filter(rt, 128, 2)));
+    assert!(rt; !graph.reaches(&filter(rt, 128, 2), &filter(rt, 128, 0)));
+    assert!(rt; !graph.reaches(&filter(rt, 128, 0), &filter(rt, 128, 0)));
+    Ok(())
+}
+
 #[test]
 fn filters_in_a_cycle_are_refused(rt: HostRuntime) -> Result<(), Fail> {
     let mut graph = PatchGraph::new(rt.alloc());
-    join_without_cycles(&rt, &mut graph)?;
-    assert!(rt; graph.len() == 3);
-    assert!(rt; graph.reaches(&filter(&rt, 128, 0), &filter(&rt, 128, 2)));
-    assert!(rt; !graph.reaches(&filter(&rt, 128, 2), &filter(&rt, 128, 0)));
-    assert!(rt; !graph.reaches(&filter(&rt, 128, 0), &filter(&rt, 128, 0)));
-    Ok(())
+    assert_no_cycles(&rt, &mut graph)
 }
 
 /// Joins a filter to a port, this to another filter, and that to the first.
@@ -126,12 +149,17 @@ fn join_round_a_port(rt: &impl Abort, graph: &mut PatchGraph) -> Result<(), Edge
     graph.connect(to, from)
 }
 
+/// A chain of filters ends at a port.
+fn assert_chain_ends(rt: &impl Abort, graph: &mut PatchGraph) -> Result<(), Fail> {
+    join_round_a_port(rt, graph)?;
+    assert!(rt; graph.makes_cycle(&filter(rt, 128, 0), &filter(rt, 129, 0)));
+    Ok(())
+}
+
 #[test]
 fn a_port_ends_a_chain_of_filters(rt: HostRuntime) -> Result<(), Fail> {
     let mut graph = PatchGraph::new(rt.alloc());
-    join_round_a_port(&rt, &mut graph)?;
-    assert!(rt; graph.makes_cycle(&filter(&rt, 128, 0), &filter(&rt, 129, 0)));
-    Ok(())
+    assert_chain_ends(&rt, &mut graph)
 }
 
 /// Joins two ports both ways, and the first to itself.
@@ -141,17 +169,22 @@ fn both_ways(rt: &impl Abort, graph: &mut PatchGraph) -> Result<(), EdgeFault> {
     graph.connect(port(rt, 128, 0), port(rt, 128, 0))
 }
 
+/// The ways of a port lead to the other and to itself.
+fn assert_both_ways(rt: &impl Abort, graph: &mut PatchGraph) -> Result<(), Fail> {
+    both_ways(rt, graph)?;
+    assert!(rt; graph.len() == 3);
+    let one = port(rt, 128, 0);
+    let mut routes = graph.routes(&one);
+    assert_way(rt, &mut routes, &[port(rt, 129, 0)]);
+    assert_way(rt, &mut routes, &[port(rt, 128, 0)]);
+    assert!(rt; routes.next().is_none());
+    Ok(())
+}
+
 #[test]
 fn ports_are_joined_both_ways(rt: HostRuntime) -> Result<(), Fail> {
     let mut graph = PatchGraph::new(rt.alloc());
-    both_ways(&rt, &mut graph)?;
-    assert!(rt; graph.len() == 3);
-    let one = port(&rt, 128, 0);
-    let mut routes = graph.routes(&one);
-    assert_way(&rt, &mut routes, &[port(&rt, 129, 0)]);
-    assert_way(&rt, &mut routes, &[port(&rt, 128, 0)]);
-    assert!(rt; routes.next().is_none());
-    Ok(())
+    assert_both_ways(&rt, &mut graph)
 }
 
 /// Filters 0 and 1 feed ports 0 and 1; the edges to the ports are older than those to the filters.
@@ -165,19 +198,24 @@ fn crossed(rt: &impl Abort, graph: &mut PatchGraph) -> Result<(), EdgeFault> {
     graph.connect(port(rt, 128, 0), filter(rt, 128, 0))
 }
 
+/// The ways go by the age of their edges.
+fn assert_ages(rt: &impl Abort, graph: &mut PatchGraph) -> Result<(), Fail> {
+    crossed(rt, graph)?;
+    let source = port(rt, 128, 0);
+    let mut routes = graph.routes(&source);
+    assert_way(rt, &mut routes, &[filter(rt, 128, 1), port(rt, 129, 1)]);
+    assert_way(rt, &mut routes, &[filter(rt, 128, 1), port(rt, 129, 0)]);
+    assert_way(rt, &mut routes, &[port(rt, 129, 2)]);
+    assert_way(rt, &mut routes, &[filter(rt, 128, 0), port(rt, 129, 1)]);
+    assert_way(rt, &mut routes, &[filter(rt, 128, 0), port(rt, 129, 0)]);
+    assert!(rt; routes.next().is_none());
+    Ok(())
+}
+
 #[test]
 fn copies_go_by_the_age_of_their_edges(rt: HostRuntime) -> Result<(), Fail> {
     let mut graph = PatchGraph::new(rt.alloc());
-    crossed(&rt, &mut graph)?;
-    let source = port(&rt, 128, 0);
-    let mut routes = graph.routes(&source);
-    assert_way(&rt, &mut routes, &[filter(&rt, 128, 1), port(&rt, 129, 1)]);
-    assert_way(&rt, &mut routes, &[filter(&rt, 128, 1), port(&rt, 129, 0)]);
-    assert_way(&rt, &mut routes, &[port(&rt, 129, 2)]);
-    assert_way(&rt, &mut routes, &[filter(&rt, 128, 0), port(&rt, 129, 1)]);
-    assert_way(&rt, &mut routes, &[filter(&rt, 128, 0), port(&rt, 129, 0)]);
-    assert!(rt; routes.next().is_none());
-    Ok(())
+    assert_ages(&rt, &mut graph)
 }
 
 /// From port 0 of client 128 through so many filters to port 0 of client 129.
@@ -198,13 +236,18 @@ fn assert_path(rt: &impl Abort, paths: &[Path]) {
     assert!(rt; paths[0].last.port.number() == 0);
 }
 
+/// A path of eight edges is walked.
+fn assert_walked(rt: &impl Abort, graph: &mut PatchGraph) -> Result<(), Fail> {
+    chained(rt, graph, 7)?;
+    assert!(rt; graph.len() == 8);
+    assert_path(rt, graph.walk(&port(rt, 128, 0))?.as_slice());
+    Ok(())
+}
+
 #[test]
 fn eight_edges_are_walked(rt: HostRuntime) -> Result<(), Fail> {
     let mut graph = PatchGraph::new(rt.alloc());
-    chained(&rt, &mut graph, 7)?;
-    assert!(rt; graph.len() == 8);
-    assert_path(&rt, graph.walk(&port(&rt, 128, 0))?.as_slice());
-    Ok(())
+    assert_walked(&rt, &mut graph)
 }
 
 /// From the first of eight filters on, eight edges lead to port 0 of client 129.
@@ -217,15 +260,20 @@ fn assert_shorter(rt: &impl Abort, graph: &PatchGraph) {
     assert!(rt; way.last().client.number() == 129);
 }
 
+/// A path of nine edges is not walked.
+fn assert_not_walked(rt: &impl Abort, graph: &mut PatchGraph) -> Result<(), Fail> {
+    chained(rt, graph, 8)?;
+    assert!(rt; graph.len() == 9);
+    assert!(rt; graph.walk(&port(rt, 128, 0))?.len() == 0);
+    assert!(rt; graph.routes(&port(rt, 128, 0)).next().is_none());
+    assert_shorter(rt, graph);
+    Ok(())
+}
+
 #[test]
 fn nine_edges_are_not_walked(rt: HostRuntime) -> Result<(), Fail> {
     let mut graph = PatchGraph::new(rt.alloc());
-    chained(&rt, &mut graph, 8)?;
-    assert!(rt; graph.len() == 9);
-    assert!(rt; graph.walk(&port(&rt, 128, 0))?.len() == 0);
-    assert!(rt; graph.routes(&port(&rt, 128, 0)).next().is_none());
-    assert_shorter(&rt, &graph);
-    Ok(())
+    assert_not_walked(&rt, &mut graph)
 }
 
 /// What is left of `crossed` without filter 1.
@@ -238,16 +286,21 @@ fn assert_uncrossed(rt: &impl Abort, graph: &PatchGraph) {
     assert_sources(rt, graph, 129, 1, 1);
 }
 
+/// A node takes its edges with it.
+fn assert_node_gone(rt: &impl Abort, graph: &mut PatchGraph) -> Result<(), Fail> {
+    crossed(rt, graph)?;
+    graph.remove_node(&filter(rt, 128, 1));
+    assert_uncrossed(rt, graph);
+    let left = [port(rt, 129, 2), filter(rt, 128, 0)];
+    assert!(rt; *graph.targets(&port(rt, 128, 0)) == *left.as_slice());
+    assert!(rt; graph.targets(&filter(rt, 128, 1)).is_empty());
+    Ok(())
+}
+
 #[test]
 fn a_node_goes_with_its_edges(rt: HostRuntime) -> Result<(), Fail> {
     let mut graph = PatchGraph::new(rt.alloc());
-    crossed(&rt, &mut graph)?;
-    graph.remove_node(&filter(&rt, 128, 1));
-    assert_uncrossed(&rt, &graph);
-    let left = [port(&rt, 129, 2), filter(&rt, 128, 0)];
-    assert!(rt; *graph.targets(&port(&rt, 128, 0)) == *left.as_slice());
-    assert!(rt; graph.targets(&filter(&rt, 128, 1)).is_empty());
-    Ok(())
+    assert_node_gone(&rt, &mut graph)
 }
 
 /// Joins ports of client 130 to one of client 128 and to one of client 131.
@@ -267,16 +320,21 @@ fn assert_beside(rt: &impl Abort, graph: &PatchGraph) {
     assert_sources(rt, graph, 129, 0, 0);
 }
 
+/// Clients take their edges with them.
+fn assert_clients_gone(rt: &impl Abort, graph: &mut PatchGraph) -> Result<(), Fail> {
+    crossed(rt, graph)?;
+    joined_beside(rt, graph)?;
+    graph.remove_client(client(rt, 128));
+    assert_beside(rt, graph);
+    graph.remove_client(client(rt, 131));
+    assert!(rt; graph.is_empty());
+    Ok(())
+}
+
 #[test]
 fn a_client_goes_with_its_edges(rt: HostRuntime) -> Result<(), Fail> {
     let mut graph = PatchGraph::new(rt.alloc());
-    crossed(&rt, &mut graph)?;
-    joined_beside(&rt, &mut graph)?;
-    graph.remove_client(client(&rt, 128));
-    assert_beside(&rt, &graph);
-    graph.remove_client(client(&rt, 131));
-    assert!(rt; graph.is_empty());
-    Ok(())
+    assert_clients_gone(&rt, &mut graph)
 }
 
 /// Joins each port that there may be to 32 others.
@@ -302,29 +360,35 @@ fn assert_ways_to_all(rt: &impl Abort, routes: &mut Routes<'_>) {
     assert!(rt; routes.next().is_none());
 }
 
-#[test]
-fn a_full_house_of_ports_has_32_sources_at_each(rt: HostRuntime) -> Result<(), Fail> {
-    let mut graph = PatchGraph::new(rt.alloc());
-    full_house(&rt, &mut graph)?;
+/// Each port has 32 sources, and each way leads to one of them.
+fn assert_full_house(rt: &impl Abort, graph: &mut PatchGraph) -> Result<(), Fail> {
+    full_house(rt, graph)?;
     assert!(rt; graph.len() == 32_768);
     for number in 128..192 {
-        assert_sources(&rt, &graph, number, 15, 32);
-        let refused = graph.connect(port(&rt, 130, 0), port(&rt, number, 15));
+        assert_sources(rt, graph, number, 15, 32);
+        let refused = graph.connect(port(rt, 130, 0), port(rt, number, 15));
         assert!(rt; refused == Err(EdgeFault::SourcesFull));
     }
-    assert_ways_to_all(&rt, &mut graph.routes(&port(&rt, 129, 3)));
+    assert_ways_to_all(rt, &mut graph.routes(&port(rt, 129, 3)));
     Ok(())
 }
 
 #[test]
+fn a_full_house_of_ports_has_32_sources_at_each(rt: HostRuntime) -> Result<(), Fail> {
+    let mut graph = PatchGraph::new(rt.alloc());
+    assert_full_house(&rt, &mut graph)
+}
+
+#[test]
 fn faults_print(rt: HostRuntime) -> Result<(), Fail> {
-    assert!(rt;
-        format!(in rt.alloc(); "{}", EdgeFault::AlreadyConnected)?.as_str() == "already connected"
-    );
-    assert!(rt;
-        format!(in rt.alloc(); "{}", EdgeFault::SourcesFull)?.as_str() == "too many sources"
-    );
-    assert!(rt; format!(in rt.alloc(); "{}", EdgeFault::Cycle)?.as_str() == "a cycle of filters");
-    assert!(rt; format!(in rt.alloc(); "{}", EdgeFault::OutOfMemory)?.as_str() == "out of memory");
-    Ok(())
+    let alloc = rt.alloc();
+    assert_text(
+        &rt,
+        alloc,
+        &EdgeFault::AlreadyConnected,
+        "already connected",
+    )?;
+    assert_text(&rt, alloc, &EdgeFault::SourcesFull, "too many sources")?;
+    assert_text(&rt, alloc, &EdgeFault::Cycle, "a cycle of filters")?;
+    assert_text(&rt, alloc, &EdgeFault::OutOfMemory, "out of memory")
 }

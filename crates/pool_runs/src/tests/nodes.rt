@@ -1,4 +1,5 @@
 use super::numbers::{client, filter, port};
+use super::texts::assert_text;
 use bitflags::Flags;
 use node_table::{
     Addr, Caps, ClientId, CreateFault, FilterNo, Node, NodeTable, OpenFault, PLACES, PortAddr,
@@ -61,18 +62,16 @@ fn a_table_is_made_once(rt: HostRuntime) -> Result<(), Fail> {
 
 #[test]
 fn addresses_print(rt: HostRuntime) -> Result<(), Fail> {
-    assert!(rt; format!(in rt.alloc(); "{}", port(&rt, 128, 0))?.as_str() == "128:p0");
-    assert!(rt; format!(in rt.alloc(); "{}", filter(&rt, 129, 3))?.as_str() == "129:f3");
+    let alloc = rt.alloc();
+    assert_text(&rt, alloc, &port(&rt, 128, 0), "128:p0")?;
+    assert_text(&rt, alloc, &filter(&rt, 129, 3), "129:f3")?;
     let addr = PortAddr {
         client: client(&rt, 191),
         port: PortNo::new(15).expect(&rt, "a port's number"),
     };
-    assert!(rt; format!(in rt.alloc(); "{addr}")?.as_str() == "191:p15");
-    assert!(rt;
-        format!(in rt.alloc(); "{}", QueueNo::new(7).expect(&rt, "a queue's number"))?.as_str()
-            == "7"
-    );
-    Ok(())
+    assert_text(&rt, alloc, &addr, "191:p15")?;
+    let queue = QueueNo::new(7).expect(&rt, "a queue's number");
+    assert_text(&rt, alloc, &queue, "7")
 }
 
 #[test]
@@ -319,11 +318,10 @@ fn addresses_of_queues_have_their_text(rt: HostRuntime) -> Result<(), Fail> {
     Ok(())
 }
 
-#[test]
-fn a_full_house_has_room_for_all(rt: HostRuntime) -> Result<(), Fail> {
-    let mut table: NodeTable<u32> = NodeTable::new(rt.alloc());
+// Opens all clients and makes all their nodes, whose bodies are their places.
+fn make_all(rt: &impl Abort, table: &mut NodeTable<u32>) {
     for number in 128..192 {
-        assert!(rt; table.open_client(client(&rt, number), b"full") == Ok(()));
+        assert!(rt; table.open_client(client(rt, number), b"full") == Ok(()));
     }
     for place in 0..PLACES {
         if let Some(addr) = addr_at(place) {
@@ -332,28 +330,40 @@ fn a_full_house_has_room_for_all(rt: HostRuntime) -> Result<(), Fail> {
             } else {
                 b"port".as_slice()
             };
-            assert!(rt; answer(table.create(addr, name, caps(&rt, 99), place as u32)) == ('-', 0));
+            assert!(rt; answer(table.create(addr, name, caps(rt, 99), place as u32)) == ('-', 0));
         }
     }
+}
+
+// All nodes are there, and then those of one client are not.
+fn assert_all(rt: &impl Abort, table: &mut NodeTable<u32>) {
     for place in 0..PLACES {
         if let Some(addr) = addr_at(place) {
-            assert!(rt; body(&table, &addr) == Some(place as u32));
+            assert!(rt; body(table, &addr) == Some(place as u32));
         }
     }
-    assert!(rt; table.close_client(client(&rt, 160)));
-    assert!(rt; body(&table, &port(&rt, 159, 15)) == Some(1007));
-    assert!(rt; body(&table, &port(&rt, 160, 0)) == None);
-    assert!(rt; body(&table, &port(&rt, 161, 0)) == Some(1056));
-    Ok(())
+    assert!(rt; table.close_client(client(rt, 160)));
+    assert!(rt; body(table, &port(rt, 159, 15)) == Some(1007));
+    assert!(rt; body(table, &port(rt, 160, 0)) == None);
+    assert!(rt; body(table, &port(rt, 161, 0)) == Some(1056));
+}
+
+#[test]
+fn a_full_house_has_room_for_all(rt: HostRuntime) {
+    let mut table: NodeTable<u32> = NodeTable::new(rt.alloc());
+    make_all(&rt, &mut table);
+    assert_all(&rt, &mut table);
 }
 
 #[test]
 fn faults_print(rt: HostRuntime) -> Result<(), Fail> {
-    assert!(rt;
-        format!(in rt.alloc(); "{}", OpenFault::AlreadyOpen)?.as_str()
-            == "the client is open already"
-    );
-    assert!(rt; format!(in rt.alloc(); "{}", OpenFault::BadName)?.as_str() == "this is no name");
-    assert!(rt; format!(in rt.alloc(); "{}", OpenFault::OutOfMemory)?.as_str() == "out of memory");
-    Ok(())
+    let alloc = rt.alloc();
+    assert_text(
+        &rt,
+        alloc,
+        &OpenFault::AlreadyOpen,
+        "the client is open already",
+    )?;
+    assert_text(&rt, alloc, &OpenFault::BadName, "this is no name")?;
+    assert_text(&rt, alloc, &OpenFault::OutOfMemory, "out of memory")
 }

@@ -1,3 +1,4 @@
+use super::texts::assert_text;
 use cell_pools::{CellKey, CellStore, InPool, PoolFault, PutFault, take_all};
 use memory::OutOfMemory;
 use node_table::ClientId;
@@ -70,14 +71,19 @@ fn a_pool_drains_in_pieces(rt: HostRuntime) -> Result<(), Fail> {
     Ok(())
 }
 
-#[test]
-fn a_store_puts_and_takes(rt: HostRuntime) -> Result<(), Fail> {
-    let mut store = CellStore::new(rt.alloc());
-    let one = client(&rt, 128);
+// One cell is put.
+fn assert_put(rt: &impl Abort, store: &mut CellStore<char>) -> Result<(), Fail> {
+    let one = client(rt, 128);
     store.set_size(one, 1);
     assert!(rt; (store.size(one), store.used(one)) == (1, 0));
     let key = store.put(one, 'a').ok().ok_or("full")?;
     assert!(rt; store.client_of(key) == Some(one));
+    assert_taken(rt, store, key);
+    Ok(())
+}
+
+// It is written, and taken once.
+fn assert_taken(rt: &impl Abort, store: &mut CellStore<char>, key: CellKey) {
     if let Some(value) = store.get_mut(key) {
         *value = 'b';
     }
@@ -85,7 +91,12 @@ fn a_store_puts_and_takes(rt: HostRuntime) -> Result<(), Fail> {
     assert!(rt; store.take(key) == Some('b'));
     assert!(rt; store.take(key) == None);
     assert!(rt; store.get(key).is_none() && store.get_mut(key).is_none());
-    Ok(())
+}
+
+#[test]
+fn a_store_puts_and_takes(rt: HostRuntime) -> Result<(), Fail> {
+    let mut store = CellStore::new(rt.alloc());
+    assert_put(&rt, &mut store)
 }
 
 // What `put` answers: a letter for the refusal, and the value that comes back.
@@ -146,10 +157,10 @@ fn listed(store: &CellStore<u32>) -> Result<(usize, u32), OutOfMemory> {
 }
 
 fn check_lists(rt: &impl Abort, store: &CellStore<u32>) -> Result<(), Fail> {
-    assert!(rt; listed_of(store, client(rt, 128))? == (2, 2));
-    assert!(rt; listed_of(store, client(rt, 191))? == (2, 4));
+    for (of, wanted) in [(128, (2, 2)), (191, (2, 4)), (151, (0, 0))] {
+        assert!(rt; listed_of(store, client(rt, of))? == wanted);
+    }
     assert!(rt; listed(store)? == (5, 10));
-    assert!(rt; listed_of(store, client(rt, 151))? == (0, 0));
     Ok(())
 }
 
@@ -192,14 +203,18 @@ fn a_walk_takes_what_it_comes_to(rt: HostRuntime) {
     assert!(rt; store.used(client(&rt, 191)) == 0);
 }
 
+// The cells of client 128 go, and no others.
+fn assert_emptied(rt: &impl Abort, store: &mut CellStore<u32>) -> Result<(), Fail> {
+    take_all(store, client(rt, 128));
+    assert!(rt; (store.used(client(rt, 128)), store.used(client(rt, 191))) == (0, 2));
+    assert!(rt; listed(store)? == (2, 5));
+    Ok(())
+}
+
 #[test]
 fn a_client_is_emptied(rt: HostRuntime) -> Result<(), Fail> {
     let mut store = filled(&rt, rt.alloc(), &[128, 191, 128, 128, 191]);
-    take_all(&mut store, client(&rt, 128));
-    assert!(rt; (store.used(client(&rt, 128)), store.used(client(&rt, 191))) == (0, 2));
-    let left = store.keys()?;
-    assert!(rt; (left.len(), sum_under(&store, &left)) == (2, 5));
-    Ok(())
+    assert_emptied(&rt, &mut store)
 }
 
 // A linear congruential generator, of the multiplier and the increment that Knuth gives.
@@ -278,9 +293,7 @@ fn counts_follow_the_cells(rt: HostRuntime) {
 
 #[test]
 fn faults_print(rt: HostRuntime) -> Result<(), Fail> {
-    assert!(rt;
-        format!(in rt.alloc(); "{}", PoolFault::BadSize)?.as_str() == "a pool's size is 1 to 2000"
-    );
-    assert!(rt; format!(in rt.alloc(); "{}", PoolFault::OutOfMemory)?.as_str() == "out of memory");
-    Ok(())
+    let bad_size = PoolFault::BadSize;
+    assert_text(&rt, rt.alloc(), &bad_size, "a pool's size is 1 to 2000")?;
+    assert_text(&rt, rt.alloc(), &PoolFault::OutOfMemory, "out of memory")
 }

@@ -1,0 +1,17 @@
+//! What is printed.
+
+use std::alloc::Global;
+use std::fmt;
+use std::process::Abort;
+use std::test::Fail;
+
+/// It prints as this text.
+pub(super) fn check_text<T: fmt::Display>(
+    rt: &impl Abort,
+    alloc: Global,
+    shown: &T,
+    text: &str,
+) -> Result<(), Fail> {
+    assert!(rt; format!(in alloc; "{}", shown)?.as_str() == text);
+    Ok(())
+}
