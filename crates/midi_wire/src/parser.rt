@@ -294,11 +294,8 @@ impl Pending {
         ensures err { let message = message_in from count (rc_value bytes.now).items in
             OnErr result (GainsPrefix out.old.items out.new.items (reading (self.old ++ message))) }
     {
-        if let LastBlock::Collecting = self.block {
-            self.end(out)?;
-        }
+        self.end(out)?;
         out.push(Message::exclusive_in(bytes, from, count)?)?;
-        self.block = LastBlock::Idle;
         Ok(())
     }
 
