@@ -4,7 +4,7 @@ use super::lines::At::{F, P};
 use super::lines::Say::*;
 use super::lines::{Lines, Part};
 use super::logs::{
-    Run, assert_bytes, assert_logs, assert_same_to, port_0_of, ran, ran_without_files,
+    Run, assert_bytes, assert_log, assert_logs, heard_by, port_0_of, ran, ran_without_files,
 };
 use super::patching::THIRD_CLIENTS;
 use super::queues::{SHARED_GUEST, SHARED_LISTENER, SHARING_OWNER};
@@ -22,30 +22,16 @@ fn assert_alone(rt: &impl Abort, alloc: Global, run: &Run, circle: &[u8]) -> Res
     let mut lines = Lines::of(alloc, run.parts)?;
     lines.only(circle);
     let alone = ran_without_files(rt, alloc, &lines, run.until)?;
-    assert_beside(rt, alloc, run, &alone)
-}
-
-/// The same, where this is the log of the circle alone.
-fn assert_beside(rt: &impl Abort, alloc: Global, run: &Run, alone: &RunLog) -> Result<(), Fail> {
     let log = ran(rt, alloc, run)?;
     assert!(rt; alone.entries.len() < log.entries.len());
-    assert_both(rt, alloc, run.parts, &log, alone)
+    assert_logs(rt, alloc, &log, run.parts)?;
+    assert_same(rt, alloc, &log, &alone)
 }
 
-fn assert_both(
-    rt: &impl Abort,
-    alloc: Global,
-    parts: &[Part],
-    log: &RunLog,
-    alone: &RunLog,
-) -> Result<(), Fail> {
-    assert_logs(rt, alloc, log, parts)?;
-    assert_same_to(rt, alloc, log, alone, 129)?;
-    assert_same_bytes(rt, log, alone)
-}
-
-/// The same comes to client 129 in both.
-fn assert_same_bytes(rt: &impl Abort, log: &RunLog, alone: &RunLog) -> Result<(), Fail> {
+/// Client 129 hears the same of both.
+fn assert_same(rt: &impl Abort, alloc: Global, log: &RunLog, alone: &RunLog) -> Result<(), Fail> {
+    let heard = heard_by(alloc, alone, 129)?;
+    assert_log(rt, alloc, log, 129, heard.as_str())?;
     let bytes = alone.port_bytes(port_0_of(129)?)?;
     assert_bytes(rt, log, 129, bytes.as_slice())
 }

@@ -3,7 +3,7 @@
 use super::lines::At::P;
 use super::lines::Part;
 use super::lines::Say::*;
-use super::logs::{Run, assert_run, assert_run_and_bytes};
+use super::logs::{Run, assert_bytes, assert_logs, assert_run, ran};
 use seq_engine::*;
 use std::test::Fail;
 
@@ -83,7 +83,10 @@ const A_PORT_MADE_AGAIN: Run = Run {
 
 #[test]
 fn a_port_made_again(rt: HostRuntime) -> Result<(), Fail> {
-    assert_run_and_bytes(&rt, rt.alloc(), &A_PORT_MADE_AGAIN, b"\x91\x3C\x40")
+    let alloc = rt.alloc();
+    let log = ran(&rt, alloc, &A_PORT_MADE_AGAIN)?;
+    assert_logs(&rt, alloc, &log, A_PORT_MADE_AGAIN.parts)?;
+    assert_bytes(&rt, &log, 129, b"\x91\x3C\x40")
 }
 
 /// A closed client hears and says nothing. Opened again it has no ports, and nobody's subscription to it is left.

@@ -24,30 +24,6 @@ pub fn assert_run(rt: &impl Abort, alloc: Global, run: &Run) -> Result<(), Fail>
     assert_logs(rt, alloc, &ran(rt, alloc, run)?, run.parts)
 }
 
-/// The same, and this comes to port 0 of client 129.
-pub fn assert_run_and_bytes(
-    rt: &impl Abort,
-    alloc: Global,
-    run: &Run,
-    wanted: &[u8],
-) -> Result<(), Fail> {
-    let log = ran(rt, alloc, run)?;
-    assert_logs_and_bytes(rt, alloc, &log, run.parts, wanted)
-}
-
-// A log is lent by the function that gets it, here and in other tests, so that it is dropped at one place alone: that
-// is proved sooner.
-fn assert_logs_and_bytes(
-    rt: &impl Abort,
-    alloc: Global,
-    log: &RunLog,
-    parts: &[Part],
-    wanted: &[u8],
-) -> Result<(), Fail> {
-    assert_logs(rt, alloc, log, parts)?;
-    assert_bytes(rt, log, 129, wanted)
-}
-
 /// Each client hears what was worked out.
 pub fn assert_logs(
     rt: &impl Abort,
@@ -101,53 +77,25 @@ pub fn ran_with(
 ) -> Result<RunLog, Fail> {
     assert!(rt; is_timed(inputs, until));
     let (log, sorted) = run_under_both(alloc, files, inputs, until)?;
-    assert_same(rt, alloc, &log, &sorted)?;
-    Ok(log)
-}
-
-/// Two runs are the same to all clients.
-fn assert_same(rt: &impl Abort, alloc: Global, log: &RunLog, other: &RunLog) -> Result<(), Fail> {
-    assert!(rt; log.entries.len() == other.entries.len());
+    assert!(rt; log.entries.len() == sorted.entries.len());
     for client in 128..132 {
-        assert_same_to(rt, alloc, log, other, client)?;
+        let heard = heard_by(alloc, &sorted, client)?;
+        assert_log(rt, alloc, &log, client, heard.as_str())?;
     }
-    assert!(rt; log.listing.as_slice() == other.listing.as_slice());
-    Ok(())
-}
-
-/// Two runs are the same to a client.
-pub fn assert_same_to(
-    rt: &impl Abort,
-    alloc: Global,
-    log: &RunLog,
-    other: &RunLog,
-    client: u8,
-) -> Result<(), Fail> {
-    let heard = heard_by(alloc, other, client)?;
-    assert_log(rt, alloc, log, client, heard.as_str())
+    assert!(rt; log.listing.as_slice() == sorted.listing.as_slice());
+    Ok(log)
 }
 
 /// What a client hears of a run, a line for each reply to one of its own lines and for each delivery at its ports.
 pub fn heard_by(alloc: Global, log: &RunLog, client: u8) -> Result<String, Fail> {
     let mut text = String::new(alloc);
-    add_heard(alloc, &mut text, log.entries.as_slice(), client)?;
-    Ok(text)
-}
-
-/// Adds what a client hears.
-fn add_heard(
-    alloc: Global,
-    text: &mut String,
-    entries: &[LogEntry],
-    client: u8,
-) -> Result<(), Fail> {
     let mut line = 0u64;
-    for entry in entries {
+    for entry in log.entries.as_slice() {
         match entry {
             LogEntry::Delivered(delivery) => {
                 if delivery.target.client.number() == client {
                     let port = delivery.target.port;
-                    add_message(alloc, text, delivery.moment, port, &delivery.message)?;
+                    add_message(alloc, &mut text, delivery.moment, port, &delivery.message)?;
                 }
             }
             LogEntry::Replied {
@@ -158,19 +106,13 @@ fn add_heard(
             } => {
                 if actor.number() == client {
                     line = line.wrapping_add(1);
-                    add_line(alloc, text, *moment, line)?;
-                    add_reply(alloc, text, reply)?;
+                    text.push_str(format!(in alloc; "{moment} line {line} ")?.as_str())?;
+                    add_reply(alloc, &mut text, reply)?;
                 }
             }
         }
     }
-    Ok(())
-}
-
-/// Adds the moment and the line of a reply.
-fn add_line(alloc: Global, text: &mut String, moment: u64, line: u64) -> Result<(), Fail> {
-    text.push_str(format!(in alloc; "{moment} line {line} ")?.as_str())?;
-    Ok(())
+    Ok(text)
 }
 
 /// Adds a message at a port.
@@ -185,12 +127,7 @@ fn add_message(
     text.push_str(format!(in alloc; "{moment} port {port}")?.as_str())?;
     let mut bytes = Vec::new(alloc);
     message.append_to(&mut bytes)?;
-    add_bytes(alloc, text, bytes.as_slice())
-}
-
-/// Adds bytes, and ends the line.
-fn add_bytes(alloc: Global, text: &mut String, bytes: &[u8]) -> Result<(), Fail> {
-    for byte in bytes {
+    for byte in bytes.as_slice() {
         text.push_str(format!(in alloc; " {byte:02X}")?.as_str())?;
     }
     text.push_str("\n")?;
@@ -221,11 +158,7 @@ fn add_reply(alloc: Global, text: &mut String, reply: &Reply) -> Result<(), Fail
             format!(in alloc; "refused {refusal}")?
         }
     };
-    end_line(text, line.as_str())
-}
-
-fn end_line(text: &mut String, rest: &str) -> Result<(), Fail> {
-    text.push_str(rest)?;
+    text.push_str(line.as_str())?;
     text.push_str("\n")?;
     Ok(())
 }

@@ -7,7 +7,6 @@ use super::logs::{assert_bytes, assert_log, port_0_of, ran_without_files};
 use super::sending::LISTENS;
 use seq_engine::*;
 use std::alloc::Global;
-use std::process::Abort;
 use std::test::Fail;
 
 /// One note at each moment, which the listener takes.
@@ -21,25 +20,17 @@ fn add_notes(lines: &mut Lines, count: u64) -> Result<(), Fail> {
     Ok(())
 }
 
-fn add_hundred_thousand(lines: &mut Lines) -> Result<(), Fail> {
-    lines.by(128);
-    lines.say_all(&[(0, Open("a", 8, 8)), (0, Port(0, "out", 33))])?;
-    lines.by(129);
-    lines.say_all(LISTENS)?;
-    add_notes(lines, 100_000)
-}
-
 /// A long run has all its replies and all its deliveries.
 #[test]
 fn a_hundred_thousand_notes(rt: HostRuntime) -> Result<(), Fail> {
     let alloc = rt.alloc();
     let mut lines = Lines::new(alloc);
-    add_hundred_thousand(&mut lines)?;
+    lines.by(128);
+    lines.say_all(&[(0, Open("a", 8, 8)), (0, Port(0, "out", 33))])?;
+    lines.by(129);
+    lines.say_all(LISTENS)?;
+    add_notes(&mut lines, 100_000)?;
     let log = ran_without_files(&rt, alloc, &lines, 100_000)?;
-    assert_hundred_thousand(&rt, &log)
-}
-
-fn assert_hundred_thousand(rt: &impl Abort, log: &RunLog) -> Result<(), Fail> {
     assert!(rt; log.entries.len() == 300_005);
     // The status of the first note, and two bytes of each.
     assert!(rt; log.port_bytes(port_0_of(129)?)?.len() == 200_001);
@@ -56,18 +47,14 @@ fn ticks(alloc: Global, count: u64) -> Result<Vec<u8>, Fail> {
 }
 
 /// Ten thousand messages in one piece of bytes.
-fn add_flood(lines: &mut Lines, alloc: Global) -> Result<(), Fail> {
+fn add_flood(lines: &mut Lines, piece: Vec<u8>) -> Result<(), Fail> {
     lines.by(128);
     lines.say_all(&[(0, Open("a", 8, 8)), (0, Port(0, "out", 33))])?;
-    give_piece(lines, alloc)?;
+    let port = PortNo::new(0).ok_or("a port number")?;
+    let bytes = Items::new(piece);
+    lines.give(1, Command::Bytes { port, bytes })?;
     lines.by(129);
     lines.say_all(FLOODED)
-}
-
-fn give_piece(lines: &mut Lines, alloc: Global) -> Result<(), Fail> {
-    let port = PortNo::new(0).ok_or("a port number")?;
-    let bytes = Items::new(ticks(alloc, 10_000)?);
-    lines.give(1, Command::Bytes { port, bytes })
 }
 
 /// Client 129 has room for two thousand.
@@ -83,17 +70,13 @@ const FLOODED: &[(u64, Say)] = &[
 fn ten_thousand_messages_in_a_piece(rt: HostRuntime) -> Result<(), Fail> {
     let alloc = rt.alloc();
     let mut lines = Lines::new(alloc);
-    add_flood(&mut lines, alloc)?;
+    add_flood(&mut lines, ticks(alloc, 10_000)?)?;
     let log = ran_without_files(&rt, alloc, &lines, 2)?;
-    assert_flooded(&rt, alloc, &log)
-}
-
-fn assert_flooded(rt: &impl Abort, alloc: Global, log: &RunLog) -> Result<(), Fail> {
     let sent = "0 line 1 ok\n0 line 2 ok\n1 line 3 ok 10000\n";
-    assert_log(rt, alloc, log, 128, sent)?;
+    assert_log(&rt, alloc, &log, 128, sent)?;
     assert!(rt; log.entries.len() == 2007);
     assert!(rt; is_pools(log.entries.as_slice().last(), 2000, 8000));
-    assert_bytes(rt, log, 129, ticks(alloc, 2000)?.as_slice())
+    assert_bytes(&rt, &log, 129, ticks(alloc, 2000)?.as_slice())
 }
 
 /// Whether so many wait and so many are lost.
@@ -201,10 +184,6 @@ fn a_full_house(rt: HostRuntime) -> Result<(), Fail> {
     let mut lines = Lines::new(alloc);
     add_full_house(&mut lines)?;
     let log = ran_without_files(&rt, alloc, &lines, 0)?;
-    assert_full_house(&rt, alloc, &log)
-}
-
-fn assert_full_house(rt: &impl Abort, alloc: Global, log: &RunLog) -> Result<(), Fail> {
     assert!(rt; log.entries.len() == 64 * 41);
     assert!(rt; log.listing.as_slice() == full_listing(alloc)?.as_bytes());
     Ok(())

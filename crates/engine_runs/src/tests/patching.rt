@@ -7,8 +7,6 @@ use super::lines::{ALL, Lines, Part};
 use super::logs::{Run, all_done, assert_log, assert_run, ran_without_files};
 use seq_engine::*;
 use std::alloc::Global;
-use std::ops::RangeInclusive;
-use std::process::Abort;
 use std::test::Fail;
 
 /// Filters may be joined in a chain and not in a ring, nor to themselves. Ports may be joined both ways.
@@ -133,35 +131,20 @@ fn sources_full(rt: HostRuntime) -> Result<(), Fail> {
     let mut lines = Lines::new(alloc);
     add_sources_full(&mut lines)?;
     let log = ran_without_files(&rt, alloc, &lines, 10)?;
-    assert_seventeen(&rt, alloc, &log)
-}
-
-fn assert_seventeen(rt: &impl Abort, alloc: Global, log: &RunLog) -> Result<(), Fail> {
-    assert_log(rt, alloc, log, 128, all_done(alloc, 0, 1..=18)?.as_str())?;
+    assert_log(&rt, alloc, &log, 128, all_done(alloc, 0, 1..=18)?.as_str())?;
     let wanted = after_sixteen(
         alloc,
         "2 line 19 ok\n2 line 20 refused 11 AlreadyConnected\n",
     )?;
-    assert_log(rt, alloc, log, 129, wanted.as_str())
+    assert_log(&rt, alloc, &log, 129, wanted.as_str())
 }
 
 /// What client 129 hears when it has joined sixteen ports, and then this.
 fn after_sixteen(alloc: Global, rest: &str) -> Result<String, Fail> {
     let mut text = all_done(alloc, 0, 1..=2)?;
-    add_done(alloc, &mut text, 3..=18, rest)?;
-    Ok(text)
-}
-
-/// Adds lines that are all carried out at moment 1, and then this.
-fn add_done(
-    alloc: Global,
-    text: &mut String,
-    lines: RangeInclusive<u64>,
-    rest: &str,
-) -> Result<(), Fail> {
-    text.push_str(all_done(alloc, 1, lines)?.as_str())?;
+    text.push_str(all_done(alloc, 1, 3..=18)?.as_str())?;
     text.push_str(rest)?;
-    Ok(())
+    Ok(text)
 }
 
 /// A port takes thirty-two sources, and no more.
@@ -182,14 +165,10 @@ fn thirty_two_sources(rt: HostRuntime) -> Result<(), Fail> {
     let mut lines = Lines::new(alloc);
     add_thirty_two_sources(&mut lines)?;
     let log = ran_without_files(&rt, alloc, &lines, 10)?;
-    assert_thirty_two(&rt, alloc, &log)
-}
-
-fn assert_thirty_two(rt: &impl Abort, alloc: Global, log: &RunLog) -> Result<(), Fail> {
     let mut wanted = all_done(alloc, 0, 1..=2)?;
-    let refused = "2 line 35 refused 13 SourcesFull\n2 line 36 refused 11 AlreadyConnected\n";
-    add_done(alloc, &mut wanted, 3..=34, refused)?;
-    assert_log(rt, alloc, log, 129, wanted.as_str())
+    wanted.push_str(all_done(alloc, 1, 3..=34)?.as_str())?;
+    wanted.push_str("2 line 35 refused 13 SourcesFull\n2 line 36 refused 11 AlreadyConnected\n")?;
+    assert_log(&rt, alloc, &log, 129, wanted.as_str())
 }
 
 /// Sixteen ports of client 128 and one of client 130 are joined to port 0 of client 129, and the fourth is parted
@@ -210,28 +189,16 @@ fn add_sources(lines: &mut Lines) -> Result<(), Fail> {
 /// The listing of these clients, without its subscriptions.
 fn sources_listing(alloc: Global) -> Result<String, Fail> {
     let mut text = String::from_str(alloc, "client 128 a in 8 out 8\n")?;
-    add_ports(alloc, &mut text)?;
-    Ok(text)
-}
-
-/// Adds the ports of client 128, and client 129.
-fn add_ports(alloc: Global, text: &mut String) -> Result<(), Fail> {
     for port in 0..16 {
         text.push_str(format!(in alloc; "port 128:p{port} o 33\n")?.as_str())?;
     }
     text.push_str("client 129 b in 8 out 8\n")?;
-    Ok(())
+    Ok(text)
 }
 
 /// The listing at the end, where all stay.
 fn joined_listing(alloc: Global) -> Result<String, Fail> {
     let mut listing = sources_listing(alloc)?;
-    add_edges(alloc, &mut listing)?;
-    Ok(listing)
-}
-
-/// Adds what client 129 has, client 130, and the subscriptions.
-fn add_edges(alloc: Global, listing: &mut String) -> Result<(), Fail> {
     listing.push_str("port 129:p0 i 66\nclient 130 c in 8 out 8\nport 130:p0 o 33\n")?;
     for port in 0..16 {
         if port != 3 {
@@ -239,7 +206,7 @@ fn add_edges(alloc: Global, listing: &mut String) -> Result<(), Fail> {
         }
     }
     listing.push_str("edge 130:p0 129:p0\n")?;
-    Ok(())
+    Ok(listing)
 }
 
 /// What goes leaves the rest in its order.
@@ -249,10 +216,6 @@ fn a_source_goes(rt: HostRuntime) -> Result<(), Fail> {
     let mut lines = Lines::new(alloc);
     add_sources(&mut lines)?;
     let log = ran_without_files(&rt, alloc, &lines, 10)?;
-    assert_joined(&rt, alloc, &log)
-}
-
-fn assert_joined(rt: &impl Abort, alloc: Global, log: &RunLog) -> Result<(), Fail> {
     assert!(rt; log.listing.as_slice() == joined_listing(alloc)?.as_bytes());
     Ok(())
 }
@@ -273,24 +236,14 @@ fn sources_and_removal(rt: HostRuntime) -> Result<(), Fail> {
     let mut lines = Lines::new(alloc);
     add_removal(&mut lines)?;
     let log = ran_without_files(&rt, alloc, &lines, 10)?;
-    assert_removed(&rt, alloc, &log)?;
-    assert_left(&rt, alloc, &log)
-}
-
-/// What client 129 hears.
-fn assert_removed(rt: &impl Abort, alloc: Global, log: &RunLog) -> Result<(), Fail> {
     let wanted = after_sixteen(
         alloc,
         "2 line 19 ok\n2 line 20 refused 11 AlreadyConnected\n2 line 21 ok\n\
         2 line 22 refused 11 AlreadyConnected\n4 line 23 refused 8 NoSender\n4 line 24 ok\n",
     )?;
-    assert_log(rt, alloc, log, 129, wanted.as_str())
-}
-
-/// What client 130 hears, and what is left.
-fn assert_left(rt: &impl Abort, alloc: Global, log: &RunLog) -> Result<(), Fail> {
+    assert_log(&rt, alloc, &log, 129, wanted.as_str())?;
     let closed = "0 line 1 ok\n0 line 2 ok\n3 line 3 ok\n";
-    assert_log(rt, alloc, log, 130, closed)?;
+    assert_log(&rt, alloc, &log, 130, closed)?;
     assert!(rt; log.listing.as_slice() == sources_listing(alloc)?.as_bytes());
     Ok(())
 }

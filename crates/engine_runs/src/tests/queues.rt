@@ -8,8 +8,6 @@ use super::logs::{Run, assert_logs, assert_run, ran_on};
 use super::sending::LISTENS;
 use seq_engine::*;
 use smf_files::write_format0;
-use std::alloc::Global;
-use std::process::Abort;
 use std::test::Fail;
 
 /// Two clients schedule for one moment, the one with the greater number first.
@@ -279,15 +277,11 @@ const LONG_PLAY: &[Part] = &[
 
 #[test]
 fn long_play(rt: HostRuntime) -> Result<(), Fail> {
-    let events = notes(rt.alloc(), 5000)?;
-    let file = write_format0(rt.alloc(), 480, 500_000, events.as_slice())?;
-    assert_long_play(&rt, rt.alloc(), file.as_slice())
-}
-
-fn assert_long_play(rt: &impl Abort, alloc: Global, file: &[u8]) -> Result<(), Fail> {
+    let alloc = rt.alloc();
     let lines = Lines::of(alloc, LONG_PLAY)?;
-    let log = ran_on(rt, alloc, file, lines.inputs(), 6_000_000_000)?;
-    assert_logs(rt, alloc, &log, LONG_PLAY)
+    let file = write_format0(alloc, 480, 500_000, notes(alloc, 5000)?.as_slice())?;
+    let log = ran_on(&rt, alloc, file.as_slice(), lines.inputs(), 6_000_000_000)?;
+    assert_logs(&rt, alloc, &log, LONG_PLAY)
 }
 
 /// Client 130 sends by a queue that client 128 shares, until that deletes it.

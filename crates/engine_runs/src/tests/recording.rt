@@ -5,9 +5,8 @@ use super::making::client;
 use midi_wire::{Kind, Message};
 use node_table::{Addr, Caps, ClientId, Node, PortAddr, PortNo};
 use port_record::record_file;
-use seq_engine::{Command, Input, Items, RunLog};
+use seq_engine::{Command, Input, Items};
 use std::alloc::Global;
-use std::process::Abort;
 use std::test::Fail;
 
 fn port_at(number: u8) -> Result<PortAddr, Fail> {
@@ -56,51 +55,45 @@ fn say(
     Ok(())
 }
 
-/// Client 129 listens to client 128.
-fn connect(inputs: &mut Vec<Input>) -> Result<(), Fail> {
+/// Client 128 feeds these bytes to its port, which client 129 listens to.
+fn fed(alloc: Global, moment: u64, bytes: &[u8]) -> Result<Vec<Input>, Fail> {
+    let mut inputs = Vec::new(alloc);
+    open(alloc, 128, 33, &mut inputs)?;
+    open(alloc, 129, 66, &mut inputs)?;
     let source = node_at(128)?;
     let target = node_at(129)?;
-    say(0, client(129)?, Command::Connect { source, target }, inputs)
-}
-
-/// Client 128 feeds these bytes to its port, which client 129 listens to.
-fn feed(alloc: Global, moment: u64, bytes: &[u8], inputs: &mut Vec<Input>) -> Result<(), Fail> {
-    open(alloc, 128, 33, inputs)?;
-    open(alloc, 129, 66, inputs)?;
-    connect(inputs)?;
+    say(
+        0,
+        client(129)?,
+        Command::Connect { source, target },
+        &mut inputs,
+    )?;
     let PortAddr { client, port } = port_at(128)?;
     let bytes = Items::new(Vec::from_slice(alloc, bytes)?);
-    say(moment, client, Command::Bytes { port, bytes }, inputs)
+    say(moment, client, Command::Bytes { port, bytes }, &mut inputs)?;
+    Ok(inputs)
 }
 
 /// A note and a clock; the note ends a second later.
-fn add_whole_note(alloc: Global, inputs: &mut Vec<Input>) -> Result<(), Fail> {
-    feed(alloc, 0, b"\x90\x3C\x40\xF8", inputs)?;
+fn whole_note(alloc: Global) -> Result<Vec<Input>, Fail> {
+    let mut inputs = fed(alloc, 0, b"\x90\x3C\x40\xF8")?;
     let PortAddr { client, port } = port_at(128)?;
     let message = Message::channel(Kind::NoteOn, 0, 0x3C, 0).ok_or("a message")?;
     say(
         1_000_000_000,
         client,
         Command::Send { port, message },
-        inputs,
-    )
-}
-
-/// The file of what came to a client while that was sounding.
-fn whole_note(rt: &impl Abort, alloc: Global, number: u8) -> Result<Vec<u8>, Fail> {
-    let mut inputs = Vec::new(alloc);
-    add_whole_note(alloc, &mut inputs)?;
-    let log = ran_with(rt, alloc, &[], inputs.as_slice(), 1_000_000_000)?;
-    recorded(alloc, &log, number)
-}
-
-fn recorded(alloc: Global, log: &RunLog, number: u8) -> Result<Vec<u8>, Fail> {
-    Ok(record_file(alloc, log, port_at(number)?)?)
+        &mut inputs,
+    )?;
+    Ok(inputs)
 }
 
 #[test]
 fn records_at_ticks(rt: HostRuntime) -> Result<(), Fail> {
-    let file = whole_note(&rt, rt.alloc(), 129)?;
+    let alloc = rt.alloc();
+    let inputs = whole_note(alloc)?;
+    let log = ran_with(&rt, alloc, &[], inputs.as_slice(), 1_000_000_000)?;
+    let file = record_file(alloc, &log, port_at(129)?)?;
     // 960 ticks are 87 40 as a delta time.
     assert!(rt;
         file.as_slice()
@@ -114,23 +107,14 @@ fn records_at_ticks(rt: HostRuntime) -> Result<(), Fail> {
 #[test]
 fn recording(rt: HostRuntime) -> Result<(), Fail> {
     let alloc = rt.alloc();
-    let mut inputs = Vec::new(alloc);
-    feed(alloc, 5, b"\x90\x3C\x40", &mut inputs)?;
+    let inputs = fed(alloc, 5, b"\x90\x3C\x40")?;
     let log = ran_with(&rt, alloc, &[], inputs.as_slice(), 10)?;
-    assert_recorded(&rt, alloc, &log)
-}
-
-fn assert_recorded(rt: &impl Abort, alloc: Global, log: &RunLog) -> Result<(), Fail> {
-    let file = recorded(alloc, log, 129)?;
+    let file = record_file(alloc, &log, port_at(129)?)?;
     assert!(rt;
         file.as_slice()
             == &b"MThd\x00\x00\x00\x06\x00\x00\x00\x01\x01\xE0MTrk\x00\x00\x00\x0F\
         \x00\xFF\x51\x03\x07\xA1\x20\x00\x90\x3C\x40\x00\xFF\x2F\x00"[..]
     );
-    assert_raw(rt, log)
-}
-
-fn assert_raw(rt: &impl Abort, log: &RunLog) -> Result<(), Fail> {
     let raw = log.port_bytes(port_at(129)?)?;
     assert!(rt; raw.as_slice() == &b"\x90\x3C\x40"[..]);
     Ok(())
@@ -138,7 +122,10 @@ fn assert_raw(rt: &impl Abort, log: &RunLog) -> Result<(), Fail> {
 
 #[test]
 fn records_silence(rt: HostRuntime) -> Result<(), Fail> {
-    let file = whole_note(&rt, rt.alloc(), 128)?;
+    let alloc = rt.alloc();
+    let inputs = whole_note(alloc)?;
+    let log = ran_with(&rt, alloc, &[], inputs.as_slice(), 1_000_000_000)?;
+    let file = record_file(alloc, &log, port_at(128)?)?;
     assert!(rt;
         file.as_slice()
             == &b"MThd\x00\x00\x00\x06\x00\x00\x00\x01\x01\xE0MTrk\x00\x00\x00\x0B\

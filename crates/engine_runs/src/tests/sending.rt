@@ -4,12 +4,9 @@ use super::lines::At::{F, P};
 use super::lines::Say::*;
 use super::lines::{ALL, Lines, Part, Say};
 use super::logs::{
-    Run, all_done, assert_bytes, assert_log, assert_logs, assert_run, assert_run_and_bytes, ran,
-    ran_without_files,
+    Run, all_done, assert_bytes, assert_log, assert_logs, assert_run, ran, ran_without_files,
 };
 use seq_engine::*;
-use std::alloc::Global;
-use std::process::Abort;
 use std::test::Fail;
 
 /// One note, from one client to another.
@@ -45,13 +42,10 @@ pub const LISTENER: Part = Part {
 /// A run that always answers want of memory fails here.
 #[test]
 fn first_note(rt: HostRuntime) -> Result<(), Fail> {
-    let log = ran(&rt, rt.alloc(), &FIRST_NOTE)?;
-    assert_first_note(&rt, rt.alloc(), &log)
-}
-
-fn assert_first_note(rt: &impl Abort, alloc: Global, log: &RunLog) -> Result<(), Fail> {
-    assert_logs(rt, alloc, log, FIRST_NOTE.parts)?;
-    assert_bytes(rt, log, 129, b"\x90\x3C\x40")?;
+    let alloc = rt.alloc();
+    let log = ran(&rt, alloc, &FIRST_NOTE)?;
+    assert_logs(&rt, alloc, &log, FIRST_NOTE.parts)?;
+    assert_bytes(&rt, &log, 129, b"\x90\x3C\x40")?;
     let listing =
         b"client 128 a in 8 out 8\nport 128:p0 out 33\nclient 129 b in 8 out 8\nport 129:p0 in 66\nedge 128:p0 129:p0\n";
     assert!(rt; log.listing.as_slice() == listing.as_slice());
@@ -85,8 +79,10 @@ const SEND_INSIDE_MESSAGE: Run = Run {
 
 #[test]
 fn send_inside_message(rt: HostRuntime) -> Result<(), Fail> {
-    let bytes = b"\xB0\x07\x7F\x90\x3C\x40";
-    assert_run_and_bytes(&rt, rt.alloc(), &SEND_INSIDE_MESSAGE, bytes)
+    let alloc = rt.alloc();
+    let log = ran(&rt, alloc, &SEND_INSIDE_MESSAGE)?;
+    assert_logs(&rt, alloc, &log, SEND_INSIDE_MESSAGE.parts)?;
+    assert_bytes(&rt, &log, 129, b"\xB0\x07\x7F\x90\x3C\x40")
 }
 
 /// Client 129 has room for two messages, and takes one out between the third and the fourth. What finds no room is lost
@@ -323,36 +319,22 @@ const EIGHT_HOPS_LISTENER: Part = Part {
         9 port 0 99 3C 40\n9 port 0 E9 00 40\n9 port 0 F8\n9 port 0 F6\n",
 };
 
-fn add_eight_hops(lines: &mut Lines) -> Result<(), Fail> {
-    lines.by(128);
-    lines.say_all(EIGHT_HOPS_SENDER)?;
-    add_eight_filters(lines)?;
-    lines.say_all(SENDS_TO_EIGHT_HOPS)?;
-    lines.add(&EIGHT_HOPS_LISTENER)
-}
-
-/// What client 128 hears.
-fn eight_hops_sent(alloc: Global) -> Result<String, Fail> {
-    let mut sent = all_done(alloc, 0, 1..=20)?;
-    sent.push_str(
-        "5 line 21 ok 1\n6 line 22 ok 1\n7 line 23 refused 5 BadRule\n\
-        8 line 24 ok\n8 line 25 ok\n9 line 26 ok 5\n",
-    )?;
-    Ok(sent)
-}
-
-fn assert_eight_hops(rt: &impl Abort, alloc: Global, log: &RunLog) -> Result<(), Fail> {
-    assert_log(rt, alloc, log, 129, EIGHT_HOPS_LISTENER.log)?;
-    let sent = eight_hops_sent(alloc)?;
-    assert_log(rt, alloc, log, 128, sent.as_str())
-}
-
 /// Eight edges carry a message and nine don't. A filter that gives a channel tests the old one.
 #[test]
 fn eight_hops_and_channel(rt: HostRuntime) -> Result<(), Fail> {
     let alloc = rt.alloc();
     let mut lines = Lines::new(alloc);
-    add_eight_hops(&mut lines)?;
+    lines.by(128);
+    lines.say_all(EIGHT_HOPS_SENDER)?;
+    add_eight_filters(&mut lines)?;
+    lines.say_all(SENDS_TO_EIGHT_HOPS)?;
+    lines.add(&EIGHT_HOPS_LISTENER)?;
     let log = ran_without_files(&rt, alloc, &lines, 10)?;
-    assert_eight_hops(&rt, alloc, &log)
+    let mut sent = all_done(alloc, 0, 1..=20)?;
+    sent.push_str(
+        "5 line 21 ok 1\n6 line 22 ok 1\n7 line 23 refused 5 BadRule\n\
+        8 line 24 ok\n8 line 25 ok\n9 line 26 ok 5\n",
+    )?;
+    assert_log(&rt, alloc, &log, 128, sent.as_str())?;
+    assert_log(&rt, alloc, &log, 129, EIGHT_HOPS_LISTENER.log)
 }

@@ -15,24 +15,15 @@ fn assert_next(rt: &impl Abort, events: &mut Events<'_>, first: u8, last: u8) ->
     Ok(())
 }
 
-/// No event is left.
-fn assert_end(rt: &impl Abort, events: &mut Events<'_>) -> Result<(), Fail> {
-    assert!(rt; events.first_due().is_none());
-    assert!(rt; events.next()?.is_none());
-    Ok(())
-}
-
 #[test]
 fn a_scheduled_message_goes_once(rt: HostRuntime) -> Result<(), Fail> {
     let note = Message::channel(Kind::NoteOn, 0, 60, 64).ok_or("a message")?;
     let mut events = Events::scheduled(Due::Nanos(7), note);
-    assert_once(&rt, &mut events)
-}
-
-fn assert_once(rt: &impl Abort, events: &mut Events<'_>) -> Result<(), Fail> {
     assert!(rt; events.first_due() == Some(Due::Nanos(7)));
-    assert_next(rt, events, 60, 64)?;
-    assert_end(rt, events)
+    assert_next(&rt, &mut events, 60, 64)?;
+    assert!(rt; events.first_due().is_none());
+    assert!(rt; events.next()?.is_none());
+    Ok(())
 }
 
 /// A format 0 file with a division of 480: 500,000 microseconds a quarter note, a note on at tick 0 and its end, by
@@ -44,13 +35,11 @@ const NOTE_FILE: &[u8] =
 fn a_file_plays_by_tick(rt: HostRuntime) -> Result<(), Fail> {
     let file = SmfFile::read(rt.alloc(), NOTE_FILE)?;
     let mut events = Events::played(file.cursor()?);
-    assert_two(&rt, &mut events)
-}
-
-fn assert_two(rt: &impl Abort, events: &mut Events<'_>) -> Result<(), Fail> {
     assert!(rt; events.first_due() == Some(Due::Tick(0)));
-    assert_next(rt, events, 60, 64)?;
+    assert_next(&rt, &mut events, 60, 64)?;
     assert!(rt; events.first_due() == Some(Due::Tick(480)));
-    assert_next(rt, events, 60, 0)?;
-    assert_end(rt, events)
+    assert_next(&rt, &mut events, 60, 0)?;
+    assert!(rt; events.first_due().is_none());
+    assert!(rt; events.next()?.is_none());
+    Ok(())
 }
