@@ -31,8 +31,8 @@ returns-clause-bytes g c = λ t.
 
 pub returns-clause-rest : goal.returns-clause-rest
 returns-clause-rest g c = λ t. elim c.loop-chunk-test.branch [
-      | else-loop-chunk-test w ↦ ap g.R.Source.left w.input-is ∙ (front _ _ _ c.args.most (c.loop-chunk.invariant.split t) c.loop-chunk.invariant.within (inl (omega arith))).1
-      | then-loop-chunk-test+in_ok-n+then-n-eq0 w ↦ ap g.R.Source.left w.input-is ∙ sym (gave_none _ _ _ _ (w.in_ok-n.ensures.given (c.loop-chunk.invariant.telling ∙ t)) w.if-n-eq0.true)
-        ∙ (front _ _ _ c.args.most (c.loop-chunk.invariant.split t) c.loop-chunk.invariant.within
-        (inr (none_left _ _ _ (w.in_ok-n.ensures.some (c.loop-chunk.invariant.telling ∙ t)) (omega (arith, length-take w.min-window.result c.loop-chunk.chunk)) w.if-n-eq0.true))).1
-    ]
+  | else-loop-chunk-test w ↦ ap g.R.Source.left w.input-is ∙ (front _ _ _ c.args.most (c.loop-chunk.invariant.split t) c.loop-chunk.invariant.within (inl (omega arith))).1
+  | then-loop-chunk-test+in_ok-n+then-n-eq0 w ↦ ap g.R.Source.left w.input-is ∙ sym (gave_none _ _ _ _ (w.in_ok-n.ensures.given (c.loop-chunk.invariant.telling ∙ t)) w.if-n-eq0.true)
+      ∙ (front _ _ _ c.args.most (c.loop-chunk.invariant.split t) c.loop-chunk.invariant.within
+      (inr (none_left _ _ _ (w.in_ok-n.ensures.some (c.loop-chunk.invariant.telling ∙ t)) (omega (arith, length-take w.min-window.result c.loop-chunk.chunk)) w.if-n-eq0.true))).1
+]
