@@ -1,9 +1,9 @@
 -- Exclusive messages, read as a whole.
-use Rattle.std.proofs.Common.{◌≡◌, ℕ, ◌+◌, ◌≤◌, ◌<◌, suc, List, [], ◌∷◌, ◌++◌, length, take, drop, get_or, refl, sym, ap, subst, ◌∙◌, arith, append-nil, append_assoc, length-drop}
-use Rattle.std.specs.Prelude.{IsTrue, if◌then◌else◌}
+use Rattle.std.proofs.Common.{◌≡◌, ℕ, ◌+◌, ◌≤◌, ◌<◌, zero, suc, List, [], ◌∷◌, ◌++◌, length, take, drop, get_or, refl, sym, ap, subst, ◌∙◌, arith, append-nil, append_assoc, length-drop}
+use Rattle.std.specs.Prelude.{IsTrue, if◌then◌else◌, cond, not, false}
 use Rattle.std.specs.List.{position_or_len}
 use Rattle.std.proofs.Math.Seq.{take-suc, take-add}
-use Rattle.std.proofs.lemmas.Bool.{le-leb, lt-ltb, ltb-true}
+use Rattle.std.proofs.lemmas.Bool.{le-leb, lt-leb, lt-ltb, ltb-true}
 use Rattle.std.proofs.lemmas.List.{drop-drop, length-take-le, take-append-drop}
 use Rattle.midi_wire.specs.Messages.{Exclusive, all_data, is_message, is_status, exclusive_message}
 use Rattle.midi_wire.specs.Parsing.{data_in, message_in, GainsPrefix, IsExclusiveFront}
@@ -88,6 +88,39 @@ front-of (a ∷ s) d n o e f p w g =
       low-data (take n s) low,
       omega arith,
     )
+
+-- what tells that one stands there
+pub record AtFront (d : List ℕ) (n : ℕ) : Type 0 where
+  pub first : n ≡ position_or_len is_status d
+  pub within : n < length d
+  pub last : get_or d n 0 ≡ 247
+
+one-more : (n : ℕ) → 1 + n ≡ suc n
+one-more n = omega arith
+
+status-at : (d : List ℕ) (n : ℕ) → IsTrue (all_data (take n d)) → take (suc n) d ≡ take n d ++ 247 ∷ [] → AtFront d n
+status-at [] zero p e = cc
+status-at [] (suc n) p e = cc
+status-at (b ∷ d) zero p e =
+    let end : b ≡ 247 = ap (λ xs. get_or xs 0 0) e in
+    record { first = subst (λ x. 0 ≡ position_or_len is_status (x ∷ d)) (sym end) refl; within = omega arith; last = end }
+status-at (b ∷ d) (suc n) p e =
+    let low = and_true _ (all_data (take n d)) p in
+    let below : is_status b ≡ false = lt-leb 128 b (ltb-true b 128 low.0) in
+    let further : AtFront d n = status-at d n low.1 (ap (λ xs. drop 1 xs) e) in
+    record {
+      first = sym (ap (λ t. cond (not t) (1 + position_or_len is_status d) 0) below ∙ ap (λ k. 1 + k) (sym further.first) ∙ one-more n);
+      within = omega (arith, further.within);
+      last = further.last;
+    }
+
+-- so it ends at the first status
+pub front-end : (s d : List ℕ) (m n : ℕ) → d ≡ drop 1 s → m ≡ position_or_len is_status d → IsExclusiveFront s n → AtFront d m
+front-end [] d m n e q f = absurd (omega (arith, f.2))
+front-end (a ∷ s) d m n e q f =
+    let whole : take (suc (suc n)) (a ∷ s) ≡ 240 ∷ take n s ++ 247 ∷ [] = ap (λ k. take k (a ∷ s)) (sym (two-more n)) ∙ f.0 in
+    let at : AtFront d n = subst (λ xs. AtFront xs n) (sym e) (status-at s n f.1 (ap (λ xs. drop 1 xs) whole)) in
+    subst (λ k. AtFront d k) (at.first ∙ sym q) at
 
 -- where it stands further on, among bytes that are the same
 pub record SharedFront (s items : List ℕ) (at n : ℕ) : Type 0 where

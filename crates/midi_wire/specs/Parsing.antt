@@ -49,6 +49,10 @@ IsExclusiveFront bytes count =
     (take (count + 2) bytes ≡ message_in 1 count bytes)
     × IsTrue (all_data (data_in 1 count bytes)) × (count + 2 ≤ length bytes)
 
+-- none does, of whatever length
+abbrev pub NoExclusiveFront : List ℕ → Type 0
+NoExclusiveFront bytes = (count : ℕ) → IsExclusiveFront bytes count → ⊥
+
 -- what of the last block still matters, as a parser holds it
 abbrev pub pending_bytes : LastBlock → List ℕ → List ℕ
 pending_bytes Idle payload = []

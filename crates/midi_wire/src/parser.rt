@@ -1,12 +1,12 @@
 //! A stream of bytes, read in any pieces.
 
-ghost use Rattle.std.specs.Prelude.{◌≡◌, ◌≤◌, ◌<◌, ℕ, [], ◌∷◌, ◌++◌, length, take, nat_le, if◌then◌else◌, Bool, true, false, IsTrue, IfSome, ◌+◌, ◌↔◌, IfOk, OnOk, OnErr, IsErrOf};
+ghost use Rattle.std.specs.Prelude.{◌≡◌, ◌≤◌, ◌<◌, ℕ, [], ◌∷◌, ◌++◌, length, take, nat_le, if◌then◌else◌, Bool, true, false, IsTrue, IfSome, IfNone, ◌+◌, ◌↔◌, IfOk, OnOk, OnErr, IsErrOf};
 ghost use Rattle.std.specs.List.{position_or_len};
 ghost use Rattle.std.specs.Rc.{rc_value};
 ghost use Rattle.midi_wire.specs.declared.message.TheConstants.{SHARED};
 ghost use Rattle.midi_wire.specs.Messages.{all_data, begins, exclusive_message, is_message, is_status, most_data};
 ghost use Rattle.midi_wire.specs.Readings.{reading, rest};
-ghost use Rattle.midi_wire.specs.Parsing.{next_group, data_in, message_in, GainsPrefix, IsExclusiveFront};
+ghost use Rattle.midi_wire.specs.Parsing.{next_group, data_in, message_in, GainsPrefix, IsExclusiveFront, NoExclusiveFront};
 
 use crate::fault::WireFault;
 use crate::message::{Message, SHARED};
@@ -78,7 +78,8 @@ fn data_len(bytes: &[u8]) -> usize
 /// How many data bytes an exclusive message has that stands first, from its status to F7.
 #[inline(always)]
 fn exclusive_count(bytes: &[u8]) -> Option<usize>
-    ensures { IfSome result (λ count. IsExclusiveFront bytes.now count) }
+    ensures some { IfSome result (λ count. IsExclusiveFront bytes.now count) }
+    ensures none { IfNone result (NoExclusiveFront bytes.now) }
 {
     if let [status, data @ ..] = bytes
         && *status == EXCLUSIVE
