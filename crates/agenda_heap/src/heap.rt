@@ -173,15 +173,16 @@ fn store(
     ensures items { OnErr result (heap_items heap.new ≡ heap_items heap.old) }
     ensures err { OnErr result (table.new ≡ table.old) }
 {
-    // Both have room first, so that the entry finds its place once the cell has its key.
-    ascending.reserve(1)?;
-    heap.reserve(1)?;
-    table.put(cell, key)?;
+    // There is room first, so that the entry finds its place once the cell has its key.
     let entry = Entry { key, cell };
     if comes_last(ascending, &entry) {
+        ascending.reserve(1)?;
+        table.put(cell, key)?;
         ascending.push_back_reserved(Reverse(entry));
         return Ok(());
     }
+    heap.reserve(1)?;
+    table.put(cell, key)?;
     match heap.push(Reverse(entry)) {
         Ok(()) => Ok(()),
         Err(_) => unreachable!(),
@@ -287,7 +288,7 @@ fn first_of(
 }
 
 /// Clears the stale entries where they are too many.
-#[inline]
+#[inline(always)]
 fn trim(
     alloc: Global,
     ascending: &mut VecDeque<Reverse<Entry>>,
@@ -308,6 +309,9 @@ fn trim(
 }
 
 /// Clears the stale entries. It takes no memory: the heap goes through a vector in place.
+// Not inline, so that a call that clears nothing costs little.
+#[cold]
+#[inline(never)]
 fn clear(
     alloc: Global,
     ascending: &mut VecDeque<Reverse<Entry>>,

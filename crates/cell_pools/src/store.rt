@@ -129,6 +129,7 @@ impl<T> CellStore<T> {
 
     /// Adds a cell of a client, as `put` does, for a caller that has made its test. `Err` leaves all
     /// as it was and gives the value back.
+    #[inline(always)]
     pub fn add(&mut self, client: ClientId, value: T) -> Result<CellKey, AllocFailed<T>>
         requires room { used_by self.old.cells client < size_of self.old client }
         ensures ok { IfOk result (λ key. self.new ≡ with_cell self.old client key value) }

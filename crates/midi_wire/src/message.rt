@@ -308,6 +308,15 @@ impl Message {
         }
     }
 
+    /// It has the form of a message ("Messages"). It does nothing.
+    #[inline]
+    pub fn is_message(&self)
+        ensures { IsMessage self.now }
+    {
+        // The invariant is known only once a field is read.
+        let _form = &self.form;
+    }
+
     /// The status, the first byte.
     #[inline]
     pub fn status(&self) -> u8

@@ -13,6 +13,8 @@ use seq_state::{Command, Delivery, Reply};
 
 impl Sequencer<'_, '_> {
     /// Carries out a command that is accepted. `rank` is its number among all inputs, and `steps` counts it already.
+    // Inline, since its answer would go through memory twice.
+    #[inline(always)]
     pub(crate) fn carry_out<A: Agenda>(
         &mut self,
         agenda: &mut A,

@@ -85,6 +85,8 @@ impl<'f, 'b> Sequencer<'f, 'b> {
 
     /// Sends a message from a port when a queue comes to its time. `rank` is the number of the command among all
     /// inputs.
+    // Not inline: the most frequent command has its own frame.
+    #[inline(never)]
     pub(crate) fn schedule<A: Agenda>(
         &mut self,
         agenda: &mut A,
@@ -136,6 +138,7 @@ impl<'f, 'b> Sequencer<'f, 'b> {
     }
 
     /// Adds what the actor has to send from a port by a queue.
+    #[inline(always)]
     fn add_events<A: Agenda>(
         &mut self,
         agenda: &mut A,

@@ -48,6 +48,7 @@ impl Sequencer<'_, '_> {
         ensures sent { let step = step_in self.old turn (Command.Send port message.now) in
             OnOk result (out.new.items ≡ out.old.items ++ step.delivered) }
     {
+        let message = message.duplicate()?;
         self.patchbay
             .send(turn.moment, turn.actor, port, message, out)
     }

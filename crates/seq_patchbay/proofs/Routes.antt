@@ -10,7 +10,7 @@ use Rattle.node_table.specs.declared.number.Node.{Node}
 use Rattle.node_table.specs.declared.number.Node.TheVariants.{Port, Filter}
 use Rattle.node_table.specs.Addresses.{is_filter, is_filter_node}
 use Rattle.patch_graph.specs.declared.edge.Edge.{Edge}
-use Rattle.patch_graph.specs.Cursor.{tails}
+use Rattle.patch_graph.specs.Cursor.{at_port, tails}
 use Rattle.patch_graph.specs.Index.{targets_of}
 use Rattle.patch_graph.specs.Paths.{hops, paths, end_of, nodes_of, routes}
 use Rattle.patch_graph.proofs.Walked.{routes-tails}
@@ -20,7 +20,10 @@ use Rattle.seq_state.specs.Copies.{filter_at, passed_by, carried, copy, copies}
 use Rattle.seq_settle.specs.Sends.{copies_of}
 use Rattle.seq_state.specs.Step.{port_addr}
 use Rattle.seq_patchbay.specs.Carrying.{of_some, copies_by, spread, copies_of_all}
-use Rattle.seq_patchbay.specs.Ways.{spread_all}
+use Rattle.seq_patchbay.specs.Ways.{spread_all, AreWays}
+use Rattle.seq_patchbay.specs.declared.ways.Way.TheVariants.{Straight}
+use Rattle.midi_wire.specs.Messages.{IsMessage}
+use Rattle.node_table.specs.declared.number.PortAddr.{PortAddr}
 use Rattle.seq_patchbay.proofs.Onward.{flat_map-same, to-nobody}
 
 -- ---- along a path
@@ -146,6 +149,15 @@ pub all-copies : (clients : FinMap nat_cmp Client) (edges : List Edge) (moment c
 unfolding hops
 all-copies clients edges moment client port messages =
     flat_map-same _ _ (λ m. spread-copies clients edges moment client port (targets_of edges (port_addr client port)) m m refl refl) messages
+
+-- where the only way leads straight to a port, a message comes to that
+pub straight-copies : (clients : FinMap nat_cmp Client) (edges : List Edge) (moment client port : ℕ) (end : PortAddr) (message : List ℕ) →
+    IsMessage message → AreWays clients edges (targets_of edges (port_addr client port)) (Straight end ∷ []) →
+    option_to_list (copy moment (at_port end) (Some message)) ≡ copies_of clients edges moment client port message
+unfolding hops
+straight-copies clients edges moment client port end message formed are =
+    sym (append-nil (option_to_list (copy moment (at_port end) (Some message)))) ∙ are moment message formed
+    ∙ spread-copies clients edges moment client port (targets_of edges (port_addr client port)) message message refl refl
 
 -- nothing comes of no messages
 pub none-come : (clients : FinMap nat_cmp Client) (edges : List Edge) (moment client port : ℕ) (messages : List (List ℕ)) → length messages ≡ 0 →

@@ -10,7 +10,7 @@ ghost use Rattle.seq_clients.specs.Roster.{nobody, with_client, with_pool};
 ghost use Rattle.seq_patchbay.specs.Carrying.{copies_of_all};
 ghost use Rattle.seq_patchbay.specs.Lends.{LendsClients, LendsGraph};
 
-use crate::sending::send_each;
+use crate::sending::{deliver, send_each};
 use crate::ways::{WayTable, ways_to};
 use memory::OutOfMemory;
 use midi_wire::Message;
@@ -187,19 +187,30 @@ impl Desk for Patchbay {
 
     ghost edges = { λ p. p.graph };
 
+    #[inline(always)]
     fn moment_of(&self, queue: &QueueAddr, accepted: u64, due: Due) -> Option<u64> {
         let queue = self.clients.queue(queue)?;
         queue.clock().due_moment(due, accepted)
     }
 
+    #[inline(always)]
     fn send(
         &mut self,
         moment: u64,
         client: ClientId,
         port: PortNo,
-        message: &Message,
+        message: Message,
         out: &mut Vec<Delivery>,
     ) -> Result<(), OutOfMemory> {
-        self.send_all(moment, client, port, slice::from_ref(message), out)
+        let source = Addr {
+            client,
+            node: Node::Port(port),
+        };
+        // Most messages go straight to one port.
+        if let Some(end) = self.ways.straight(&source) {
+            message.is_message();
+            return deliver(&mut self.clients, moment, end, message, out);
+        }
+        self.send_all(moment, client, port, slice::from_ref(&message), out)
     }
 }

@@ -1,6 +1,6 @@
 //! What goes along the subscriptions.
 
-ghost use Rattle.std.specs.Prelude.{◌≡◌, [], ◌∷◌, ◌++◌, List, Some, OnOk};
+ghost use Rattle.std.specs.Prelude.{◌≡◌, ◌<◌, [], ◌∷◌, ◌++◌, List, vec_len, vec_capacity, Some, OnOk};
 ghost use Rattle.std.specs.Option.{option_to_list};
 ghost use Rattle.node_table.specs.declared.number.Addr.{Addr};
 ghost use Rattle.patch_graph.specs.Cursor.{at_port};
@@ -12,7 +12,7 @@ ghost use Rattle.seq_patchbay.specs.Carrying.{copies_to, spread};
 ghost use Rattle.seq_patchbay.specs.Ways.{copies_on, copies_along, spread_all, AreWays};
 
 use crate::carried::Carried;
-use crate::ways::Way;
+use crate::ways::{Way, straight_end};
 use memory::OutOfMemory;
 use midi_wire::Message;
 use node_table::{Addr, Node, PortAddr};
@@ -40,8 +40,8 @@ pub(crate) fn send_each(
         let ds = spread_all c.clients graph.now moment targets messages.now in
         OnOk result (out.new.items ≡ out.old.items ++ delivered c.pools ds) }
 {
-    if let [Way::Straight(end)] = ways {
-        return send_straight(clients, moment, *end, messages, out);
+    if let Some(end) = straight_end(ways) {
+        return send_straight(clients, moment, end, messages, out);
     }
     for message in messages {
         send_message(clients, graph, moment, ways, message, out)?;
@@ -243,7 +243,7 @@ fn send_to<'g, M: Carried + Drop>(
 /// Offers a copy to the pool of the client that it is for.
 // Inline, since a call would save and load as much as it does.
 #[inline(always)]
-fn deliver<M: Carried + Drop>(
+pub(crate) fn deliver<M: Carried + Drop>(
     clients: &mut Clients,
     moment: u64,
     target: PortAddr,
@@ -257,6 +257,7 @@ fn deliver<M: Carried + Drop>(
         OnOk result (out.new.items
         ≡ out.old.items ++ delivered clients.old.pools (option_to_list c)) }
 {
+    make_room(out)?;
     let PortAddr { client, port } = target;
     let arrival = Arrival {
         moment,
@@ -264,11 +265,25 @@ fn deliver<M: Carried + Drop>(
         message: message.once_more()?.into_message(),
     };
     if clients.offer(client, arrival) {
-        out.push(Delivery {
+        out.push_reserved(Delivery {
             moment,
-            target: PortAddr { client, port },
+            target,
             message: message.into_message(),
-        })?;
+        });
+    }
+    Ok(())
+}
+
+/// Makes room for one delivery more: for that alone where it is the first, since most commands bring no other.
+#[inline(always)]
+fn make_room(out: &mut Vec<Delivery>) -> Result<(), OutOfMemory>
+    ensures items { out.new.items ≡ out.old.items }
+    ensures room { OnOk result (vec_len out.new < vec_capacity out.new) }
+{
+    if out.is_empty() {
+        out.reserve_exact(1)?;
+    } else {
+        out.reserve(1)?;
     }
     Ok(())
 }

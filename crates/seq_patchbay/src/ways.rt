@@ -1,6 +1,6 @@
 //! The ways from a port. Filters one after another are one rule, so that a message is changed once on a way.
 
-ghost use Rattle.std.specs.Prelude.{◌≡◌, ◌<◌, ℕ, List, [], length, None, IfOk, IfSome, OnOk};
+ghost use Rattle.std.specs.Prelude.{◌≡◌, ◌<◌, ℕ, List, [], ◌∷◌, length, None, IfOk, IfSome, OnOk};
 ghost use Rattle.std.specs.Ordering.{nat_cmp};
 ghost use Rattle.std.specs.FinMap as map;
 ghost use Rattle.std.specs.Option.{option_and_then, option_copied, option_to_list};
@@ -33,6 +33,17 @@ pub(crate) enum Way {
     Parting(Addr),
     /// They come to no port.
     Nowhere,
+}
+
+/// The port that messages go to by these ways, where that is all that they do.
+#[inline(always)]
+pub(crate) fn straight_end(ways: &[Way]) -> Option<PortAddr>
+    ensures { IfSome result (λ end. ways.now ≡ Way.Straight end ∷ []) }
+{
+    if let [Way::Straight(end)] = ways {
+        return Some(*end);
+    }
+    None
 }
 
 /// The rule of two filters, one after the other. A filter that is not there lets all through.
@@ -151,6 +162,16 @@ impl WayTable {
             Some(Some(ways)) => Some(ways.as_slice()),
             _ => None,
         }
+    }
+
+    /// The port that all goes to from a port, straight, if it is known to.
+    #[inline(always)]
+    pub(crate) fn straight(&self, source: &Addr) -> Option<PortAddr>
+        ensures { (clients : map.FinMap nat_cmp Client) (edges : List Edge)
+            → AreWaysKept clients edges self.now → IfSome result
+            (λ end. AreWays clients edges (targets_of edges source.now) (Way.Straight end ∷ [])) }
+    {
+        straight_end(self.get(source)?)
     }
 
     /// Keeps the ways from a port. `Err` leaves all as it was.

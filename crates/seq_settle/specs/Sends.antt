@@ -1,5 +1,5 @@
 -- An event that leaves its cell, and the key of the next.
-use Rattle.std.specs.Prelude.{ℕ, List, [], ◌∷◌, Option, Some, None}
+use Rattle.std.specs.Prelude.{◌≡◌, ℕ, List, [], ◌∷◌, Option, Some, None}
 use Rattle.std.specs.Ordering.{nat_cmp}
 use Rattle.std.specs.FinMap
 use Rattle.std.specs.FinMap.{FinMap}
@@ -7,14 +7,14 @@ use Rattle.tempo_clock.specs.declared.due.Due.{Due}
 use Rattle.patch_graph.specs.declared.edge.Edge.{Edge}
 use Rattle.node_table.specs.declared.number.QueueAddr.{QueueAddr}
 use Rattle.seq_state.specs.declared.log.Delivery.{Delivery}
-use Rattle.seq_state.specs.State.{Client, Event}
+use Rattle.seq_state.specs.State.{Client, Event, put}
 use Rattle.seq_state.specs.Copies.{copies}
 use Rattle.seq_state.specs.Step.{port_addr}
 use Rattle.agenda_heap.specs.declared.due_key.DueKey.{DueKey}
 use Rattle.seq_settle.specs.declared.head.Popped.{Popped}
 use Rattle.seq_settle.specs.declared.head.Head.{Head}
 use Rattle.seq_settle.specs.Moments.{moment_at}
-use Rattle.seq_settle.specs.Cells.{Left, Cell, key_with}
+use Rattle.seq_settle.specs.Cells.{Left, Cell, cell_rest, key_with}
 
 -- a copy for each path that lets the message pass
 abbrev pub copies_of : FinMap nat_cmp Client → List Edge → ℕ → ℕ → ℕ → List ℕ → List Delivery
@@ -49,6 +49,16 @@ popped c e es =
       message = e.message;
       head = record (head_of c) { due = next_due es };
     }
+
+-- what a cell gives whose first event leaves it
+abbrev pub IsFirstOf : FinMap nat_cmp Cell → ℕ → Option Popped → Type 0
+IsFirstOf cells key given =
+    (c : Cell) (e : Event) (es : List Event) → FinMap.get cells key ≡ Some c → c.1.events ≡ e ∷ es → given ≡ Some (popped c e es)
+
+-- the cells when it left; with the last event the cell goes
+abbrev pub IsWithoutFirst : FinMap nat_cmp Cell → ℕ → FinMap nat_cmp Cell → Type 0
+IsWithoutFirst cells key left =
+    (c : Cell) (e : Event) (es : List Event) → FinMap.get cells key ≡ Some c → c.1.events ≡ e ∷ es → left ≡ put cells key (cell_rest c es)
 
 abbrev pub key_of_first : FinMap nat_cmp Client → Head → Option Due → Option DueKey
 key_of_first clients h None = None

@@ -28,6 +28,7 @@ pub struct Accepted<'b> {
 }
 
 /// Adds what the command of this rank has to send, if it has an event.
+#[inline(always)]
 pub fn add_playback<'b, D: Desk, A: Agenda>(
     desk: &D,
     cells: &mut CellStore<Playing<'b>>,

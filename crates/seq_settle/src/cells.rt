@@ -1,12 +1,12 @@
 //! The cells of all playbacks.
 
-ghost use Rattle.std.specs.Prelude.{◌≡◌, ℕ, List, ◌∷◌, None, Some, IsSome, IfOk, OnOk};
+ghost use Rattle.std.specs.Prelude.{◌≡◌, ℕ, List, [], ◌∷◌, None, Some, IsSome, IsTrue, IfOk, OnOk};
 ghost use Rattle.std.specs.FinMap as map;
 ghost use Rattle.std.specs.Option.{option_map};
 ghost use Rattle.cell_pools.specs.Cells.{size_of, IsTaken};
-ghost use Rattle.seq_state.specs.State.{Event, put};
-ghost use Rattle.seq_settle.specs.Cells.{Cell, with_rest, cell_rest};
-ghost use Rattle.seq_settle.specs.Sends.{head_of, popped};
+ghost use Rattle.seq_state.specs.State.{Event};
+ghost use Rattle.seq_settle.specs.Cells.{Cell, with_rest};
+ghost use Rattle.seq_settle.specs.Sends.{head_of, IsFirstOf, IsWithoutFirst};
 
 use crate::head::{Head, Popped};
 use crate::playing::Playing;
@@ -31,12 +31,21 @@ pub(crate) fn pop_first(
     cells: &mut CellStore<Playing<'_>>,
     key: CellKey,
 ) -> Result<Option<Popped>, OutOfMemory>
-    ensures event { IfOk result (λ r. (c : Cell) (e : Event) (es : List Event) →
-        map.get cells.old.cells key ≡ Some c
-        → c.1.events ≡ e ∷ es → r ≡ Some (popped c e es)) }
-    ensures rest { OnOk result ((c : Cell) (e : Event) (es : List Event) →
-        map.get cells.old.cells key ≡ Some c
-        → c.1.events ≡ e ∷ es → cells.new.cells ≡ put cells.old.cells key (cell_rest c es)) }
+    ensures event { IfOk result (λ r. IsFirstOf cells.old.cells key r) }
+    ensures rest { OnOk result (IsWithoutFirst cells.old.cells key cells.new.cells) }
+    ensures sizes { OnOk result ((client : ℕ) →
+        size_of cells.new client ≡ size_of cells.old client) }
+{
+    match pop_scheduled(cells, key)? {
+        Some(popped) => Ok(Some(popped)),
+        None => pop_next(cells, key),
+    }
+}
+
+/// Takes the first event off a cell, as `pop_first` does, whatever the cell has.
+fn pop_next(cells: &mut CellStore<Playing<'_>>, key: CellKey) -> Result<Option<Popped>, OutOfMemory>
+    ensures event { IfOk result (λ r. IsFirstOf cells.old.cells key r) }
+    ensures rest { OnOk result (IsWithoutFirst cells.old.cells key cells.new.cells) }
     ensures sizes { OnOk result ((client : ℕ) →
         size_of cells.new client ≡ size_of cells.old client) }
 {
@@ -48,6 +57,44 @@ pub(crate) fn pop_first(
     };
     drop_spent(cells, key, &head);
     Ok(Some(Popped { message, head }))
+}
+
+/// Takes a cell whose only event is a message that was scheduled, with that.
+#[inline(always)]
+fn pop_scheduled(
+    cells: &mut CellStore<Playing<'_>>,
+    key: CellKey,
+) -> Result<Option<Popped>, OutOfMemory>
+    ensures event { IfOk result (λ r. IsSome r → IsFirstOf cells.old.cells key r) }
+    ensures rest { IfOk result (λ r. IsSome r →
+        IsWithoutFirst cells.old.cells key cells.new.cells) }
+    ensures none { IfOk result (λ r. r ≡ None → cells.new ≡ cells.old) }
+    ensures sizes { OnOk result ((client : ℕ) →
+        size_of cells.new client ≡ size_of cells.old client) }
+{
+    if !is_scheduled_at(cells, key) {
+        return Ok(None);
+    }
+    let Some(client) = cells.client_of(key) else {
+        unreachable!()
+    };
+    let Some(playing) = cells.take(key) else {
+        unreachable!()
+    };
+    Ok(Some(playing.into_popped(client)?))
+}
+
+/// Whether a cell is there whose only event is a message that was scheduled.
+#[inline(always)]
+fn is_scheduled_at(cells: &CellStore<Playing<'_>>, key: CellKey) -> bool
+    ensures there { IsTrue result → IsSome (map.get cells.now.cells key) }
+    ensures alone { IsTrue result → (c : Cell) → map.get cells.now.cells key ≡ Some c →
+        (e : Event) × (c.1.events ≡ e ∷ []) }
+{
+    match cells.get(key) {
+        Some(playing) => playing.is_scheduled(),
+        None => false,
+    }
 }
 
 /// Drops a cell that has no event left.

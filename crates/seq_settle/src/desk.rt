@@ -34,15 +34,15 @@ pub trait Desk {
         moment: u64,
         client: ClientId,
         port: PortNo,
-        message: &Message,
+        message: Message,
         out: &mut Vec<Delivery>,
     ) -> Result<(), OutOfMemory>
         ensures clients { OnOk result (clients self.new ≡ clients self.old) }
         ensures edges { OnOk result (edges self.new ≡ edges self.old) }
         ensures pools { OnOk result (pools self.new
             ≡ offered (pools self.old)
-            (copies_of (clients self.old) (edges self.old) moment client port message.now)) }
+            (copies_of (clients self.old) (edges self.old) moment client port message)) }
         ensures sent { OnOk result (out.new.items ≡ out.old.items
             ++ delivered (pools self.old)
-            (copies_of (clients self.old) (edges self.old) moment client port message.now)) };
+            (copies_of (clients self.old) (edges self.old) moment client port message)) };
 }

@@ -1,6 +1,6 @@
 //! What one command has still to send.
 
-ghost use Rattle.std.specs.Prelude.{◌≡◌, List, [], ◌∷◌, map, Some, IfOk, OnOk};
+ghost use Rattle.std.specs.Prelude.{◌≡◌, List, [], ◌∷◌, map, Some, IsTrue, IfOk, OnOk};
 ghost use Rattle.seq_state.specs.State.{Event};
 ghost use Rattle.seq_settle.specs.Events.{file_event};
 ghost use Rattle.seq_settle.specs.Sends.{next_due};
@@ -87,10 +87,44 @@ impl<'b> Events<'b> {
     {
         match &mut self.source {
             Source::Scheduled { due: _, message } => Ok(message.take()),
-            Source::Played(cursor) => match cursor.next()? {
-                Some(event) => Ok(Some(event.message)),
-                None => Ok(None),
-            },
+            Source::Played(cursor) => next_of(cursor),
         }
+    }
+
+    /// Whether what is left is one message, which was scheduled.
+    #[inline(always)]
+    pub(crate) fn is_scheduled(&self) -> bool
+        ensures { IsTrue result → (e : Event) × (self.now ≡ e ∷ []) }
+    {
+        match &self.source {
+            Source::Scheduled { due: _, message } => message.is_some(),
+            Source::Played(_) => false,
+        }
+    }
+
+    /// The message of the first of them, if there is one.
+    #[inline(always)]
+    pub(crate) fn into_first(self) -> Result<Option<Message>, OutOfMemory>
+        ensures { IfOk result (λ r. (e : Event) (es : List Event) → self.entry ≡ e ∷ es →
+            r ≡ Some e.message) }
+    {
+        let Events { source } = self;
+        match source {
+            Source::Scheduled { due: _, message } => Ok(message),
+            Source::Played(mut cursor) => next_of(&mut cursor),
+        }
+    }
+}
+
+/// Takes the message of the first event that a cursor gives, if there is one. Where memory is refused, all stay.
+fn next_of(cursor: &mut Cursor<'_>) -> Result<Option<Message>, OutOfMemory>
+    ensures first { IfOk result (λ r. (e : Event) (es : List Event) →
+        map file_event cursor.old ≡ e ∷ es → r ≡ Some e.message) }
+    ensures rest { OnOk result ((e : Event) (es : List Event) →
+        map file_event cursor.old ≡ e ∷ es → map file_event cursor.new ≡ es) }
+{
+    match cursor.next()? {
+        Some(event) => Ok(Some(event.message)),
+        None => Ok(None),
     }
 }

@@ -1,12 +1,12 @@
 //! A playback in its cell.
 
-ghost use Rattle.std.specs.Prelude.{◌≡◌, List, ◌∷◌, Some, IfOk, OnOk};
+ghost use Rattle.std.specs.Prelude.{◌≡◌, List, [], ◌∷◌, Some, IsTrue, IfOk, OnOk};
 ghost use Rattle.seq_state.specs.State.{Event};
 ghost use Rattle.seq_settle.specs.Cells.{with_rest};
-ghost use Rattle.seq_settle.specs.Sends.{head_of};
+ghost use Rattle.seq_settle.specs.Sends.{head_of, popped};
 
 use crate::events::Events;
-use crate::head::Head;
+use crate::head::{Head, Popped};
 use memory::OutOfMemory;
 use midi_wire::Message;
 use node_table::{ClientId, PortNo, QueueAddr};
@@ -86,5 +86,41 @@ impl<'b> Playing<'b> {
             self.new ≡ with_rest self.old es) }
     {
         self.events.next()
+    }
+
+    /// Whether what is left is one message, which was scheduled.
+    #[inline(always)]
+    pub(crate) fn is_scheduled(&self) -> bool
+        ensures { IsTrue result → (e : Event) × (self.now.events ≡ e ∷ []) }
+    {
+        self.events.is_scheduled()
+    }
+
+    /// The only event that is left in a cell of this client, and what the cell says of itself without it.
+    #[inline(always)]
+    pub(crate) fn into_popped(self, client: ClientId) -> Result<Popped, OutOfMemory>
+        requires { (e : Event) × (self.events ≡ e ∷ []) }
+        ensures { IfOk result (λ r. (e : Event) → self.entry.events ≡ e ∷ [] →
+            r ≡ popped (client, self.entry) e []) }
+    {
+        let Playing {
+            rank,
+            port,
+            queue,
+            accepted,
+            events,
+        } = self;
+        let Some(message) = events.into_first()? else {
+            unreachable!()
+        };
+        let head = Head {
+            client,
+            port,
+            queue,
+            accepted,
+            rank,
+            due: None,
+        };
+        Ok(Popped { message, head })
     }
 }

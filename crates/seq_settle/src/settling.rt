@@ -77,7 +77,7 @@ fn send_popped<D: Desk>(
         moment h.client h.port popped.message in
         OnOk result (out.new.items ≡ out.old.items ++ delivered (D.pools desk.old) ds) }
 {
-    let head = popped.head;
-    desk.send(moment, head.client, head.port, &popped.message, out)?;
+    let Popped { message, head } = popped;
+    desk.send(moment, head.client, head.port, message, out)?;
     Ok(head)
 }

@@ -113,6 +113,7 @@ impl QueueClock {
 
     /// The first moment, not before the event was accepted nor before the last `start` or `resume`, at which the clock
     /// shows the due time; none where it is held or no u64 moment is late enough.
+    #[inline(always)]
     pub fn due_moment(&self, due: Due, accepted: u64) -> Option<u64>
         ensures { result ≡ moment_of self.now accepted due }
     {

@@ -258,6 +258,8 @@ impl TempoMap {
     }
 
     /// When a tick comes, in nanoseconds.
+    // Not inline, so that a due time in nanoseconds costs little.
+    #[inline(never)]
     pub fn nanos_at(&self, tick: u64) -> u128
         ensures value { result ≡ nanos_at self.now tick }
         ensures small { result ≤ tick * 2 ^ 34 }

@@ -11,8 +11,8 @@ returns-then-data-count-clause-some c =
 pub returns-else-count-data-clause-none : goal.returns-else-count-data-clause-none
 returns-else-count-data-clause-none c =
     λ count front.
-      let end = front-end c.args.bytes.now _ _ count (from_place c.args.bytes.now 1) c.data_len-count.ensures.value front in
-      elim c.else-count-data.branch [
-        else-count-data-via-then-count-data+else-data-count w ↦ w.if-data-count.false end.last
-        | else-count-data-via-else-count-data w ↦ absurd (omega (arith, end.within, w.if-count-data.false))
-      ]
+    let end = front-end c.args.bytes.now _ _ count (from_place c.args.bytes.now 1) c.data_len-count.ensures.value front in
+    elim c.else-count-data.branch [
+      | else-count-data-via-then-count-data+else-data-count w ↦ w.if-data-count.false end.last
+      | else-count-data-via-else-count-data w ↦ absurd (omega (arith, end.within, w.if-count-data.false))
+    ]
