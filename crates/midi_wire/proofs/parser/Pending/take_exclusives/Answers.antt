@@ -42,7 +42,7 @@ loop-next-preserved c =
     record {
       within = there.taken;
       some = inl (omega arith);
-      front = subst (λ (s : List ℕ). IfSome c.exclusive_count-next.result (λ count. IsExclusiveFront s count)) (from_place c.args.bytes.now at) c.exclusive_count-next.ensures;
+      front = subst (λ (s : List ℕ). IfSome c.exclusive_count-next.result (λ count. IsExclusiveFront s count)) (from_place c.args.bytes.now at) c.exclusive_count-next.ensures.some;
       told = gained-more c.take_exclusive.new.out.items c.loop-next.out.items c.args.out.now.items (reading (c.args.self.now ++ take c.loop-next.at c.args.bytes.now)) (reading (c.loop-next.self ++ take (c.in-Some.count + 2) (drop c.loop-next.at c.args.bytes.now))) (reading (c.args.self.now ++ take at c.args.bytes.now))
           (c.in_ok-take_exclusive.ensures.told ∙ ap (λ (m : List ℕ). c.loop-next.out.items ++ reading (c.loop-next.self ++ m)) there.whole)
           c.loop-next.invariant.told
