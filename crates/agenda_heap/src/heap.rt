@@ -301,9 +301,9 @@ fn trim(
     ensures same { table.new ≡ table.old }
     ensures kept { IsStored table.old ascending.new.items (heap_items heap.new) }
 {
-    let live = table.len();
-    let stored = ascending.len() + heap.len();
-    if stored.saturating_sub(live).saturating_sub(live) > SLACK {
+    // A sum that wraps is too small, and entries cleared too early do no harm.
+    let most = table.len().wrapping_mul(2).wrapping_add(SLACK);
+    if ascending.len() + heap.len() > most {
         clear(alloc, ascending, heap, table);
     }
 }

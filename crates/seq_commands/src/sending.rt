@@ -14,6 +14,8 @@ use seq_state::{Delivery, Reply};
 
 impl Sequencer<'_, '_> {
     /// Feeds the stream of a port, and sends what messages are whole now.
+    // Inline, so that no command but this makes room for its answer.
+    #[inline(always)]
     pub(crate) fn bytes(
         &mut self,
         turn: Turn,

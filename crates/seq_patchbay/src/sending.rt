@@ -1,6 +1,6 @@
 //! What goes along the subscriptions.
 
-ghost use Rattle.std.specs.Prelude.{◌≡◌, ◌<◌, [], ◌∷◌, ◌++◌, List, vec_len, vec_capacity, Some, OnOk};
+ghost use Rattle.std.specs.Prelude.{◌≡◌, ◌<◌, ◌≤◌, ◌+◌, [], ◌∷◌, ◌++◌, List, vec_len, vec_capacity, Some, OnOk};
 ghost use Rattle.std.specs.Option.{option_to_list};
 ghost use Rattle.node_table.specs.declared.number.Addr.{Addr};
 ghost use Rattle.patch_graph.specs.Cursor.{at_port};
@@ -70,7 +70,7 @@ fn send_straight(
     // At most one copy of each comes, so that room for them all is made once.
     out.reserve(messages.len())?;
     for message in messages {
-        deliver(clients, moment, end, message.duplicate()?, out)?;
+        deliver_reserved(clients, moment, end, message.duplicate()?, out)?;
     }
     Ok(())
 }
@@ -258,6 +258,28 @@ pub(crate) fn deliver<M: Carried + Drop>(
         ≡ out.old.items ++ delivered clients.old.pools (option_to_list c)) }
 {
     make_room(out)?;
+    deliver_reserved(clients, moment, target, message, out)
+}
+
+/// Offers a copy, as `deliver` does, where there is room for one delivery more.
+#[inline(always)]
+fn deliver_reserved<M: Carried + Drop>(
+    clients: &mut Clients,
+    moment: u64,
+    target: PortAddr,
+    message: M,
+    out: &mut Vec<Delivery>,
+) -> Result<(), OutOfMemory>
+    requires room { vec_len out.old < vec_capacity out.old }
+    ensures clients { clients.new.clients ≡ clients.old.clients }
+    ensures pools { let c = copy moment (at_port target) (Some (M.bytes message)) in
+        OnOk result (clients.new.pools ≡ offered clients.old.pools (option_to_list c)) }
+    ensures sent { let c = copy moment (at_port target) (Some (M.bytes message)) in
+        OnOk result (out.new.items
+        ≡ out.old.items ++ delivered clients.old.pools (option_to_list c)) }
+    ensures one { vec_len out.new ≤ vec_len out.old + 1 }
+    ensures capacity { vec_capacity out.new ≡ vec_capacity out.old }
+{
     let PortAddr { client, port } = target;
     let arrival = Arrival {
         moment,

@@ -1,6 +1,6 @@
 //! The ways from a port. Filters one after another are one rule, so that a message is changed once on a way.
 
-ghost use Rattle.std.specs.Prelude.{◌≡◌, ◌<◌, ℕ, List, [], ◌∷◌, length, None, IfOk, IfSome, OnOk};
+ghost use Rattle.std.specs.Prelude.{◌≡◌, ◌≢◌, ◌<◌, ℕ, List, [], ◌∷◌, length, None, IfOk, IfSome, IfNone, OnOk};
 ghost use Rattle.std.specs.Ordering.{nat_cmp};
 ghost use Rattle.std.specs.FinMap as map;
 ghost use Rattle.std.specs.Option.{option_and_then, option_copied, option_to_list};
@@ -38,7 +38,8 @@ pub(crate) enum Way {
 /// The port that messages go to by these ways, where that is all that they do.
 #[inline(always)]
 pub(crate) fn straight_end(ways: &[Way]) -> Option<PortAddr>
-    ensures { IfSome result (λ end. ways.now ≡ Way.Straight end ∷ []) }
+    ensures some { IfSome result (λ end. ways.now ≡ Way.Straight end ∷ []) }
+    ensures none { IfNone result ((end : PortAddr) → ways.now ≢ Way.Straight end ∷ []) }
 {
     if let [Way::Straight(end)] = ways {
         return Some(*end);
@@ -164,7 +165,7 @@ impl WayTable {
         }
     }
 
-    /// The port that all goes to from a port, straight, if it is known to.
+    /// The one port to which all that a port sends goes unchanged, if that is known.
     #[inline(always)]
     pub(crate) fn straight(&self, source: &Addr) -> Option<PortAddr>
         ensures { (clients : map.FinMap nat_cmp Client) (edges : List Edge)

@@ -13,7 +13,7 @@ use Rattle.agenda_heap.specs.declared.due_key.DueKey.{DueKey}
 use Rattle.seq_settle.specs.declared.head.Popped.{Popped}
 use Rattle.agenda_heap.specs.Due.{IsFirstDue, NoneDue}
 use Rattle.seq_settle.specs.Cells.{Cell, pending_in, playbacks, seen, AreCells, key_of, AreFirstKeys, cell_rest, events_in}
-use Rattle.seq_settle.specs.Sends.{copies_of, popped, key_of_head}
+use Rattle.seq_settle.specs.Sends.{copies_of, popped, key_of_head, IsWithoutFirst}
 use Rattle.seq_settle.proofs.Stores.{put-put}
 use Rattle.seq_settle.proofs.Turn.{key_of-some, settle_turn, settle_end, after_cells, fewer}
 
@@ -160,3 +160,11 @@ none_is_due agenda was k key m first none same =
     let late : m < key.moment = none k key (sym (ap (λ a. FinMap.get a k) (same none)) ∙ first.here) in
     let due : key.moment ≤ m = first.due in
     omega arith
+
+-- a cell that the agenda gave has no key any more
+pub gone-again : (agenda left : FinMap nat_cmp DueKey) (k : ℕ) → left ≡ FinMap.remove agenda k → left ≡ put left k None
+gone-again agenda left k gone = gone ∙ sym (put-put agenda k None None) ∙ ap (λ m. put m k None) (sym gone)
+
+-- the cells without a first event, where they were the same before
+pub from-same : {cells was left : FinMap nat_cmp Cell} (k : ℕ) → cells ≡ was → IsWithoutFirst cells k left → IsWithoutFirst was k left
+from-same {cells} {was} {left} k same without = subst (λ m. IsWithoutFirst m k left) same without

@@ -36,19 +36,6 @@ pub(crate) fn pop_first(
     ensures sizes { OnOk result ((client : ℕ) →
         size_of cells.new client ≡ size_of cells.old client) }
 {
-    match pop_scheduled(cells, key)? {
-        Some(popped) => Ok(Some(popped)),
-        None => pop_next(cells, key),
-    }
-}
-
-/// Takes the first event off a cell, as `pop_first` does, whatever the cell has.
-fn pop_next(cells: &mut CellStore<Playing<'_>>, key: CellKey) -> Result<Option<Popped>, OutOfMemory>
-    ensures event { IfOk result (λ r. IsFirstOf cells.old.cells key r) }
-    ensures rest { OnOk result (IsWithoutFirst cells.old.cells key cells.new.cells) }
-    ensures sizes { OnOk result ((client : ℕ) →
-        size_of cells.new client ≡ size_of cells.old client) }
-{
     let Some(message) = next_of(cells, key)? else {
         return Ok(None);
     };
@@ -61,13 +48,14 @@ fn pop_next(cells: &mut CellStore<Playing<'_>>, key: CellKey) -> Result<Option<P
 
 /// Takes a cell whose only event is a message that was scheduled, with that.
 #[inline(always)]
-fn pop_scheduled(
+pub(crate) fn pop_scheduled(
     cells: &mut CellStore<Playing<'_>>,
     key: CellKey,
 ) -> Result<Option<Popped>, OutOfMemory>
     ensures event { IfOk result (λ r. IsSome r → IsFirstOf cells.old.cells key r) }
     ensures rest { IfOk result (λ r. IsSome r →
         IsWithoutFirst cells.old.cells key cells.new.cells) }
+    ensures last { IfOk result (λ r. (p : Popped) → r ≡ Some p → p.head.due ≡ None) }
     ensures none { IfOk result (λ r. r ≡ None → cells.new ≡ cells.old) }
     ensures sizes { OnOk result ((client : ℕ) →
         size_of cells.new client ≡ size_of cells.old client) }

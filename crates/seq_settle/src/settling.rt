@@ -7,7 +7,7 @@ ghost use Rattle.seq_state.specs.Step.{offered, delivered, settle};
 ghost use Rattle.seq_settle.specs.Cells.{AreCells, AreFirstKeys, seen};
 ghost use Rattle.seq_settle.specs.Sends.{copies_of};
 
-use crate::cells::pop_first;
+use crate::cells::{pop_first, pop_scheduled};
 use crate::desk::Desk;
 use crate::head::{Head, Popped};
 use crate::keys::{add_key, key_of};
@@ -48,6 +48,11 @@ pub fn settle_all<D: Desk, A: Agenda>(
     ensures idle { NoneDue (A.content agenda.old) moment → IsOk result }
 {
     while let Some(due) = agenda.pop_due(moment) {
+        // A message that was scheduled has no event behind it, so that its cell gets no key.
+        if let Some(popped) = pop_scheduled(cells, due.0)? {
+            send_popped(desk, due.1.moment, popped, out)?;
+            continue;
+        }
         let Some(popped) = pop_first(cells, due.0)? else {
             unreachable!()
         };
@@ -59,6 +64,8 @@ pub fn settle_all<D: Desk, A: Agenda>(
 }
 
 /// Sends an event that left its cell, and gives what the cell says of itself without it.
+// Inline, so that what nobody asks for is not kept.
+#[inline(always)]
 fn send_popped<D: Desk>(
     desk: &mut D,
     moment: u64,

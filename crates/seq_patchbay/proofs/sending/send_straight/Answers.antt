@@ -1,4 +1,4 @@
-use Rattle.std.proofs.Common.{◌≡◌, [], ◌∷◌, ◌++◌, List, Some, ap, sym, ◌∙◌, append-nil}
+use Rattle.std.proofs.Common.{◌≡◌, [], ◌∷◌, ◌++◌, List, Some, ap, sym, ◌∙◌, append-nil, arith}
 use Rattle.std.specs.Option.{option_to_list}
 use Rattle.node_table.specs.declared.number.Addr.{Addr}
 use Rattle.patch_graph.specs.Cursor.{at_port}
@@ -19,7 +19,7 @@ loop-message-preserved c =
     let i = l.invariant in
     let m = c.message-item.result in
     let was = a.clients.now in
-    let sent = c.in_ok-deliver.ensures in
+    let sent = c.in_ok-deliver_reserved.ensures in
     let same : (edges : List Edge) (targets : List Addr) → AreWays was.clients edges targets (Straight a.end ∷ []) →
     option_to_list (copy a.moment (at_port a.end) (Some c.in_ok-duplicate.field-0)) ≡ spread was.clients edges a.moment hops targets m =
     λ edges targets are.
@@ -33,4 +33,5 @@ loop-message-preserved c =
       sent = λ edges targets are. delivered-more (spread was.clients edges a.moment hops targets) a.messages.now l.message-index m c.loop-message-test.true c.message-item.is
           was.pools l.clients.pools a.out.now.items l.out.items _ (i.pools edges targets are) (i.sent edges targets are)
           (sent.sent ∙ ap (λ ds. l.out.items ++ delivered l.clients.pools ds) (same edges targets are));
+      room = omega (arith, i.room, sent.one, sent.capacity);
     }

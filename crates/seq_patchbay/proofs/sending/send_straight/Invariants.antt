@@ -1,4 +1,5 @@
-use Rattle.std.proofs.Common.{◌≡◌, [], ◌∷◌, ◌++◌, take, List}
+use Rattle.std.proofs.Common.{◌≡◌, ◌≤◌, ◌+◌, [], ◌∷◌, ◌++◌, length, take, List}
+use Rattle.std.specs.Prelude.{vec_len, vec_capacity}
 use Rattle.node_table.specs.declared.number.Addr.{Addr}
 use Rattle.patch_graph.specs.declared.edge.Edge.{Edge}
 use Rattle.seq_state.specs.Step.{offered, delivered}
@@ -15,4 +16,5 @@ invariant-loop-message l =
           l.clients.pools ≡ offered c.pools (spread_all c.clients edges l.moment targets (take l.message-index l.messages));
       sent : (edges : List Edge) (targets : List Addr) → AreWays c.clients edges targets (Straight l.end ∷ []) →
           l.out.items ≡ l.fn.out.items ++ delivered c.pools (spread_all c.clients edges l.moment targets (take l.message-index l.messages));
+      room : vec_len l.out + length l.messages ≤ vec_capacity l.out + l.message-index;
     }

@@ -1,15 +1,43 @@
-use Rattle.std.proofs.Common.{None, sym, ap, ◌∙◌}
+use Rattle.std.proofs.Common.{◌≡◌, None, sym, ap, ◌∙◌}
+use Rattle.std.specs.Prelude.{IsSome, is_some}
 use Rattle.std.specs.FinMap.{get}
 use Rattle.seq_settle.specs.Cells.{seen}
-use Rattle.seq_settle.specs.Sends.{key_of_head}
+use Rattle.seq_settle.specs.Sends.{key_of_first, key_of_head}
 use Rattle.seq_settle.proofs.Stores.{get-put_here}
-use Rattle.seq_settle.proofs.Loop.{turn_from, turn_fewer, fresh_next, loop_end, has_event, none_is_due}
+use Rattle.seq_settle.proofs.Loop.{turn_from, turn_fewer, fresh_next, loop_end, has_event, none_is_due, gone-again, from-same}
 use Rattle.seq_settle.proofs.settling.settle_all.Goals as goal
+
+-- ---- a message that was scheduled
+
+pub loop-due-smaller-in-Some-2 : goal.loop-due-smaller-in-Some-2
+loop-due-smaller-in-Some-2 g c =
+    let i = c.loop-due.invariant in
+    turn_fewer _ (g.D.Desk.edges c.args.desk.now) c.args.steps c.args.moment (g.D.Desk.pools c.args.desk.now) _ _ _ c.in-Some.due.0 c.in-Some.due.1 i.kept.are i.kept.keys c.in-Some.ensures.due
+    (c.in_ok-popped.ensures.rest (ap is_some c.in-Some-2.is))
+
+pub loop-due-preserved-in-Some-2 : goal.loop-due-preserved-in-Some-2
+loop-due-preserved-in-Some-2 g c =
+    let i = c.loop-due.invariant in
+    let r = c.in-Some-2.popped in
+    let here : IsSome c.in_ok-popped.field-0 = ap is_some c.in-Some-2.is in
+    let last : r.head.due ≡ None = c.in_ok-popped.ensures.last r c.in-Some-2.is in
+    record {
+      clients = c.in_ok-send_popped.ensures.clients ∙ i.clients;
+      edges = c.in_ok-send_popped.ensures.edges ∙ i.edges;
+      kept = turn_from _ _ _ _ _ _ _ _ _ _ _ _ _ _ _ c.in-Some.due.0 c.in-Some.due.1 r None i.kept c.in-Some.ensures.due (λ x e es h f. sym c.in-Some-2.is ∙ c.in_ok-popped.ensures.event here x e es h f) (c.in_ok-popped.ensures.rest here)
+          _ _ _ i.clients i.edges c.in_ok-send_popped.ensures.clients c.in_ok-send_popped.ensures.pools c.in_ok-send_popped.ensures.sent
+          (sym (ap (key_of_first (g.D.Desk.clients c.send_popped.new.desk) r.head) last)) c.in-Some.ensures.popped (gone-again (g.A.Agenda.content c.loop-due.agenda) _ c.in-Some.due.0 c.in-Some.ensures.popped);
+      sizes = λ client. c.in_ok-popped.ensures.sizes client ∙ i.sizes client;
+      idle = λ none. absurd (none_is_due _ _ c.in-Some.due.0 c.in-Some.due.1 c.args.moment c.in-Some.ensures.due none i.idle);
+    }
+
+-- ---- the first of several
 
 pub unreachable-requires : goal.unreachable-requires
 unreachable-requires g c =
     let i = c.loop-due.invariant in
-    has_event _ _ _ _ _ c.in-Some.due.0 c.in-Some.due.1 c.in_ok-popped.field-0 i.kept.are i.kept.keys c.in-Some.ensures.due c.in_ok-popped.ensures.event c.in_default-2.is
+    has_event _ _ _ _ _ c.in-Some.due.0 c.in-Some.due.1 c.in_ok-popped-2.field-0 i.kept.are i.kept.keys c.in-Some.ensures.due
+    (λ x e es h f. c.in_ok-popped-2.ensures.event x e es (ap (λ s. get s.cells c.in-Some.due.0) (c.in_ok-popped.ensures.none c.in_default-2.is) ∙ h) f) c.in_default-3.is
 
 pub add_key-requires-clause-absent : goal.add_key-requires-clause-absent
 add_key-requires-clause-absent g c = ap (λ m. get m c.in-Some.due.0) c.in-Some.ensures.popped ∙ get-put_here (g.A.Agenda.content c.loop-due.agenda) c.in-Some.due.0 None
@@ -17,27 +45,29 @@ add_key-requires-clause-absent g c = ap (λ m. get m c.in-Some.due.0) c.in-Some.
 pub add_key-requires-clause-free : goal.add_key-requires-clause-free
 add_key-requires-clause-free g c =
     let i = c.loop-due.invariant in
-    let r = c.in-Some-2.popped in
+    let r = c.in-Some-3.popped in
     fresh_next _ c.args.steps c.args.moment _ _ _ c.in-Some.due.0 c.in-Some.due.1 r c.key_of-key.result i.kept.are i.kept.keys c.in-Some.ensures.due
-    (λ x e es h f. sym c.in-Some-2.is ∙ c.in_ok-popped.ensures.event x e es h f) c.in-Some.ensures.popped
-    (c.key_of-key.ensures ∙ ap (key_of_head (g.D.Desk.clients c.send_popped.new.desk)) c.in_ok-head.ensures.head ∙ ap (λ x. key_of_head x r.head) (c.in_ok-head.ensures.clients ∙ i.clients))
+    (λ x e es h f. sym c.in-Some-3.is ∙ c.in_ok-popped-2.ensures.event x e es (ap (λ s. get s.cells c.in-Some.due.0) (c.in_ok-popped.ensures.none c.in_default-2.is) ∙ h) f) c.in-Some.ensures.popped
+    (c.key_of-key.ensures ∙ ap (key_of_head (g.D.Desk.clients c.send_popped-in-Some.new.desk)) c.in_ok-head.ensures.head ∙ ap (λ x. key_of_head x r.head) (c.in_ok-head.ensures.clients ∙ i.clients))
 
 pub loop-due-smaller : goal.loop-due-smaller
 loop-due-smaller g c =
     let i = c.loop-due.invariant in
-    turn_fewer _ (g.D.Desk.edges c.args.desk.now) c.args.steps c.args.moment (g.D.Desk.pools c.args.desk.now) _ _ _ c.in-Some.due.0 c.in-Some.due.1 i.kept.are i.kept.keys c.in-Some.ensures.due c.in_ok-popped.ensures.rest
+    turn_fewer _ (g.D.Desk.edges c.args.desk.now) c.args.steps c.args.moment (g.D.Desk.pools c.args.desk.now) _ _ _ c.in-Some.due.0 c.in-Some.due.1 i.kept.are i.kept.keys c.in-Some.ensures.due
+    (from-same c.in-Some.due.0 (ap (λ s. s.cells) (c.in_ok-popped.ensures.none c.in_default-2.is)) c.in_ok-popped-2.ensures.rest)
 
 pub loop-due-preserved : goal.loop-due-preserved
 loop-due-preserved g c =
     let i = c.loop-due.invariant in
-    let r = c.in-Some-2.popped in
+    let r = c.in-Some-3.popped in
+    let same = ap (λ s. s.cells) (c.in_ok-popped.ensures.none c.in_default-2.is) in
     record {
       clients = c.in_ok-head.ensures.clients ∙ i.clients;
       edges = c.in_ok-head.ensures.edges ∙ i.edges;
-      kept = turn_from _ _ _ _ _ _ _ _ _ _ _ _ _ _ _ c.in-Some.due.0 c.in-Some.due.1 r c.key_of-key.result i.kept c.in-Some.ensures.due (λ x e es h f. sym c.in-Some-2.is ∙ c.in_ok-popped.ensures.event x e es h f) c.in_ok-popped.ensures.rest
+      kept = turn_from _ _ _ _ _ _ _ _ _ _ _ _ _ _ _ c.in-Some.due.0 c.in-Some.due.1 r c.key_of-key.result i.kept c.in-Some.ensures.due (λ x e es h f. sym c.in-Some-3.is ∙ c.in_ok-popped-2.ensures.event x e es (ap (λ s. get s c.in-Some.due.0) same ∙ h) f) (from-same c.in-Some.due.0 same c.in_ok-popped-2.ensures.rest)
           _ _ _ i.clients i.edges c.in_ok-head.ensures.clients c.in_ok-head.ensures.pools c.in_ok-head.ensures.sent
-          (c.key_of-key.ensures ∙ ap (key_of_head (g.D.Desk.clients c.send_popped.new.desk)) c.in_ok-head.ensures.head) c.in-Some.ensures.popped c.in_ok-add_key.ensures;
-      sizes = λ client. c.in_ok-popped.ensures.sizes client ∙ i.sizes client;
+          (c.key_of-key.ensures ∙ ap (key_of_head (g.D.Desk.clients c.send_popped-in-Some.new.desk)) c.in_ok-head.ensures.head) c.in-Some.ensures.popped c.in_ok-add_key.ensures;
+      sizes = λ client. c.in_ok-popped-2.ensures.sizes client ∙ c.in_ok-popped.ensures.sizes client ∙ i.sizes client;
       idle = λ none. absurd (none_is_due _ _ c.in-Some.due.0 c.in-Some.due.1 c.args.moment c.in-Some.ensures.due none i.idle);
     }
 

@@ -1,6 +1,6 @@
 use Rattle.std.proofs.Common.{sym, ◌∙◌}
 use Rattle.seq_settle.proofs.FirstEvents.{still-there, popped-is, rest-is}
-use Rattle.seq_settle.proofs.cells.pop_next.Goals as goal
+use Rattle.seq_settle.proofs.cells.pop_first.Goals as goal
 
 pub returns-in_default-head_at-clause-event : goal.returns-in_default-head_at-clause-event
 returns-in_default-head_at-clause-event c = λ x e es here events.
