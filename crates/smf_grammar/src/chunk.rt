@@ -1,8 +1,8 @@
 //! The header and the chunks, as they stand in the file.
 
-ghost use Rattle.std.specs.Prelude.{◌≡◌, ◌≤◌, ◌<◌, ◌^◌, ℕ, length, drop, codes, IfOk, OnOk, ◌+◌};
+ghost use Rattle.std.specs.Prelude.{◌≡◌, ◌≤◌, ◌<◌, ◌^◌, ℕ, length, drop, codes, nat_le, true, Err, IfOk, IfErr, OnOk, ◌+◌};
 ghost use Rattle.byteorder.specs.Endian.{big_number};
-ghost use Rattle.smf_grammar.specs.Chunks.{is_frame_division, starts, header_of, is_long_enough, header_at, chunk_at};
+ghost use Rattle.smf_grammar.specs.Chunks.{most_bytes, is_frame_division, starts, header_of, size_at, is_long_enough, header_at, chunk_at};
 ghost use Rattle.smf_grammar.specs.Seen.{Gives, header_seen, chunk_seen};
 
 use crate::fault::{ChunkFault, SmfFault};
@@ -90,12 +90,15 @@ fn is_track(bytes: &[u8]) -> bool
     matches!(bytes, [b'M', b'T', b'r', b'k', ..])
 }
 
-/// The header of a file, and what is left.
+/// How long a header says its content is, where it is one that is whole.
+// Apart, so that few branches are behind each test.
 #[tactic(auto, unfolding(crate::specs::Chunks::header_at))]
-pub fn header_at(bytes: &[u8]) -> Result<(Header, &[u8]), SmfFault>
-    ensures value { Gives (λ x. (header_seen x.0, x.1.now)) result (header_at bytes.now) }
-    ensures small { OnOk result (length bytes.now ≤ 2 ^ 24) }
-    ensures shorter { IfOk result (λ x. length x.1.now ≤ length bytes.now) }
+fn header_size(bytes: &[u8]) -> Result<usize, SmfFault>
+    ensures size { IfOk result (λ size. size ≡ size_at bytes.now) }
+    ensures small { OnOk result (nat_le (length bytes.now) most_bytes ≡ true) }
+    ensures header { OnOk result (starts (codes "MThd") bytes.now ≡ true) }
+    ensures whole { OnOk result (is_long_enough bytes.now ≡ true) }
+    ensures fault { IfErr result (λ fault. header_at bytes.now ≡ Err fault) }
 {
     if bytes.len() > MOST_BYTES {
         return Err(SmfFault::TooLarge);
@@ -107,15 +110,25 @@ pub fn header_at(bytes: &[u8]) -> Result<(Header, &[u8]), SmfFault>
         return Err(SmfFault::ShortHeader);
     }
     let size = BigEndian::read_u32(&bytes[4..]) as usize;
-    let content = &bytes[8..];
-    if size < 6 || size > content.len() {
+    if size < 6 || size > bytes.len() - 8 {
         return Err(SmfFault::ShortHeader);
     }
+    Ok(size)
+}
+
+/// The header of a file, and what is left.
+#[tactic(auto, unfolding(crate::specs::Chunks::header_at))]
+pub fn header_at(bytes: &[u8]) -> Result<(Header, &[u8]), SmfFault>
+    ensures value { Gives (λ x. (header_seen x.0, x.1.now)) result (header_at bytes.now) }
+    ensures small { OnOk result (length bytes.now ≤ 2 ^ 24) }
+    ensures shorter { IfOk result (λ x. length x.1.now ≤ length bytes.now) }
+{
+    let size = header_size(bytes)?;
     let format = BigEndian::read_u16(&bytes[8..]);
     let tracks = BigEndian::read_u16(&bytes[10..]);
     let division = BigEndian::read_u16(&bytes[12..]);
     let header = header_of(format, tracks, division)?;
-    Ok((header, &content[size..]))
+    Ok((header, &bytes[8..][size..]))
 }
 
 /// The chunk that stands first, and what is left.
