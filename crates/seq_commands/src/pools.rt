@@ -12,7 +12,7 @@ use seq_state::{Arrival, Reply};
 
 impl Sequencer<'_, '_> {
     /// Takes the oldest of what waits in the actor's input pool. Memory is for the answer alone.
-    // Inline, so that no command but this makes room for its answer.
+    // Inline, since the place for its answer would else be cleared at the start of each command.
     #[inline(always)]
     pub(crate) fn receive(&mut self, turn: Turn, max: u32) -> Result<Items<Arrival>, OutOfMemory>
         requires accepted { refusal_in self.old turn (Command.Receive max) ≡ None }

@@ -14,7 +14,7 @@ use seq_state::{Delivery, Reply};
 
 impl Sequencer<'_, '_> {
     /// Feeds the stream of a port, and sends what messages are whole now.
-    // Inline, so that no command but this makes room for its answer.
+    // Inline, since the place for its answer would else be cleared at the start of each command.
     #[inline(always)]
     pub(crate) fn bytes(
         &mut self,

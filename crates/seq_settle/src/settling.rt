@@ -64,7 +64,7 @@ pub fn settle_all<D: Desk, A: Agenda>(
 }
 
 /// Sends an event that left its cell, and gives what the cell says of itself without it.
-// Inline, so that what nobody asks for is not kept.
+// Inline, so that the head is not stored where the caller drops it.
 #[inline(always)]
 fn send_popped<D: Desk>(
     desk: &mut D,
