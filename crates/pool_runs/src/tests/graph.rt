@@ -1,394 +1,458 @@
-use super::numbers::{client, filter, port};
+//! Graphs of subscriptions: what they answer to one call after another.
+
+use super::numbers::At::{self, F, P};
+use super::numbers::{addr, client, port};
 use super::texts::assert_text;
-use node_table::Addr;
+use memory::OutOfMemory;
+use node_table::{Addr, PortAddr};
 use patch_graph::{EdgeFault, PatchGraph, Path, Routes};
 use std::process::Abort;
 use std::test::Fail;
 
-/// Joins filter `from` of client 128 to its filter `to`.
-fn join_filters(
-    rt: &impl Abort,
-    graph: &mut PatchGraph,
-    from: u8,
-    to: u8,
-) -> Result<(), EdgeFault> {
-    graph.connect(filter(rt, 128, from), filter(rt, 128, to))
+/// From one node to the other.
+type Edge = (At, At);
+
+/// What a graph answers of two nodes, in order, by yes or no.
+#[derive(Clone, Copy)]
+enum Question {
+    Disconnect,
+    HasEdge,
+    Reaches,
+    MakesCycle,
 }
 
-/// Joins the ports 0 to 15 of a client to port 0 of client 150.
-fn join_ports(rt: &impl Abort, graph: &mut PatchGraph, of: u8) -> Result<(), EdgeFault> {
-    for number in 0..16 {
-        graph.connect(port(rt, of, number), port(rt, 150, 0))?;
-    }
-    Ok(())
+use self::Question::*;
+
+/// A call on a graph, and what comes of it.
+#[derive(Clone, Copy)]
+enum Step {
+    /// These edges are taken, one after another.
+    Joins(&'static [Edge]),
+    /// Edges from the ports 0 to 15 of a client to this node are taken.
+    JoinsPorts(u8, At),
+    Refuses(Edge, EdgeFault),
+    Asks(Question, Edge, bool),
+    RemovesNode(At),
+    RemovesClient(u8),
+    /// So many edges there are.
+    Has(usize),
+    /// These are all edges, oldest first.
+    HasEdges(&'static [Edge]),
+    /// The edge at a place, by age.
+    HasAt(usize, Edge),
+    Sources(At, usize),
+    Targets(At, &'static [At]),
+    /// The ways from a node, each with all nodes behind it.
+    Ways(At, &'static [&'static [At]]),
 }
 
-/// The next way goes through these nodes.
-fn assert_way(rt: &impl Abort, routes: &mut Routes<'_>, nodes: &[Addr]) {
-    let way = routes.next().expect(rt, "one more way");
-    assert!(rt; *way.nodes() == *nodes);
-}
+use self::Step::*;
 
-/// The edge at a place, by age, leads from one node to the other.
-fn assert_edge(rt: &impl Abort, graph: &PatchGraph, place: usize, from: Addr, to: Addr) {
-    assert!(rt; graph.edge(place) == Some((from, to)));
-}
-
-/// A port has so many sources.
-fn assert_sources(rt: &impl Abort, graph: &PatchGraph, of: u8, number: u8, sources: usize) {
-    assert!(rt; graph.sources(&port(rt, of, number)) == sources);
-}
-
-// Each test makes its graph and lends it, so that it is dropped at one place alone: that is proved sooner.
-
-/// A new graph joins nobody.
-fn assert_new(rt: &impl Abort, graph: &mut PatchGraph) {
-    let one = port(rt, 128, 0);
-    assert!(rt; graph.sources(&one) == 0);
-    assert!(rt; graph.targets(&one).is_empty());
-    assert!(rt; graph.routes(&one).next().is_none());
-    assert!(rt; !graph.disconnect(&one, &one));
-    graph.remove_node(&one);
-    graph.remove_client(client(rt, 191));
-    assert!(rt; graph.is_empty());
-}
-
-#[test]
-fn a_new_graph_joins_nobody(rt: HostRuntime) {
-    let mut graph = PatchGraph::new(rt.alloc());
-    assert_new(&rt, &mut graph);
-}
-
-/// Joins 32 ports to port 0 of client 150.
-fn fill_sources(rt: &impl Abort, graph: &mut PatchGraph) -> Result<(), EdgeFault> {
-    join_ports(rt, graph, 128)?;
-    assert_sources(rt, graph, 150, 0, 16);
-    join_ports(rt, graph, 129)
-}
-
-/// After 32 sources comes no other.
-fn assert_33rd_refused(rt: &impl Abort, graph: &mut PatchGraph) -> Result<(), Fail> {
-    fill_sources(rt, graph)?;
-    assert_sources(rt, graph, 150, 0, 32);
-    assert_sources(rt, graph, 128, 0, 0);
-    let refused = graph.connect(port(rt, 130, 0), port(rt, 150, 0));
-    assert!(rt; refused == Err(EdgeFault::SourcesFull));
-    assert!(rt; graph.len() == 32);
-    Ok(())
-}
-
-#[test]
-fn the_33rd_source_is_refused(rt: HostRuntime) -> Result<(), Fail> {
-    let mut graph = PatchGraph::new(rt.alloc());
-    assert_33rd_refused(&rt, &mut graph)
-}
-
-/// Takes the oldest of 32 edges away, and joins its ports again.
-fn join_again(rt: &impl Abort, graph: &mut PatchGraph) -> Result<(), EdgeFault> {
-    let first = port(rt, 128, 0);
-    let target = port(rt, 150, 0);
-    assert!(rt; graph.connect(first, target) == Err(EdgeFault::AlreadyConnected));
-    assert!(rt; graph.disconnect(&first, &target));
-    assert!(rt; !graph.disconnect(&first, &target));
-    assert!(rt; !graph.has_edge(&first, &target));
-    assert_sources(rt, graph, 150, 0, 31);
-    graph.connect(first, target)
-}
-
-/// A source that was joined again is the youngest.
-fn assert_joined_again(rt: &impl Abort, graph: &mut PatchGraph) -> Result<(), Fail> {
-    fill_sources(rt, graph)?;
-    join_again(rt, graph)?;
-    assert_sources(rt, graph, 150, 0, 32);
-    assert_edge(rt, graph, 0, port(rt, 128, 1), port(rt, 150, 0));
-    assert_edge(rt, graph, 31, port(rt, 128, 0), port(rt, 150, 0));
-    assert!(rt; graph.edge(32) == None);
-    Ok(())
-}
-
-#[test]
-fn a_source_comes_back(rt: HostRuntime) -> Result<(), Fail> {
-    let mut graph = PatchGraph::new(rt.alloc());
-    assert_joined_again(&rt, &mut graph)
-}
-
-/// Joins filter 0 to filters 1 and 2, and 1 to 2. No edge back is taken.
-fn join_without_cycles(rt: &impl Abort, graph: &mut PatchGraph) -> Result<(), EdgeFault> {
-    assert!(rt; join_filters(rt, graph, 0, 0) == Err(EdgeFault::Cycle));
-    join_filters(rt, graph, 0, 1)?;
-    assert!(rt; join_filters(rt, graph, 1, 0) == Err(EdgeFault::Cycle));
-    join_filters(rt, graph, 1, 2)?;
-    assert!(rt; join_filters(rt, graph, 2, 0) == Err(EdgeFault::Cycle));
-    join_filters(rt, graph, 0, 2)
-}
-
-/// Of six edges three are taken.
-fn assert_no_cycles(rt: &impl Abort, graph: &mut PatchGraph) -> Result<(), Fail> {
-    join_without_cycles(rt, graph)?;
-    assert!(rt; graph.len() == 3);
-    assert!(rt; graph.reaches(&filter(rt, 128, 0), &filter(rt, 128, 2)));
-    assert!(rt; !graph.reaches(&filter(rt, 128, 2), &filter(rt, 128, 0)));
-    assert!(rt; !graph.reaches(&filter(rt, 128, 0), &filter(rt, 128, 0)));
-    Ok(())
-}
-
-#[test]
-fn filters_in_a_cycle_are_refused(rt: HostRuntime) -> Result<(), Fail> {
-    let mut graph = PatchGraph::new(rt.alloc());
-    assert_no_cycles(&rt, &mut graph)
-}
-
-/// Joins a filter to a port, this to another filter, and that to the first.
-fn join_round_a_port(rt: &impl Abort, graph: &mut PatchGraph) -> Result<(), EdgeFault> {
-    let from = filter(rt, 128, 0);
-    let to = filter(rt, 129, 0);
-    graph.connect(from, port(rt, 128, 0))?;
-    graph.connect(port(rt, 128, 0), to)?;
-    assert!(rt; !graph.reaches(&from, &to));
-    assert!(rt; !graph.makes_cycle(&to, &from));
-    graph.connect(to, from)
-}
-
-/// A chain of filters ends at a port.
-fn assert_chain_ends(rt: &impl Abort, graph: &mut PatchGraph) -> Result<(), Fail> {
-    join_round_a_port(rt, graph)?;
-    assert!(rt; graph.makes_cycle(&filter(rt, 128, 0), &filter(rt, 129, 0)));
-    Ok(())
-}
-
-#[test]
-fn a_port_ends_a_chain_of_filters(rt: HostRuntime) -> Result<(), Fail> {
-    let mut graph = PatchGraph::new(rt.alloc());
-    assert_chain_ends(&rt, &mut graph)
-}
-
-/// Joins two ports both ways, and the first to itself.
-fn both_ways(rt: &impl Abort, graph: &mut PatchGraph) -> Result<(), EdgeFault> {
-    graph.connect(port(rt, 128, 0), port(rt, 129, 0))?;
-    graph.connect(port(rt, 129, 0), port(rt, 128, 0))?;
-    graph.connect(port(rt, 128, 0), port(rt, 128, 0))
-}
-
-/// The ways of a port lead to the other and to itself.
-fn assert_both_ways(rt: &impl Abort, graph: &mut PatchGraph) -> Result<(), Fail> {
-    both_ways(rt, graph)?;
-    assert!(rt; graph.len() == 3);
-    let one = port(rt, 128, 0);
-    let mut routes = graph.routes(&one);
-    assert_way(rt, &mut routes, &[port(rt, 129, 0)]);
-    assert_way(rt, &mut routes, &[port(rt, 128, 0)]);
-    assert!(rt; routes.next().is_none());
-    Ok(())
-}
-
-#[test]
-fn ports_are_joined_both_ways(rt: HostRuntime) -> Result<(), Fail> {
-    let mut graph = PatchGraph::new(rt.alloc());
-    assert_both_ways(&rt, &mut graph)
+/// A graph that is new before the first step.
+struct Case {
+    name: &'static str,
+    steps: &'static [Step],
 }
 
 /// Filters 0 and 1 feed ports 0 and 1; the edges to the ports are older than those to the filters.
-fn crossed(rt: &impl Abort, graph: &mut PatchGraph) -> Result<(), EdgeFault> {
-    graph.connect(filter(rt, 128, 0), port(rt, 129, 1))?;
-    graph.connect(filter(rt, 128, 1), port(rt, 129, 1))?;
-    graph.connect(filter(rt, 128, 1), port(rt, 129, 0))?;
-    graph.connect(filter(rt, 128, 0), port(rt, 129, 0))?;
-    graph.connect(port(rt, 128, 0), filter(rt, 128, 1))?;
-    graph.connect(port(rt, 128, 0), port(rt, 129, 2))?;
-    graph.connect(port(rt, 128, 0), filter(rt, 128, 0))
-}
+const CROSSED: &[Edge] = &[
+    (F(128, 0), P(129, 1)),
+    (F(128, 1), P(129, 1)),
+    (F(128, 1), P(129, 0)),
+    (F(128, 0), P(129, 0)),
+    (P(128, 0), F(128, 1)),
+    (P(128, 0), P(129, 2)),
+    (P(128, 0), F(128, 0)),
+];
 
-/// The ways go by the age of their edges.
-fn assert_ages(rt: &impl Abort, graph: &mut PatchGraph) -> Result<(), Fail> {
-    crossed(rt, graph)?;
-    let source = port(rt, 128, 0);
-    let mut routes = graph.routes(&source);
-    assert_way(rt, &mut routes, &[filter(rt, 128, 1), port(rt, 129, 1)]);
-    assert_way(rt, &mut routes, &[filter(rt, 128, 1), port(rt, 129, 0)]);
-    assert_way(rt, &mut routes, &[port(rt, 129, 2)]);
-    assert_way(rt, &mut routes, &[filter(rt, 128, 0), port(rt, 129, 1)]);
-    assert_way(rt, &mut routes, &[filter(rt, 128, 0), port(rt, 129, 0)]);
-    assert!(rt; routes.next().is_none());
-    Ok(())
-}
+/// Ports of client 130 feed one of client 128 and one of client 131.
+const BESIDE: &[Edge] = &[
+    (P(130, 1), P(131, 0)),
+    (P(130, 0), P(128, 0)),
+    (P(130, 0), P(131, 0)),
+];
 
-#[test]
-fn copies_go_by_the_age_of_their_edges(rt: HostRuntime) -> Result<(), Fail> {
-    let mut graph = PatchGraph::new(rt.alloc());
-    assert_ages(&rt, &mut graph)
-}
+/// Through seven filters.
+const EIGHT_EDGES: &[Edge] = &[
+    (P(128, 0), F(128, 0)),
+    (F(128, 0), F(128, 1)),
+    (F(128, 1), F(128, 2)),
+    (F(128, 2), F(128, 3)),
+    (F(128, 3), F(128, 4)),
+    (F(128, 4), F(128, 5)),
+    (F(128, 5), F(128, 6)),
+    (F(128, 6), P(129, 0)),
+];
 
-/// From port 0 of client 128 through so many filters to port 0 of client 129.
-fn chained(rt: &impl Abort, graph: &mut PatchGraph, filters: u8) -> Result<(), EdgeFault> {
-    graph.connect(port(rt, 128, 0), filter(rt, 128, 0))?;
-    for number in 1..filters {
-        join_filters(rt, graph, number - 1, number)?;
+/// Through eight filters.
+const NINE_EDGES: &[Edge] = &[
+    (P(128, 0), F(128, 0)),
+    (F(128, 0), F(128, 1)),
+    (F(128, 1), F(128, 2)),
+    (F(128, 2), F(128, 3)),
+    (F(128, 3), F(128, 4)),
+    (F(128, 4), F(128, 5)),
+    (F(128, 5), F(128, 6)),
+    (F(128, 6), F(128, 7)),
+    (F(128, 7), P(129, 0)),
+];
+
+const CASES: &[Case] = &[
+    Case {
+        name: "a new graph joins nobody",
+        steps: &[
+            Sources(P(128, 0), 0),
+            Targets(P(128, 0), &[]),
+            Ways(P(128, 0), &[]),
+            Asks(Disconnect, (P(128, 0), P(128, 0)), false),
+            RemovesNode(P(128, 0)),
+            RemovesClient(191),
+            Has(0),
+        ],
+    },
+    Case {
+        name: "the 33rd source is refused",
+        steps: &[
+            JoinsPorts(128, P(150, 0)),
+            Sources(P(150, 0), 16),
+            JoinsPorts(129, P(150, 0)),
+            Sources(P(150, 0), 32),
+            Sources(P(128, 0), 0),
+            Refuses((P(130, 0), P(150, 0)), EdgeFault::SourcesFull),
+            Has(32),
+        ],
+    },
+    Case {
+        name: "a source comes back as the youngest",
+        steps: &[
+            JoinsPorts(128, P(150, 0)),
+            JoinsPorts(129, P(150, 0)),
+            Refuses((P(128, 0), P(150, 0)), EdgeFault::AlreadyConnected),
+            Asks(Disconnect, (P(128, 0), P(150, 0)), true),
+            Asks(Disconnect, (P(128, 0), P(150, 0)), false),
+            Asks(HasEdge, (P(128, 0), P(150, 0)), false),
+            Sources(P(150, 0), 31),
+            Joins(&[(P(128, 0), P(150, 0))]),
+            Sources(P(150, 0), 32),
+            HasAt(0, (P(128, 1), P(150, 0))),
+            HasAt(31, (P(128, 0), P(150, 0))),
+            Has(32),
+        ],
+    },
+    Case {
+        name: "filters in a cycle are refused",
+        steps: &[
+            Refuses((F(128, 0), F(128, 0)), EdgeFault::Cycle),
+            Joins(&[(F(128, 0), F(128, 1))]),
+            Refuses((F(128, 1), F(128, 0)), EdgeFault::Cycle),
+            Joins(&[(F(128, 1), F(128, 2))]),
+            Refuses((F(128, 2), F(128, 0)), EdgeFault::Cycle),
+            Joins(&[(F(128, 0), F(128, 2))]),
+            Has(3),
+            Asks(Reaches, (F(128, 0), F(128, 2)), true),
+            Asks(Reaches, (F(128, 2), F(128, 0)), false),
+            Asks(Reaches, (F(128, 0), F(128, 0)), false),
+        ],
+    },
+    Case {
+        name: "a port ends a chain of filters",
+        steps: &[
+            Joins(&[(F(128, 0), P(128, 0)), (P(128, 0), F(129, 0))]),
+            Asks(Reaches, (F(128, 0), F(129, 0)), false),
+            Asks(MakesCycle, (F(129, 0), F(128, 0)), false),
+            Joins(&[(F(129, 0), F(128, 0))]),
+            Asks(MakesCycle, (F(128, 0), F(129, 0)), true),
+        ],
+    },
+    Case {
+        name: "ports are joined both ways, and to themselves",
+        steps: &[
+            Joins(&[
+                (P(128, 0), P(129, 0)),
+                (P(129, 0), P(128, 0)),
+                (P(128, 0), P(128, 0)),
+            ]),
+            Has(3),
+            Ways(P(128, 0), &[&[P(129, 0)], &[P(128, 0)]]),
+        ],
+    },
+    Case {
+        name: "ways go by the age of their edges",
+        steps: &[
+            Joins(CROSSED),
+            Ways(
+                P(128, 0),
+                &[
+                    &[F(128, 1), P(129, 1)],
+                    &[F(128, 1), P(129, 0)],
+                    &[P(129, 2)],
+                    &[F(128, 0), P(129, 1)],
+                    &[F(128, 0), P(129, 0)],
+                ],
+            ),
+        ],
+    },
+    Case {
+        name: "eight edges are walked",
+        steps: &[
+            Joins(EIGHT_EDGES),
+            Has(8),
+            Ways(
+                P(128, 0),
+                &[&[
+                    F(128, 0),
+                    F(128, 1),
+                    F(128, 2),
+                    F(128, 3),
+                    F(128, 4),
+                    F(128, 5),
+                    F(128, 6),
+                    P(129, 0),
+                ]],
+            ),
+        ],
+    },
+    Case {
+        name: "nine edges are not walked",
+        steps: &[
+            Joins(NINE_EDGES),
+            Has(9),
+            Ways(P(128, 0), &[]),
+            Ways(
+                F(128, 0),
+                &[&[
+                    F(128, 1),
+                    F(128, 2),
+                    F(128, 3),
+                    F(128, 4),
+                    F(128, 5),
+                    F(128, 6),
+                    F(128, 7),
+                    P(129, 0),
+                ]],
+            ),
+        ],
+    },
+    Case {
+        name: "a node goes with its edges",
+        steps: &[
+            Joins(CROSSED),
+            RemovesNode(F(128, 1)),
+            HasEdges(&[
+                (F(128, 0), P(129, 1)),
+                (F(128, 0), P(129, 0)),
+                (P(128, 0), P(129, 2)),
+                (P(128, 0), F(128, 0)),
+            ]),
+            Sources(P(129, 1), 1),
+            Targets(P(128, 0), &[P(129, 2), F(128, 0)]),
+            Targets(F(128, 1), &[]),
+        ],
+    },
+    Case {
+        name: "a client goes with its edges",
+        steps: &[
+            Joins(CROSSED),
+            Joins(BESIDE),
+            RemovesClient(128),
+            HasEdges(&[(P(130, 1), P(131, 0)), (P(130, 0), P(131, 0))]),
+            Targets(P(130, 0), &[P(131, 0)]),
+            Sources(P(129, 0), 0),
+            RemovesClient(131),
+            Has(0),
+        ],
+    },
+];
+
+// Each of these says whether all came as wanted. One assertion for all then names the case and its step.
+
+fn joins(rt: &impl Abort, graph: &mut PatchGraph, edges: &[Edge]) -> bool {
+    for (from, to) in edges {
+        if graph.connect(addr(rt, *from), addr(rt, *to)) != Ok(()) {
+            return false;
+        }
     }
-    graph.connect(filter(rt, 128, filters.saturating_sub(1)), port(rt, 129, 0))
+    true
 }
 
-/// The only path, through seven filters to port 0 of client 129.
-fn assert_path(rt: &impl Abort, paths: &[Path]) {
-    assert!(rt; paths.len() == 1);
-    assert!(rt; paths[0].filters.len() == 7);
-    assert!(rt; paths[0].filters.as_slice()[6] == filter(rt, 128, 6));
-    assert!(rt; paths[0].last.client.number() == 129);
-    assert!(rt; paths[0].last.port.number() == 0);
+fn joins_ports(rt: &impl Abort, graph: &mut PatchGraph, of: u8, to: At) -> bool {
+    for number in 0..16 {
+        if graph.connect(port(rt, of, number), addr(rt, to)) != Ok(()) {
+            return false;
+        }
+    }
+    true
 }
 
-/// A path of eight edges is walked.
-fn assert_walked(rt: &impl Abort, graph: &mut PatchGraph) -> Result<(), Fail> {
-    chained(rt, graph, 7)?;
-    assert!(rt; graph.len() == 8);
-    assert_path(rt, graph.walk(&port(rt, 128, 0))?.as_slice());
+fn has(graph: &PatchGraph, count: usize) -> bool {
+    graph.len() == count && graph.is_empty() == (count == 0) && graph.edge(count) == None
+}
+
+fn has_at(rt: &impl Abort, graph: &PatchGraph, place: usize, edge: Edge) -> bool {
+    graph.edge(place) == Some((addr(rt, edge.0), addr(rt, edge.1)))
+}
+
+fn has_edges(rt: &impl Abort, graph: &PatchGraph, edges: &[Edge]) -> bool {
+    for (place, edge) in edges.iter().enumerate() {
+        if !has_at(rt, graph, place, *edge) {
+            return false;
+        }
+    }
+    has(graph, edges.len())
+}
+
+fn are(rt: &impl Abort, nodes: &[Addr], wanted: &[At]) -> bool {
+    for (node, at) in nodes.iter().zip(wanted) {
+        if *node != addr(rt, *at) {
+            return false;
+        }
+    }
+    nodes.len() == wanted.len()
+}
+
+/// The filters of a way and the port at its end are all its nodes.
+fn is_way(rt: &impl Abort, filters: &[Addr], last: PortAddr, wanted: &[At]) -> bool {
+    match wanted.split_last() {
+        Some((end, front)) => are(rt, filters, front) && Addr::from(last) == addr(rt, *end),
+        None => false,
+    }
+}
+
+fn routes_are(rt: &impl Abort, routes: &mut Routes<'_>, ways: &[&[At]]) -> bool {
+    for wanted in ways {
+        let Some(way) = routes.next() else {
+            return false;
+        };
+        if !are(rt, way.nodes(), wanted) || !is_way(rt, way.filters(), way.last(), wanted) {
+            return false;
+        }
+    }
+    routes.next().is_none()
+}
+
+fn paths_are(rt: &impl Abort, paths: &[Path], ways: &[&[At]]) -> bool {
+    for (path, wanted) in paths.iter().zip(ways) {
+        if !is_way(rt, path.filters.as_slice(), path.last, wanted) {
+            return false;
+        }
+    }
+    paths.len() == ways.len()
+}
+
+/// The ways from a node, one by one and as they are walked.
+fn goes(
+    rt: &impl Abort,
+    graph: &PatchGraph,
+    from: &Addr,
+    ways: &[&[At]],
+) -> Result<bool, OutOfMemory> {
+    let walked = paths_are(rt, graph.walk(from)?.as_slice(), ways);
+    Ok(walked && routes_are(rt, &mut graph.routes(from), ways))
+}
+
+fn answer(graph: &mut PatchGraph, question: Question, from: &Addr, to: &Addr) -> bool {
+    match question {
+        Disconnect => graph.disconnect(from, to),
+        HasEdge => graph.has_edge(from, to),
+        Reaches => graph.reaches(from, to),
+        MakesCycle => graph.makes_cycle(from, to),
+    }
+}
+
+/// Whether a call gives what the step says.
+fn holds(rt: &impl Abort, graph: &mut PatchGraph, step: Step) -> Result<bool, OutOfMemory> {
+    Ok(match step {
+        Joins(edges) => joins(rt, graph, edges),
+        JoinsPorts(of, to) => joins_ports(rt, graph, of, to),
+        Refuses((from, to), fault) => graph.connect(addr(rt, from), addr(rt, to)) == Err(fault),
+        Asks(question, (from, to), wanted) => {
+            answer(graph, question, &addr(rt, from), &addr(rt, to)) == wanted
+        }
+        RemovesNode(node) => {
+            graph.remove_node(&addr(rt, node));
+            true
+        }
+        RemovesClient(number) => {
+            graph.remove_client(client(rt, number));
+            true
+        }
+        Has(count) => has(graph, count),
+        HasEdges(edges) => has_edges(rt, graph, edges),
+        HasAt(place, edge) => has_at(rt, graph, place, edge),
+        Sources(of, count) => graph.sources(&addr(rt, of)) == count,
+        Targets(of, nodes) => are(rt, graph.targets(&addr(rt, of)), nodes),
+        Ways(from, ways) => goes(rt, graph, &addr(rt, from), ways)?,
+    })
+}
+
+/// Takes the steps of a case, from a new graph on.
+fn assert_case(rt: &impl Abort, graph: &mut PatchGraph, case: &Case) -> Result<(), OutOfMemory> {
+    for (number, step) in case.steps.iter().enumerate() {
+        assert!(rt; holds(rt, graph, *step)?, "{}: step {number}", case.name);
+    }
     Ok(())
 }
 
 #[test]
-fn eight_edges_are_walked(rt: HostRuntime) -> Result<(), Fail> {
-    let mut graph = PatchGraph::new(rt.alloc());
-    assert_walked(&rt, &mut graph)
-}
-
-/// From the first of eight filters on, eight edges lead to port 0 of client 129.
-fn assert_shorter(rt: &impl Abort, graph: &PatchGraph) {
-    let mut shorter = graph.routes(&filter(rt, 128, 0));
-    let way = shorter
-        .next()
-        .expect(rt, "eight edges from the first filter");
-    assert!(rt; way.filters().len() == 7);
-    assert!(rt; way.last().client.number() == 129);
-}
-
-/// A path of nine edges is not walked.
-fn assert_not_walked(rt: &impl Abort, graph: &mut PatchGraph) -> Result<(), Fail> {
-    chained(rt, graph, 8)?;
-    assert!(rt; graph.len() == 9);
-    assert!(rt; graph.walk(&port(rt, 128, 0))?.len() == 0);
-    assert!(rt; graph.routes(&port(rt, 128, 0)).next().is_none());
-    assert_shorter(rt, graph);
+fn graphs_answer_step_by_step(rt: HostRuntime) -> Result<(), Fail> {
+    for case in CASES {
+        let mut graph = PatchGraph::new(rt.alloc());
+        assert_case(&rt, &mut graph, case)?;
+    }
     Ok(())
-}
-
-#[test]
-fn nine_edges_are_not_walked(rt: HostRuntime) -> Result<(), Fail> {
-    let mut graph = PatchGraph::new(rt.alloc());
-    assert_not_walked(&rt, &mut graph)
-}
-
-/// What is left of `crossed` without filter 1.
-fn assert_uncrossed(rt: &impl Abort, graph: &PatchGraph) {
-    assert!(rt; graph.len() == 4);
-    assert_edge(rt, graph, 0, filter(rt, 128, 0), port(rt, 129, 1));
-    assert_edge(rt, graph, 1, filter(rt, 128, 0), port(rt, 129, 0));
-    assert_edge(rt, graph, 2, port(rt, 128, 0), port(rt, 129, 2));
-    assert_edge(rt, graph, 3, port(rt, 128, 0), filter(rt, 128, 0));
-    assert_sources(rt, graph, 129, 1, 1);
-}
-
-/// A node takes its edges with it.
-fn assert_node_gone(rt: &impl Abort, graph: &mut PatchGraph) -> Result<(), Fail> {
-    crossed(rt, graph)?;
-    graph.remove_node(&filter(rt, 128, 1));
-    assert_uncrossed(rt, graph);
-    let left = [port(rt, 129, 2), filter(rt, 128, 0)];
-    assert!(rt; *graph.targets(&port(rt, 128, 0)) == *left.as_slice());
-    assert!(rt; graph.targets(&filter(rt, 128, 1)).is_empty());
-    Ok(())
-}
-
-#[test]
-fn a_node_goes_with_its_edges(rt: HostRuntime) -> Result<(), Fail> {
-    let mut graph = PatchGraph::new(rt.alloc());
-    assert_node_gone(&rt, &mut graph)
-}
-
-/// Joins ports of client 130 to one of client 128 and to one of client 131.
-fn joined_beside(rt: &impl Abort, graph: &mut PatchGraph) -> Result<(), EdgeFault> {
-    graph.connect(port(rt, 130, 1), port(rt, 131, 0))?;
-    graph.connect(port(rt, 130, 0), port(rt, 128, 0))?;
-    graph.connect(port(rt, 130, 0), port(rt, 131, 0))
-}
-
-/// What is left of both without client 128.
-fn assert_beside(rt: &impl Abort, graph: &PatchGraph) {
-    assert!(rt; graph.len() == 2);
-    assert_edge(rt, graph, 0, port(rt, 130, 1), port(rt, 131, 0));
-    assert_edge(rt, graph, 1, port(rt, 130, 0), port(rt, 131, 0));
-    let left = [port(rt, 131, 0)];
-    assert!(rt; *graph.targets(&port(rt, 130, 0)) == *left.as_slice());
-    assert_sources(rt, graph, 129, 0, 0);
-}
-
-/// Clients take their edges with them.
-fn assert_clients_gone(rt: &impl Abort, graph: &mut PatchGraph) -> Result<(), Fail> {
-    crossed(rt, graph)?;
-    joined_beside(rt, graph)?;
-    graph.remove_client(client(rt, 128));
-    assert_beside(rt, graph);
-    graph.remove_client(client(rt, 131));
-    assert!(rt; graph.is_empty());
-    Ok(())
-}
-
-#[test]
-fn a_client_goes_with_its_edges(rt: HostRuntime) -> Result<(), Fail> {
-    let mut graph = PatchGraph::new(rt.alloc());
-    assert_clients_gone(&rt, &mut graph)
 }
 
 /// Joins each port that there may be to 32 others.
-fn full_house(rt: &impl Abort, graph: &mut PatchGraph) -> Result<(), EdgeFault> {
+fn fill_house(rt: &impl Abort, graph: &mut PatchGraph) {
     for number in 128..192 {
         for target in 0..16 {
-            for source in 0..16 {
-                graph.connect(port(rt, 128, source), port(rt, number, target))?;
-                graph.connect(port(rt, 129, source), port(rt, number, target))?;
-            }
+            let to = P(number, target);
+            assert!(rt; joins_ports(rt, graph, 128, to) && joins_ports(rt, graph, 129, to));
         }
     }
-    Ok(())
 }
 
 /// The ways of a port lead to each port that there may be.
 fn assert_ways_to_all(rt: &impl Abort, routes: &mut Routes<'_>) {
     for number in 128..192 {
         for target in 0..16 {
-            assert_way(rt, routes, &[port(rt, number, target)]);
+            let way = routes.next().expect(rt, "one more way");
+            assert!(rt; are(rt, way.nodes(), &[P(number, target)]));
         }
     }
     assert!(rt; routes.next().is_none());
 }
 
 /// Each port has 32 sources, and each way leads to one of them.
-fn assert_full_house(rt: &impl Abort, graph: &mut PatchGraph) -> Result<(), Fail> {
-    full_house(rt, graph)?;
+fn assert_full_house(rt: &impl Abort, graph: &mut PatchGraph) {
+    fill_house(rt, graph);
     assert!(rt; graph.len() == 32_768);
     for number in 128..192 {
-        assert_sources(rt, graph, number, 15, 32);
-        let refused = graph.connect(port(rt, 130, 0), port(rt, number, 15));
+        let last = port(rt, number, 15);
+        assert!(rt; graph.sources(&last) == 32);
+        let refused = graph.connect(port(rt, 130, 0), last);
         assert!(rt; refused == Err(EdgeFault::SourcesFull));
     }
     assert_ways_to_all(rt, &mut graph.routes(&port(rt, 129, 3)));
-    Ok(())
 }
 
 #[test]
-fn a_full_house_of_ports_has_32_sources_at_each(rt: HostRuntime) -> Result<(), Fail> {
+fn a_full_house_of_ports_has_32_sources_at_each(rt: HostRuntime) {
     let mut graph = PatchGraph::new(rt.alloc());
-    assert_full_house(&rt, &mut graph)
+    assert_full_house(&rt, &mut graph);
 }
+
+const TEXTS: &[(EdgeFault, &'static str)] = &[
+    (EdgeFault::AlreadyConnected, "already connected"),
+    (EdgeFault::SourcesFull, "too many sources"),
+    (EdgeFault::Cycle, "a cycle of filters"),
+    (EdgeFault::OutOfMemory, "out of memory"),
+];
 
 #[test]
 fn faults_print(rt: HostRuntime) -> Result<(), Fail> {
-    let alloc = rt.alloc();
-    assert_text(
-        &rt,
-        alloc,
-        &EdgeFault::AlreadyConnected,
-        "already connected",
-    )?;
-    assert_text(&rt, alloc, &EdgeFault::SourcesFull, "too many sources")?;
-    assert_text(&rt, alloc, &EdgeFault::Cycle, "a cycle of filters")?;
-    assert_text(&rt, alloc, &EdgeFault::OutOfMemory, "out of memory")
+    for (fault, text) in TEXTS {
+        assert_text(&rt, rt.alloc(), fault, text)?;
+    }
+    Ok(())
 }

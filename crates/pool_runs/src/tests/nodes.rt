@@ -1,11 +1,13 @@
-use super::numbers::{client, filter, port};
+//! Addresses, and tables of clients and their nodes.
+
+use super::numbers::At::{self, F, P};
+use super::numbers::{addr, client, filter, port};
 use super::texts::assert_text;
 use bitflags::Flags;
 use node_table::{
-    Addr, Caps, ClientId, CreateFault, FilterNo, Node, NodeTable, OpenFault, PLACES, PortAddr,
-    PortNo, QueueAddr, QueueNo, addr_at, is_name, make_places, permitted, place_of,
+    Addr, Caps, ClientId, CreateFault, FilterNo, NodeTable, OpenFault, PLACES, PortAddr, PortNo,
+    QueueAddr, QueueNo, addr_at, is_name, make_places, permitted, place_of,
 };
-use std::alloc::Global;
 use std::process::Abort;
 use std::test::Fail;
 
@@ -13,26 +15,41 @@ fn caps(rt: &impl Abort, bits: u8) -> Caps {
     Caps::from_bits(bits).expect(rt, "known capabilities")
 }
 
-fn body(table: &NodeTable<u32>, addr: &Addr) -> Option<u32> {
-    let node = table.find(addr)?;
-    Some(*node.body())
+fn port_of(addr: &Addr) -> Option<u8> {
+    Some(addr.node.port()?.number())
 }
+
+fn filter_of(addr: &Addr) -> Option<u8> {
+    Some(addr.node.filter()?.number())
+}
+
+/// Addresses, and the numbers of the port and the filter that each is.
+const NODES: &[(At, Option<u8>, Option<u8>)] = &[
+    (P(128, 15), Some(15), None),
+    (F(128, 3), None, Some(3)),
+];
 
 #[test]
 fn numbers_have_limits(rt: HostRuntime) {
     for number in 0..=255u8 {
+        let taken = (
+            ClientId::new(number).is_some(),
+            PortNo::new(number).is_some(),
+            FilterNo::new(number).is_some(),
+            QueueNo::new(number).is_some(),
+        );
         let client = (128..192).contains(&number);
-        assert!(rt; ClientId::new(number).is_some() == client);
-        assert!(rt; PortNo::new(number).is_some() == (number < 16));
-        assert!(rt; FilterNo::new(number).is_some() == (number < 16));
-        assert!(rt; QueueNo::new(number).is_some() == (number < 8));
+        assert!(rt;
+            taken == (client, number < 16, number < 16, number < 8),
+            "{number}"
+        );
     }
     assert!(rt; client(&rt, 191).number() == 191);
-    assert!(rt; port(&rt, 128, 15).node.port().map(|p| p.number()) == Some(15));
-    assert!(rt; port(&rt, 128, 15).node.filter().is_none());
-    assert!(rt; filter(&rt, 128, 3).node.filter().map(|f| f.number()) == Some(3));
-    assert!(rt; filter(&rt, 128, 3).node.port().is_none());
-    assert!(rt; QueueNo::new(7).map(|q| q.number()) == Some(7));
+    assert!(rt; QueueNo::new(7).map(|queue| queue.number()) == Some(7));
+    for (at, port, filter) in NODES {
+        let addr = addr(&rt, *at);
+        assert!(rt; (port_of(&addr), filter_of(&addr)) == (*port, *filter));
+    }
 }
 
 #[test]
@@ -48,187 +65,325 @@ fn each_place_has_an_address(rt: HostRuntime) {
     assert!(rt; addr_at(PLACES).is_none());
 }
 
+/// The table has all places, each with this value.
+fn assert_made(rt: &impl Abort, table: &[u8], wanted: u8) {
+    assert!(rt; table.len() == PLACES);
+    for value in table {
+        assert!(rt; *value == wanted);
+    }
+}
+
 #[test]
 fn a_table_is_made_once(rt: HostRuntime) -> Result<(), Fail> {
     let mut table = Vec::new(rt.alloc());
     make_places(&mut table, 7u8)?;
-    assert!(rt; table.len() == PLACES);
-    assert!(rt; table.iter().all(|value| *value == 7));
+    assert_made(&rt, table.as_slice(), 7);
     make_places(&mut table, 8)?;
-    assert!(rt; table.len() == PLACES);
-    assert!(rt; table.iter().all(|value| *value == 7));
+    assert_made(&rt, table.as_slice(), 7);
     Ok(())
 }
 
 #[test]
 fn addresses_print(rt: HostRuntime) -> Result<(), Fail> {
     let alloc = rt.alloc();
-    assert_text(&rt, alloc, &port(&rt, 128, 0), "128:p0")?;
-    assert_text(&rt, alloc, &filter(&rt, 129, 3), "129:f3")?;
+    for (at, text) in [(P(128, 0), "128:p0"), (F(129, 3), "129:f3")] {
+        assert_text(&rt, alloc, &addr(&rt, at), text)?;
+    }
     let addr = PortAddr {
         client: client(&rt, 191),
         port: PortNo::new(15).expect(&rt, "a port's number"),
     };
-    assert_text(&rt, alloc, &addr, "191:p15")?;
-    let queue = QueueNo::new(7).expect(&rt, "a queue's number");
-    assert_text(&rt, alloc, &queue, "7")
+    assert_text(&rt, alloc, &addr, "191:p15")
 }
+
+#[test]
+fn queues_print(rt: HostRuntime) -> Result<(), Fail> {
+    let queue = QueueNo::new(7).expect(&rt, "a queue's number");
+    assert_text(&rt, rt.alloc(), &queue, "7")?;
+    let client = client(&rt, 128);
+    let text = QueueAddr { client, queue }.to_string(rt.alloc())?;
+    assert!(rt; text.as_str() == "128:q7");
+    Ok(())
+}
+
+/// Texts, and whether each is a name.
+const NAMES: &[(&'static [u8], bool)] = &[
+    (b"!", true),
+    (b"~synth-1~", true),
+    (b"12345678901234567890123456789012", true),
+    (b"123456789012345678901234567890123", false),
+    (b"", false),
+    (b"a b", false),
+    (b"a\x7F", false),
+    (b"\xC3\xA9", false),
+];
 
 #[test]
 fn names_are_visible_ascii(rt: HostRuntime) {
-    assert!(rt; is_name(b"!"));
-    assert!(rt; is_name(b"~synth-1~"));
-    assert!(rt; is_name(b"12345678901234567890123456789012"));
-    assert!(rt; !is_name(b"123456789012345678901234567890123"));
-    assert!(rt; !is_name(b""));
-    assert!(rt; !is_name(b"a b"));
-    assert!(rt; !is_name(b"a\x7F"));
-    assert!(rt; !is_name(b"\xC3\xA9"));
+    for (bytes, valid) in NAMES {
+        assert!(rt; is_name(bytes) == *valid, "of {bytes:?}");
+    }
 }
 
-#[test]
-fn open_refuses_in_order(rt: HostRuntime) -> Result<(), Fail> {
-    let mut table: NodeTable<u32> = NodeTable::new(rt.alloc());
-    let one = client(&rt, 128);
-    assert!(rt; table.open_client(one, b"") == Err(OpenFault::BadName));
-    assert!(rt; !table.is_open(one));
-    assert!(rt; table.open_client(one, b"one") == Ok(()));
-    assert!(rt; table.open_client(one, b"") == Err(OpenFault::AlreadyOpen));
-    assert!(rt; table.client_name(one) == Some(b"one".as_slice()));
-    assert!(rt; table.client_name(client(&rt, 129)).is_none());
-    Ok(())
+/// Why a node is not made.
+#[derive(Clone, Copy)]
+enum Refusal {
+    NotOpen,
+    BadName,
+    Exists,
 }
 
-#[test]
-fn a_client_with_no_nodes_has_none(rt: HostRuntime) -> Result<(), Fail> {
-    let mut table: NodeTable<u32> = NodeTable::new(rt.alloc());
-    let one = client(&rt, 191);
-    assert!(rt; !table.close_client(one));
-    assert!(rt; table.open_client(one, b"one") == Ok(()));
-    assert!(rt; table.find(&port(&rt, 191, 15)).is_none());
-    assert!(rt; table.body_mut(&port(&rt, 191, 15)).is_none());
-    assert!(rt; table.delete(filter(&rt, 191, 15)).is_none());
-    assert!(rt; table.next_port(one, 0).is_none());
-    assert!(rt; table.next_filter(one, 0).is_none());
-    assert!(rt; table.close_client(one));
-    Ok(())
+use self::Refusal::*;
+
+/// A call on a table, and what comes of it. Clients and capabilities are named by their numbers.
+#[derive(Clone, Copy)]
+enum Step {
+    Opens(u8, &'static [u8]),
+    NotOpened(u8, &'static [u8], OpenFault),
+    IsOpen(u8, bool),
+    IsNamed(u8, Option<&'static [u8]>),
+    Closes(u8, bool),
+    /// A node with its name, capabilities and body is made.
+    Makes(At, &'static [u8], u8, u32),
+    /// It is not, and its body comes back.
+    NotMade(At, &'static [u8], u32, Refusal),
+    Writes(At, u32),
+    Deletes(At, Option<u32>),
+    /// There is a node with this body.
+    Has(At, u32),
+    HasNot(At),
+    /// From this number on, the number and the body of a port of `FILLED`.
+    NextPort(u8, u8, Option<(u8, u32)>),
+    /// The same of a filter.
+    NextFilter(u8, u8, Option<(u8, u32)>),
+    /// What a client may join, and nothing where a node is missing.
+    May(u8, At, At, Option<bool>),
 }
 
-// What `create` answers: a letter for the refusal, and the body that comes back.
-fn answer(outcome: Result<(), CreateFault<u32>>) -> (char, u32) {
+use self::Step::*;
+
+/// A table that is new before the first step.
+struct Case {
+    name: &'static str,
+    before: &'static [Step],
+    steps: &'static [Step],
+}
+
+/// Two clients with four nodes each, whose bodies count up.
+const FILLED: &[Step] = &[
+    Opens(128, b"c"),
+    Makes(F(128, 0), b"", 3, 1),
+    Makes(P(128, 2), b"p", 1, 2),
+    Makes(P(128, 0), b"p", 1, 3),
+    Makes(P(128, 15), b"p", 1, 4),
+    Opens(191, b"c"),
+    Makes(F(191, 0), b"", 3, 5),
+    Makes(P(191, 2), b"p", 1, 6),
+    Makes(P(191, 0), b"p", 1, 7),
+    Makes(P(191, 15), b"p", 1, 8),
+];
+
+const CASES: &[Case] = &[
+    Case {
+        name: "open refuses in order",
+        before: &[],
+        steps: &[
+            NotOpened(128, b"", OpenFault::BadName),
+            IsOpen(128, false),
+            Opens(128, b"one"),
+            NotOpened(128, b"", OpenFault::AlreadyOpen),
+            IsNamed(128, Some(b"one")),
+            IsNamed(129, None),
+        ],
+    },
+    Case {
+        name: "a client with no nodes has none",
+        before: &[],
+        steps: &[
+            Closes(191, false),
+            Opens(191, b"one"),
+            HasNot(P(191, 15)),
+            Deletes(F(191, 15), None),
+            NextPort(191, 0, None),
+            NextFilter(191, 0, None),
+            Closes(191, true),
+        ],
+    },
+    Case {
+        name: "create refuses in order",
+        before: &[],
+        steps: &[
+            Opens(128, b"one"),
+            NotMade(P(129, 0), b"", 1, NotOpen),
+            Makes(P(128, 0), b"out", 243, 2),
+            NotMade(P(128, 0), b"", 3, BadName),
+            NotMade(F(128, 0), b"out", 4, BadName),
+            NotMade(P(128, 0), b"in", 5, Exists),
+            Has(P(128, 0), 2),
+        ],
+    },
+    Case {
+        name: "one node is written and deleted",
+        before: FILLED,
+        steps: &[
+            Writes(P(128, 0), 30),
+            HasNot(P(128, 1)),
+            Has(P(128, 0), 30),
+            Deletes(P(128, 0), Some(30)),
+            Deletes(P(128, 0), None),
+            Has(F(128, 0), 1),
+            Has(P(191, 0), 7),
+        ],
+    },
+    Case {
+        name: "one client is closed",
+        before: FILLED,
+        steps: &[
+            Closes(128, true),
+            Closes(128, false),
+            HasNot(F(128, 0)),
+            Has(F(191, 0), 5),
+            Opens(128, b"again"),
+            NextPort(128, 0, None),
+            NextFilter(128, 0, None),
+        ],
+    },
+    Case {
+        name: "nodes are listed in order of number",
+        before: FILLED,
+        steps: &[
+            NextPort(191, 0, Some((0, 7))),
+            NextPort(191, 1, Some((2, 6))),
+            NextPort(191, 3, Some((15, 8))),
+            NextPort(191, 16, None),
+            NextFilter(191, 0, Some((0, 5))),
+            NextFilter(191, 1, None),
+        ],
+    },
+    Case {
+        name: "the table knows capabilities",
+        before: FILLED,
+        steps: &[
+            May(128, P(128, 0), F(191, 0), Some(false)),
+            May(128, P(128, 0), F(128, 0), Some(true)),
+            Deletes(F(191, 0), Some(5)),
+            May(128, P(128, 0), F(191, 0), None),
+            Makes(F(191, 0), b"", 66, 50),
+            May(128, P(128, 0), F(191, 0), Some(true)),
+            May(191, P(128, 0), F(191, 0), Some(false)),
+        ],
+    },
+];
+
+/// Whether a node is refused for this reason.
+fn is_refused(outcome: Result<(), CreateFault<u32>>, body: u32, refusal: Refusal) -> bool {
     match outcome {
-        Ok(()) => ('-', 0),
-        Err(CreateFault::NotOpen(body)) => ('o', body),
-        Err(CreateFault::BadName(body)) => ('n', body),
-        Err(CreateFault::Exists(body)) => ('e', body),
-        Err(CreateFault::OutOfMemory(body)) => ('m', body),
+        Err(CreateFault::NotOpen(back)) => back == body && matches!(refusal, NotOpen),
+        Err(CreateFault::BadName(back)) => back == body && matches!(refusal, BadName),
+        Err(CreateFault::Exists(back)) => back == body && matches!(refusal, Exists),
+        Ok(()) | Err(CreateFault::OutOfMemory(_)) => false,
     }
 }
 
-#[test]
-fn create_refuses_in_order(rt: HostRuntime) -> Result<(), Fail> {
-    let mut table = NodeTable::new(rt.alloc());
-    table.open_client(client(&rt, 128), b"one").ok();
-    let all = caps(&rt, 243);
-    let calls = [
-        (port(&rt, 129, 0), b"".as_slice(), ('o', 1)),
-        (port(&rt, 128, 0), b"out".as_slice(), ('-', 0)),
-        (port(&rt, 128, 0), b"".as_slice(), ('n', 3)),
-        (filter(&rt, 128, 0), b"out".as_slice(), ('n', 4)),
-        (port(&rt, 128, 0), b"in".as_slice(), ('e', 5)),
-    ];
-    for (addr, name, want) in calls {
-        let body = if want.1 == 0 { 2 } else { want.1 };
-        assert!(rt; answer(table.create(addr, name, all, body)) == want);
-    }
-    assert!(rt; body(&table, &port(&rt, 128, 0)) == Some(2));
-    Ok(())
+fn body(table: &NodeTable<u32>, addr: &Addr) -> Option<u32> {
+    let node = table.find(addr)?;
+    Some(*node.body())
 }
 
-// Opens a client with a filter 0 and the ports 2, 0 and 15, whose bodies count up from `first`.
-fn fill(rt: &impl Abort, table: &mut NodeTable<u32>, number: u8, first: u32) {
-    assert!(rt; table.open_client(client(rt, number), b"c") == Ok(()));
-    let nodes = [
-        (filter(rt, number, 0), b"".as_slice(), 3),
-        (port(rt, number, 2), b"p".as_slice(), 1),
-        (port(rt, number, 0), b"p".as_slice(), 1),
-        (port(rt, number, 15), b"p".as_slice(), 1),
-    ];
-    let mut body = first;
-    for (addr, name, bits) in nodes {
-        assert!(rt; answer(table.create(addr, name, caps(rt, bits), body)) == ('-', 0));
-        body = body.wrapping_add(1);
-    }
-}
-
-// Clients 128 and 191 with the bodies 1 to 4 and 5 to 8.
-fn filled(rt: &impl Abort, alloc: Global) -> NodeTable<u32> {
-    let mut table = NodeTable::new(alloc);
-    fill(rt, &mut table, 128, 1);
-    fill(rt, &mut table, 191, 5);
-    table
-}
-
-#[test]
-fn writes_and_deletes_one_node(rt: HostRuntime) {
-    let mut table = filled(&rt, rt.alloc());
-    let one = port(&rt, 128, 0);
-    if let Some(body) = table.body_mut(&one) {
-        *body = 30;
-    }
-    assert!(rt; table.body_mut(&port(&rt, 128, 1)).is_none());
-    assert!(rt; body(&table, &one) == Some(30));
-    assert!(rt; table.delete(one) == Some(30));
-    assert!(rt; table.delete(one) == None);
-    assert!(rt; body(&table, &filter(&rt, 128, 0)) == Some(1));
-    assert!(rt; body(&table, &port(&rt, 191, 0)) == Some(7));
-}
-
-#[test]
-fn closes_one_client(rt: HostRuntime) {
-    let mut table = filled(&rt, rt.alloc());
-    let one = client(&rt, 128);
-    assert!(rt; table.close_client(one));
-    assert!(rt; !table.close_client(one));
-    assert!(rt; body(&table, &filter(&rt, 128, 0)) == None);
-    assert!(rt; body(&table, &filter(&rt, 191, 0)) == Some(5));
-    assert!(rt; table.open_client(one, b"again") == Ok(()));
-    assert!(rt; table.next_port(one, 0).is_none());
-    assert!(rt; table.next_filter(one, 0).is_none());
-}
-
-#[test]
-fn lists_in_order_of_number(rt: HostRuntime) {
-    let table = filled(&rt, rt.alloc());
-    let one = client(&rt, 191);
-    for (from, want) in [
-        (0, Some((0, 7))),
-        (1, Some((2, 6))),
-        (3, Some((15, 8))),
-        (16, None),
-    ] {
-        match table.next_port(one, from) {
-            Some((port, node)) => {
-                assert!(rt; Some((port.number(), *node.body())) == want);
-                assert!(rt; node.name() == b"p".as_slice());
-                assert!(rt; node.caps() == Caps::READ);
-            }
-            None => assert!(rt; want.is_none(), "from {from}"),
+fn writes(table: &mut NodeTable<u32>, addr: &Addr, body: u32) -> bool {
+    match table.body_mut(addr) {
+        Some(place) => {
+            *place = body;
+            true
         }
+        None => false,
     }
-    match table.next_filter(one, 0) {
+}
+
+fn is_next_port(table: &NodeTable<u32>, of: ClientId, from: u8, wanted: Option<(u8, u32)>) -> bool {
+    match table.next_port(of, from) {
+        Some((port, node)) => {
+            wanted == Some((port.number(), *node.body()))
+                && node.name() == b"p".as_slice()
+                && node.caps() == Caps::READ
+        }
+        None => wanted.is_none(),
+    }
+}
+
+fn is_next_filter(
+    table: &NodeTable<u32>,
+    of: ClientId,
+    from: u8,
+    wanted: Option<(u8, u32)>,
+) -> bool {
+    match table.next_filter(of, from) {
         Some((filter, node)) => {
-            assert!(rt; (filter.number(), *node.body()) == (0, 5));
-            assert!(rt; node.name().is_empty());
+            wanted == Some((filter.number(), *node.body())) && node.name().is_empty()
         }
-        None => assert!(rt; false, "there is a filter"),
+        None => wanted.is_none(),
     }
-    assert!(rt; table.next_filter(one, 1).is_none());
 }
 
-// What each end allows, and what both do to a third: a row for each case.
-fn source_allows(read: bool, subscribers_read: bool, owned: bool) -> bool {
-    match (read, subscribers_read, owned) {
+fn may(table: &NodeTable<u32>, actor: ClientId, source: &Addr, target: &Addr) -> Option<bool> {
+    table.find(source)?;
+    table.find(target)?;
+    Some(table.permitted(actor, source, target))
+}
+
+/// Whether a call gives what the step says.
+fn holds(rt: &impl Abort, table: &mut NodeTable<u32>, step: Step) -> bool {
+    match step {
+        Opens(of, name) => table.open_client(client(rt, of), name) == Ok(()),
+        NotOpened(of, name, fault) => table.open_client(client(rt, of), name) == Err(fault),
+        IsOpen(of, wanted) => table.is_open(client(rt, of)) == wanted,
+        IsNamed(of, wanted) => table.client_name(client(rt, of)) == wanted,
+        Closes(of, wanted) => table.close_client(client(rt, of)) == wanted,
+        Makes(at, name, bits, body) => table
+            .create(addr(rt, at), name, caps(rt, bits), body)
+            .is_ok(),
+        NotMade(at, name, body, refusal) => {
+            let outcome = table.create(addr(rt, at), name, caps(rt, 243), body);
+            is_refused(outcome, body, refusal)
+        }
+        Writes(at, body) => writes(table, &addr(rt, at), body),
+        Deletes(at, body) => table.delete(addr(rt, at)) == body,
+        Has(at, wanted) => body(table, &addr(rt, at)) == Some(wanted),
+        HasNot(at) => {
+            let addr = addr(rt, at);
+            table.find(&addr).is_none() && table.body_mut(&addr).is_none()
+        }
+        NextPort(of, from, wanted) => is_next_port(table, client(rt, of), from, wanted),
+        NextFilter(of, from, wanted) => is_next_filter(table, client(rt, of), from, wanted),
+        May(actor, source, target, wanted) => {
+            may(
+                table,
+                client(rt, actor),
+                &addr(rt, source),
+                &addr(rt, target),
+            ) == wanted
+        }
+    }
+}
+
+fn assert_steps(rt: &impl Abort, table: &mut NodeTable<u32>, name: &str, steps: &[Step]) {
+    for (number, step) in steps.iter().enumerate() {
+        assert!(rt; holds(rt, table, *step), "{name}: step {number}");
+    }
+}
+
+#[test]
+fn tables_answer_step_by_step(rt: HostRuntime) {
+    for case in CASES {
+        let mut table = NodeTable::new(rt.alloc());
+        assert_steps(&rt, &mut table, "before", case.before);
+        assert_steps(&rt, &mut table, case.name, case.steps);
+    }
+}
+
+/// What an end allows: whether it is read or written at all, by others too, and whether it is the actor's.
+fn end_allows(allowed: bool, others: bool, owned: bool) -> bool {
+    match (allowed, others, owned) {
         (false, _, _) => false,
         (true, true, _) => true,
         (true, false, true) => true,
@@ -236,15 +391,7 @@ fn source_allows(read: bool, subscribers_read: bool, owned: bool) -> bool {
     }
 }
 
-fn target_allows(write: bool, subscribers_write: bool, owned: bool) -> bool {
-    match (write, subscribers_write, owned) {
-        (false, _, _) => false,
-        (true, true, _) => true,
-        (true, false, true) => true,
-        (true, false, false) => false,
-    }
-}
-
+// What both ends do to a third: a row for each case.
 fn third_may(owns_one: bool, source_hidden: bool, target_hidden: bool) -> bool {
     match (owns_one, source_hidden, target_hidden) {
         (true, _, _) => true,
@@ -269,8 +416,8 @@ fn follows_table(rt: &impl Abort, of_source: u8, of_target: u8) {
     for sets in 0..4096u16 {
         let read = bits_of((sets / 64) as u8);
         let write = bits_of((sets % 64) as u8);
-        let want = source_allows(read & 1 != 0, read & 32 != 0, owns_source)
-            && target_allows(write & 2 != 0, write & 64 != 0, owns_target)
+        let want = end_allows(read & 1 != 0, read & 32 != 0, owns_source)
+            && end_allows(write & 2 != 0, write & 64 != 0, owns_target)
             && third_may(
                 owns_source || owns_target,
                 read & 128 != 0,
@@ -288,36 +435,6 @@ fn capabilities_follow_the_table(rt: HostRuntime) {
     }
 }
 
-fn may(table: &NodeTable<u32>, actor: ClientId, source: &Addr, target: &Addr) -> Option<bool> {
-    table.find(source)?;
-    table.find(target)?;
-    Some(table.permitted(actor, source, target))
-}
-
-#[test]
-fn the_table_knows_capabilities(rt: HostRuntime) {
-    let mut table = filled(&rt, rt.alloc());
-    let (one, other) = (client(&rt, 128), client(&rt, 191));
-    let from = port(&rt, 128, 0);
-    let to = filter(&rt, 191, 0);
-    assert!(rt; may(&table, one, &from, &to) == Some(false));
-    assert!(rt; may(&table, one, &from, &filter(&rt, 128, 0)) == Some(true));
-    assert!(rt; table.delete(to) == Some(5));
-    assert!(rt; may(&table, one, &from, &to) == None);
-    assert!(rt; answer(table.create(to, b"", caps(&rt, 66), 50)) == ('-', 0));
-    assert!(rt; may(&table, one, &from, &to) == Some(true));
-    assert!(rt; may(&table, other, &from, &to) == Some(false));
-}
-
-#[test]
-fn addresses_of_queues_have_their_text(rt: HostRuntime) -> Result<(), Fail> {
-    let client = ClientId::new(128).expect(&rt, "a client's number");
-    let queue = QueueNo::new(7).expect(&rt, "a queue's number");
-    let text = QueueAddr { client, queue }.to_string(rt.alloc())?;
-    assert!(rt; text.as_str() == "128:q7");
-    Ok(())
-}
-
 // Opens all clients and makes all their nodes, whose bodies are their places.
 fn make_all(rt: &impl Abort, table: &mut NodeTable<u32>) {
     for number in 128..192 {
@@ -330,10 +447,17 @@ fn make_all(rt: &impl Abort, table: &mut NodeTable<u32>) {
             } else {
                 b"port".as_slice()
             };
-            assert!(rt; answer(table.create(addr, name, caps(rt, 99), place as u32)) == ('-', 0));
+            assert!(rt; table.create(addr, name, caps(rt, 99), place as u32).is_ok());
         }
     }
 }
+
+const CLOSED_160: &[Step] = &[
+    Closes(160, true),
+    Has(P(159, 15), 1007),
+    HasNot(P(160, 0)),
+    Has(P(161, 0), 1056),
+];
 
 // All nodes are there, and then those of one client are not.
 fn assert_all(rt: &impl Abort, table: &mut NodeTable<u32>) {
@@ -342,10 +466,7 @@ fn assert_all(rt: &impl Abort, table: &mut NodeTable<u32>) {
             assert!(rt; body(table, &addr) == Some(place as u32));
         }
     }
-    assert!(rt; table.close_client(client(rt, 160)));
-    assert!(rt; body(table, &port(rt, 159, 15)) == Some(1007));
-    assert!(rt; body(table, &port(rt, 160, 0)) == None);
-    assert!(rt; body(table, &port(rt, 161, 0)) == Some(1056));
+    assert_steps(rt, table, "one of all clients is closed", CLOSED_160);
 }
 
 #[test]
@@ -355,15 +476,16 @@ fn a_full_house_has_room_for_all(rt: HostRuntime) {
     assert_all(&rt, &mut table);
 }
 
+const TEXTS: &[(OpenFault, &'static str)] = &[
+    (OpenFault::AlreadyOpen, "the client is open already"),
+    (OpenFault::BadName, "this is no name"),
+    (OpenFault::OutOfMemory, "out of memory"),
+];
+
 #[test]
 fn faults_print(rt: HostRuntime) -> Result<(), Fail> {
-    let alloc = rt.alloc();
-    assert_text(
-        &rt,
-        alloc,
-        &OpenFault::AlreadyOpen,
-        "the client is open already",
-    )?;
-    assert_text(&rt, alloc, &OpenFault::BadName, "this is no name")?;
-    assert_text(&rt, alloc, &OpenFault::OutOfMemory, "out of memory")
+    for (fault, text) in TEXTS {
+        assert_text(&rt, rt.alloc(), fault, text)?;
+    }
+    Ok(())
 }

@@ -1,24 +1,29 @@
+//! Pools of events, and stores of cells.
+
+use super::numbers::client;
 use super::texts::assert_text;
 use cell_pools::{CellKey, CellStore, InPool, PoolFault, PutFault, take_all};
 use memory::OutOfMemory;
 use node_table::ClientId;
-use std::alloc::Global;
 use std::process::Abort;
 use std::test::Fail;
 
-fn client(rt: &impl Abort, number: u8) -> ClientId {
-    ClientId::new(number).expect(rt, "a client's number")
-}
+/// Sizes, and why each is refused.
+const SIZES: &[(u32, Option<PoolFault>)] = &[
+    (0, Some(PoolFault::BadSize)),
+    (1, None),
+    (2000, None),
+    (2001, Some(PoolFault::BadSize)),
+    (u32::MAX, Some(PoolFault::BadSize)),
+];
 
 #[test]
 fn pools_have_limits(rt: HostRuntime) {
-    for size in [0, 2001, u32::MAX] {
-        let refused = InPool::<u8>::new(rt.alloc(), size).err();
-        assert!(rt; refused == Some(PoolFault::BadSize));
-    }
-    for size in [1, 2000] {
-        let pool = InPool::<u8>::new(rt.alloc(), size).ok().map(|p| p.size());
-        assert!(rt; pool == Some(size));
+    for (size, fault) in SIZES {
+        match InPool::<u32>::new(rt.alloc(), *size) {
+            Ok(pool) => assert!(rt; pool.size() == *size && fault.is_none(), "of {size}"),
+            Err(refused) => assert!(rt; Some(refused) == *fault, "of {size}"),
+        }
     }
 }
 
@@ -45,29 +50,75 @@ fn count_up(items: &[u32], first: u32, count: usize) -> bool {
     items.len() == count
 }
 
-fn full_pool(rt: &impl Abort, alloc: Global) -> InPool<u32> {
-    let mut pool = InPool::new(alloc, 2000).ok().expect(rt, "memory");
-    assert!(rt; offered(&mut pool, 0, 2000) == 2000);
-    pool
+/// A call on a pool of 2000, and what comes of it.
+#[derive(Clone, Copy)]
+enum PoolStep {
+    /// From the first number on, so many are offered, and so many kept.
+    Offers(u32, u32, u32),
+    /// At most so many are taken. From the first number on, so many come.
+    Takes(u32, u32, usize),
+    /// So many wait, and so many are lost.
+    Counts(u32, u64),
+}
+
+use self::PoolStep::*;
+
+/// A pool that is new before the first step.
+struct PoolCase {
+    name: &'static str,
+    steps: &'static [PoolStep],
+}
+
+const POOL_CASES: &[PoolCase] = &[
+    PoolCase {
+        name: "a full pool drops and counts",
+        steps: &[
+            Offers(0, 2000, 2000),
+            Counts(2000, 0),
+            Offers(5000, 10, 0),
+            Counts(2000, 10),
+        ],
+    },
+    PoolCase {
+        name: "a pool drains in pieces",
+        steps: &[
+            Offers(0, 2000, 2000),
+            Takes(700, 0, 700),
+            Offers(2000, 800, 700),
+            Takes(1, 700, 1),
+            Takes(2000, 701, 1999),
+            Takes(2000, 0, 0),
+            Counts(0, 100),
+        ],
+    },
+];
+
+fn pool_holds(pool: &mut InPool<u32>, step: PoolStep) -> Result<bool, OutOfMemory> {
+    Ok(match step {
+        Offers(first, count, kept) => offered(pool, first, count) == kept,
+        Takes(most, first, count) => count_up(pool.take(most)?.as_slice(), first, count),
+        Counts(waiting, lost) => (pool.waiting(), pool.lost(), pool.size())
+            == (waiting, lost, 2000),
+    })
+}
+
+fn assert_pool(
+    rt: &impl Abort,
+    pool: &mut InPool<u32>,
+    case: &PoolCase,
+) -> Result<(), OutOfMemory> {
+    for (number, step) in case.steps.iter().enumerate() {
+        assert!(rt; pool_holds(pool, *step)?, "{}: step {number}", case.name);
+    }
+    Ok(())
 }
 
 #[test]
-fn a_full_pool_drops_and_counts(rt: HostRuntime) {
-    let mut pool = full_pool(&rt, rt.alloc());
-    assert!(rt; (pool.waiting(), pool.lost()) == (2000, 0));
-    assert!(rt; offered(&mut pool, 5000, 10) == 0);
-    assert!(rt; (pool.waiting(), pool.lost()) == (2000, 10));
-}
-
-#[test]
-fn a_pool_drains_in_pieces(rt: HostRuntime) -> Result<(), Fail> {
-    let mut pool = full_pool(&rt, rt.alloc());
-    assert!(rt; count_up(pool.take(700)?.as_slice(), 0, 700));
-    assert!(rt; offered(&mut pool, 2000, 800) == 700);
-    assert!(rt; count_up(pool.take(1)?.as_slice(), 700, 1));
-    assert!(rt; count_up(pool.take(2000)?.as_slice(), 701, 1999));
-    assert!(rt; pool.take(2000)?.is_empty());
-    assert!(rt; (pool.waiting(), pool.lost(), pool.size()) == (0, 100, 2000));
+fn pools_answer_step_by_step(rt: HostRuntime) -> Result<(), Fail> {
+    for case in POOL_CASES {
+        let mut pool = InPool::new(rt.alloc(), 2000).ok().expect(&rt, "memory");
+        assert_pool(&rt, &mut pool, case)?;
+    }
     Ok(())
 }
 
@@ -99,43 +150,6 @@ fn a_store_puts_and_takes(rt: HostRuntime) -> Result<(), Fail> {
     assert_put(&rt, &mut store)
 }
 
-// What `put` answers: a letter for the refusal, and the value that comes back.
-fn answer(outcome: Result<CellKey, PutFault<u32>>) -> (char, u32) {
-    match outcome {
-        Ok(_) => ('-', 0),
-        Err(PutFault::Full(value)) => ('f', value),
-        Err(PutFault::OutOfMemory(value)) => ('m', value),
-    }
-}
-
-#[test]
-fn each_client_has_its_own_size(rt: HostRuntime) {
-    let mut store = CellStore::new(rt.alloc());
-    let (one, other) = (client(&rt, 128), client(&rt, 191));
-    store.set_size(one, 2);
-    assert!(rt; answer(store.put(other, 1)) == ('f', 1));
-    assert!(rt; answer(store.put(one, 2)) == ('-', 0));
-    assert!(rt; answer(store.put(one, 3)) == ('-', 0));
-    assert!(rt; answer(store.put(one, 4)) == ('f', 4));
-    store.set_size(other, 1);
-    assert!(rt; answer(store.put(other, 5)) == ('-', 0));
-    store.set_size(one, 1);
-    assert!(rt; answer(store.put(one, 6)) == ('f', 6));
-    assert!(rt; (store.used(one), store.used(other)) == (2, 1));
-}
-
-// Puts a value for each of these clients, the values counting up from 0.
-fn filled(rt: &impl Abort, alloc: Global, numbers: &[u8]) -> CellStore<u32> {
-    let mut store = CellStore::new(alloc);
-    let mut value = 0u32;
-    for number in numbers {
-        store.set_size(client(rt, *number), 10);
-        assert!(rt; answer(store.put(client(rt, *number), value)) == ('-', 0));
-        value = value.wrapping_add(1);
-    }
-    store
-}
-
 fn sum_under(store: &CellStore<u32>, keys: &[CellKey]) -> u32 {
     let mut sum = 0u32;
     for key in keys {
@@ -156,26 +170,6 @@ fn listed(store: &CellStore<u32>) -> Result<(usize, u32), OutOfMemory> {
     Ok((keys.len(), sum_under(store, &keys)))
 }
 
-fn check_lists(rt: &impl Abort, store: &CellStore<u32>) -> Result<(), Fail> {
-    for (of, wanted) in [(128, (2, 2)), (191, (2, 4)), (151, (0, 0))] {
-        assert!(rt; listed_of(store, client(rt, of))? == wanted);
-    }
-    assert!(rt; listed(store)? == (5, 10));
-    Ok(())
-}
-
-#[test]
-fn keys_are_listed(rt: HostRuntime) -> Result<(), Fail> {
-    let store = filled(&rt, rt.alloc(), &[128, 191, 128, 191, 150]);
-    check_lists(&rt, &store)
-}
-
-#[test]
-fn a_new_store_lists_no_keys(rt: HostRuntime) -> Result<(), Fail> {
-    assert!(rt; CellStore::<u8>::new(rt.alloc()).keys()?.is_empty());
-    Ok(())
-}
-
 // Takes those of a client's cells that have an odd value, from the last on, and gives their sum.
 fn take_odd(store: &mut CellStore<u32>, of: ClientId) -> u32 {
     let mut sum = 0u32;
@@ -189,32 +183,153 @@ fn take_odd(store: &mut CellStore<u32>, of: ClientId) -> u32 {
     sum
 }
 
-#[test]
-fn a_walk_takes_what_it_comes_to(rt: HostRuntime) {
-    let mut store = filled(
-        &rt,
-        rt.alloc(),
-        &[128, 128, 128, 191, 128, 191, 128, 128, 128],
-    );
-    assert!(rt; take_odd(&mut store, client(&rt, 128)) == 8);
-    assert!(rt; take_odd(&mut store, client(&rt, 128)) == 0);
-    assert!(rt; store.used(client(&rt, 128)) == 5);
-    assert!(rt; take_odd(&mut store, client(&rt, 191)) == 8);
-    assert!(rt; store.used(client(&rt, 191)) == 0);
+/// A call on a store, and what comes of it. Clients are named by their numbers.
+#[derive(Clone, Copy)]
+enum StoreStep {
+    SetsSize(u8, u32),
+    Puts(u8, u32),
+    /// There is no room for this value, which comes back.
+    Refuses(u8, u32),
+    /// Each of these clients puts a value, which count up from 0, and has a size of 10.
+    Fills(&'static [u8]),
+    Used(u8, u32),
+    /// How many keys a client has, and the sum of what is under them.
+    Lists(u8, usize, u32),
+    /// The same of all clients.
+    ListsAll(usize, u32),
+    /// The odd values of a client, which have this sum, are taken.
+    TakesOdd(u8, u32),
+    Empties(u8),
 }
 
-// The cells of client 128 go, and no others.
-fn assert_emptied(rt: &impl Abort, store: &mut CellStore<u32>) -> Result<(), Fail> {
-    take_all(store, client(rt, 128));
-    assert!(rt; (store.used(client(rt, 128)), store.used(client(rt, 191))) == (0, 2));
-    assert!(rt; listed(store)? == (2, 5));
+use self::StoreStep::*;
+
+/// A store that is new before the first step.
+struct StoreCase {
+    name: &'static str,
+    steps: &'static [StoreStep],
+}
+
+const STORE_CASES: &[StoreCase] = &[
+    StoreCase {
+        name: "a new store lists no keys",
+        steps: &[ListsAll(0, 0)],
+    },
+    StoreCase {
+        name: "each client has its own size",
+        steps: &[
+            SetsSize(128, 2),
+            Refuses(191, 1),
+            Puts(128, 2),
+            Puts(128, 3),
+            Refuses(128, 4),
+            SetsSize(191, 1),
+            Puts(191, 5),
+            SetsSize(128, 1),
+            Refuses(128, 6),
+            Used(128, 2),
+            Used(191, 1),
+        ],
+    },
+    StoreCase {
+        name: "keys are listed",
+        steps: &[
+            Fills(&[128, 191, 128, 191, 150]),
+            Lists(128, 2, 2),
+            Lists(191, 2, 4),
+            Lists(151, 0, 0),
+            ListsAll(5, 10),
+        ],
+    },
+    StoreCase {
+        name: "a walk takes what it comes to",
+        steps: &[
+            Fills(&[128, 128, 128, 191, 128, 191, 128, 128, 128]),
+            TakesOdd(128, 8),
+            TakesOdd(128, 0),
+            Used(128, 5),
+            TakesOdd(191, 8),
+            Used(191, 0),
+        ],
+    },
+    StoreCase {
+        name: "a client is emptied, and no other",
+        steps: &[
+            Fills(&[128, 191, 128, 128, 191]),
+            Empties(128),
+            Used(128, 0),
+            Used(191, 2),
+            ListsAll(2, 5),
+        ],
+    },
+];
+
+fn refuses(store: &mut CellStore<u32>, of: ClientId, value: u32) -> bool {
+    match store.put(of, value) {
+        Err(PutFault::Full(back)) => back == value,
+        Ok(_) | Err(PutFault::OutOfMemory(_)) => false,
+    }
+}
+
+fn fills(rt: &impl Abort, store: &mut CellStore<u32>, numbers: &[u8]) -> bool {
+    let mut value = 0u32;
+    for number in numbers {
+        let of = client(rt, *number);
+        store.set_size(of, 10);
+        if store.put(of, value).is_err() {
+            return false;
+        }
+        value = value.wrapping_add(1);
+    }
+    true
+}
+
+fn store_holds(
+    rt: &impl Abort,
+    store: &mut CellStore<u32>,
+    step: StoreStep,
+) -> Result<bool, OutOfMemory> {
+    Ok(match step {
+        SetsSize(of, size) => {
+            store.set_size(client(rt, of), size);
+            true
+        }
+        Puts(of, value) => store.put(client(rt, of), value).is_ok(),
+        Refuses(of, value) => refuses(store, client(rt, of), value),
+        Fills(numbers) => fills(rt, store, numbers),
+        Used(of, count) => store.used(client(rt, of)) == count,
+        Lists(of, count, sum) => listed_of(store, client(rt, of))? == (count, sum),
+        ListsAll(count, sum) => listed(store)? == (count, sum),
+        TakesOdd(of, sum) => take_odd(store, client(rt, of)) == sum,
+        Empties(of) => {
+            take_all(store, client(rt, of));
+            true
+        }
+    })
+}
+
+fn assert_store(
+    rt: &impl Abort,
+    store: &mut CellStore<u32>,
+    case: &StoreCase,
+) -> Result<(), OutOfMemory> {
+    for (number, step) in case.steps.iter().enumerate() {
+        assert!(rt;
+            store_holds(rt, store, *step)?,
+            "{}: step {number}",
+            case.name
+        );
+    }
     Ok(())
 }
 
 #[test]
-fn a_client_is_emptied(rt: HostRuntime) -> Result<(), Fail> {
-    let mut store = filled(&rt, rt.alloc(), &[128, 191, 128, 128, 191]);
-    assert_emptied(&rt, &mut store)
+fn stores_answer_step_by_step(rt: HostRuntime) -> Result<(), Fail> {
+    for case in STORE_CASES {
+        let mut store = CellStore::new(rt.alloc());
+        assert_store(&rt, &mut store, case)?;
+    }
+    Ok(())
 }
 
 // A linear congruential generator, of the multiplier and the increment that Knuth gives.

@@ -12,6 +12,7 @@ pub(super) fn assert_text<T: fmt::Display>(
     shown: &T,
     text: &str,
 ) -> Result<(), Fail> {
-    assert!(rt; format!(in alloc; "{}", shown)?.as_str() == text);
+    let printed = format!(in alloc; "{}", shown)?;
+    assert!(rt; printed.as_str() == text, "{printed} in place of {text}");
     Ok(())
 }
