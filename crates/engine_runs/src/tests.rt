@@ -2,17 +2,14 @@
 
 mod circles;
 mod clients;
-mod files;
 mod going;
 mod lines;
 mod logs;
 mod long_runs;
-mod making;
 mod patchbay;
-mod patching;
-mod queues;
 mod recording;
 mod sending;
+mod setting_up;
 mod settle;
 mod single_steps;
 mod state;

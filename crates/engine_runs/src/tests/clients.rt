@@ -1,282 +1,324 @@
 //! The open clients: what they have, and what waits for them.
 
-use super::making::{client, filter, make_port, port, queue, queue_at};
+use super::lines::ALL;
+use super::setting_up::Step::{self, *};
+use super::setting_up::take;
 use bitflags::Flags;
 use midi_wire::Message;
-use node_table::{Addr, Caps, ClientId, FilterNo, Node, QueueAddr, QueueNo};
-use route_filter::{Rule, RuleArgs};
+use node_table::{Addr, ClientId, FilterNo, Node, PortNo, QueueAddr, QueueNo};
+use route_filter::RuleArgs;
 use seq_clients::Clients;
 use seq_state::Arrival;
 use std::alloc::Global;
 use std::process::Abort;
-use std::test::Fail;
-use tempo_clock::{TempoEntry, TempoMap};
 
-/// Client 128, with room for two messages and three playbacks.
-fn one_client(alloc: Global) -> Result<Clients, Fail> {
+/// What client 128 does, from where nobody is open, and what the clients answer after each step.
+#[derive(Clone, Copy)]
+struct Case {
+    name: &'static str,
+    rows: &'static [(Step, &'static [Asked])],
+}
+
+/// What is asked, with the answer. Where it has no number of a client, it is asked of client 128.
+#[derive(Clone, Copy)]
+enum Asked {
+    /// A client, its name where it is open, and the sizes of its input and its output.
+    IsClient(u8, Option<&'static [u8]>, u32, u32),
+    /// A port, and its name and its capabilities where it is there.
+    IsPort(u8, Option<&'static [u8]>, Option<u8>),
+    /// A filter, and the kinds that it lets pass where it is there.
+    IsFilter(u8, Option<u16>),
+    /// A queue, and whether it is shared where it is there.
+    IsQueue(u8, Option<bool>),
+    /// At a moment, whether a queue runs, and what it shows.
+    Shows(u8, u64, bool, u64),
+    /// The time in nanoseconds at which a queue reaches a tick.
+    Reaches(u8, u64, u128),
+    /// A piece of a port's stream, how many messages it completes, and their bytes.
+    Feeds(u8, &'static [u8], usize, &'static [u8]),
+    /// A client, the moment of a message for it, and whether there is room.
+    Offers(u8, u64, bool),
+    /// How many messages wait, and how many are lost.
+    Waits(u32, u64),
+    /// How many messages are taken at most, and the moment of the first.
+    Receives(u32, u64),
+}
+
+use self::Asked::*;
+
+const SYNTH: Step = Open(b"synth", 2, 3);
+
+const KIND_0: RuleArgs = RuleArgs { kinds: 1, ..ALL };
+
+const KIND_1: RuleArgs = RuleArgs { kinds: 2, ..ALL };
+
+const CASES: &[Case] = &[
+    Case {
+        name: "a client opens and closes",
+        rows: &[
+            (
+                SYNTH,
+                &[
+                    IsClient(128, Some(b"synth"), 2, 3),
+                    IsClient(129, None, 0, 0),
+                ],
+            ),
+            (Close, &[IsClient(128, None, 0, 0)]),
+        ],
+    },
+    Case {
+        name: "ports are made and dropped",
+        rows: &[
+            (SYNTH, &[IsPort(15, None, None)]),
+            (
+                Port(15),
+                &[IsPort(15, Some(b"out"), Some(1)), IsPort(0, None, None)],
+            ),
+            (DeletePort(15), &[IsPort(15, None, None)]),
+        ],
+    },
+    Case {
+        name: "filters have rules",
+        rows: &[
+            (SYNTH, &[IsFilter(3, None)]),
+            (
+                Filter(3, KIND_0),
+                &[IsFilter(3, Some(1)), IsPort(3, None, None)],
+            ),
+            (SetFilter(3, KIND_1), &[IsFilter(3, Some(2))]),
+            (DeleteFilter(3), &[IsFilter(3, None)]),
+        ],
+    },
+    Case {
+        name: "queues are made and shared",
+        rows: &[
+            (SYNTH, &[IsQueue(7, None)]),
+            (Queue(7), &[IsQueue(7, Some(false)), IsQueue(0, None)]),
+            (Share(7), &[IsQueue(7, Some(true))]),
+            (DeleteQueue(7), &[IsQueue(7, None)]),
+        ],
+    },
+    Case {
+        name: "queues run",
+        rows: &[
+            (SYNTH, &[]),
+            (Queue(0), &[Shows(0, 5, false, 0)]),
+            (Start(0, 10), &[Shows(0, 30, true, 20)]),
+            (Stop(0, 110), &[Shows(0, 399, false, 100)]),
+            (Resume(0, 400), &[Shows(0, 500, true, 200)]),
+        ],
+    },
+    Case {
+        // 96 ticks last as long as a quarter note does.
+        name: "a tempo is set",
+        rows: &[
+            (SYNTH, &[]),
+            (Queue(0), &[Reaches(0, 96, 500_000_000)]),
+            (DoubleTempo(0, 0), &[Reaches(0, 96, 250_000_000)]),
+        ],
+    },
+    Case {
+        name: "streams go on between pieces",
+        rows: &[
+            (SYNTH, &[]),
+            (
+                Port(0),
+                &[
+                    Feeds(0, &[0x90, 60], 0, &[]),
+                    Feeds(0, &[], 0, &[]),
+                    // Running status: the second note has no status of its own.
+                    Feeds(0, &[64, 62, 64], 2, &[0x90, 60, 64, 0x90, 62, 64]),
+                ],
+            ),
+        ],
+    },
+    Case {
+        name: "pools fill and drain",
+        rows: &[(
+            SYNTH,
+            &[
+                Offers(128, 10, true),
+                Offers(128, 20, true),
+                Offers(128, 30, false),
+                Waits(2, 1),
+                Receives(1, 10),
+                Waits(1, 1),
+                Offers(129, 40, false),
+            ],
+        )],
+    },
+];
+
+#[test]
+fn clients_answer(rt: HostRuntime) {
+    assert_cases(&rt, rt.alloc(), CASES);
+}
+
+fn assert_cases(rt: &impl Abort, alloc: Global, cases: &[Case]) {
+    for case in cases {
+        assert!(rt; holds(alloc, case) == Some(true), "{}", case.name);
+    }
+}
+
+/// Whether the answers are as they should be. `None` where a step does not fit what is there, or memory is wanting.
+fn holds(alloc: Global, case: &Case) -> Option<bool> {
+    let client = ClientId::new(128)?;
     let mut clients = Clients::new(alloc);
-    clients.open(client(128)?, b"synth", 2, 3)?;
-    Ok(clients)
+    are_so(&mut clients, alloc, client, case.rows)
 }
 
-#[test]
-fn a_client_opens_and_closes(rt: HostRuntime) -> Result<(), Fail> {
-    let mut clients = one_client(rt.alloc())?;
-    assert_opened_and_closed(&rt, &mut clients)
-}
-
-fn assert_opened_and_closed(rt: &impl Abort, clients: &mut Clients) -> Result<(), Fail> {
-    let one = client(128)?;
-    assert!(rt; clients.is_open(one));
-    assert!(rt; !clients.is_open(client(129)?));
-    assert!(rt; clients.name(one) == Some(b"synth".as_slice()));
-    assert!(rt; (clients.in_size(one), clients.out_size(one)) == (2, 3));
-    clients.close(one);
-    assert!(rt; !clients.is_open(one));
-    assert!(rt; clients.name(one) == None);
-    assert!(rt; (clients.in_size(one), clients.out_size(one)) == (0, 0));
-    Ok(())
-}
-
-#[test]
-fn ports_are_made_and_dropped(rt: HostRuntime) -> Result<(), Fail> {
-    let mut clients = one_client(rt.alloc())?;
-    assert_ports(&rt, &mut clients)
-}
-
-fn assert_ports(rt: &impl Abort, clients: &mut Clients) -> Result<(), Fail> {
-    let one = client(128)?;
-    make_port(clients, one, port(15)?)?;
-    assert!(rt; clients.has_port(one, port(15)?));
-    assert!(rt; !clients.has_port(one, port(0)?));
-    assert!(rt; clients.port_name(one, port(15)?) == Some(b"out".as_slice()));
-    let node = Node::Port(port(15)?);
-    let caps = clients.caps(&Addr { client: one, node });
-    assert!(rt; caps.map(|c| c.bits()) == Some(1));
-    clients.delete_port(one, port(15)?);
-    assert!(rt; !clients.has_port(one, port(15)?));
-    Ok(())
-}
-
-/// A rule that lets all messages of the given kinds pass.
-fn rule_of_kinds(kinds: u16) -> Result<Rule, Fail> {
-    let args = RuleArgs {
-        channels: 0xFFFF,
-        kinds,
-        low: 0,
-        high: 127,
-        shift: 0,
-        channel: None,
-    };
-    Ok(Rule::new(args).ok_or("a rule")?)
-}
-
-fn make_filter(clients: &mut Clients, one: ClientId, number: FilterNo) -> Result<(), Fail> {
-    if !clients.is_open(one) || clients.has_filter(one, number) {
-        return Err("an open client and a free number")?;
-    }
-    clients.create_filter(one, number, Caps::WRITE, rule_of_kinds(1)?)?;
-    Ok(())
-}
-
-fn change_filter(clients: &mut Clients, one: ClientId, number: FilterNo) -> Result<(), Fail> {
-    if !clients.has_filter(one, number) {
-        return Err("a filter")?;
-    }
-    clients.set_filter(one, number, rule_of_kinds(2)?);
-    Ok(())
-}
-
-#[test]
-fn filters_have_rules(rt: HostRuntime) -> Result<(), Fail> {
-    let mut clients = one_client(rt.alloc())?;
-    assert_filters(&rt, &mut clients)
-}
-
-fn assert_filters(rt: &impl Abort, clients: &mut Clients) -> Result<(), Fail> {
-    let one = client(128)?;
-    make_filter(clients, one, filter(3)?)?;
-    assert!(rt; clients.has_filter(one, filter(3)?));
-    assert!(rt; !clients.has_port(one, port(3)?));
-    assert!(rt; clients.rule(one, filter(3)?).map(|r| r.args().kinds) == Some(1));
-    change_filter(clients, one, filter(3)?)?;
-    assert!(rt; clients.rule(one, filter(3)?).map(|r| r.args().kinds) == Some(2));
-    clients.delete_filter(one, filter(3)?);
-    assert!(rt; clients.rule(one, filter(3)?).is_none());
-    Ok(())
-}
-
-fn fed(
+fn are_so(
     clients: &mut Clients,
-    one: ClientId,
-    bytes: &[u8],
-    out: &mut Vec<Message>,
-) -> Result<usize, Fail> {
-    let number = port(0)?;
-    if !clients.has_port(one, number) {
-        return Err("a port")?;
+    alloc: Global,
+    client: ClientId,
+    rows: &[(Step, &[Asked])],
+) -> Option<bool> {
+    for (step, all_asked) in rows {
+        take(clients, alloc, client, *step)?;
+        for asked in *all_asked {
+            if !is_so(clients, alloc, client, *asked)? {
+                return Some(false);
+            }
+        }
     }
-    Ok(clients.feed(one, number, bytes, out)?)
+    Some(true)
 }
 
-#[test]
-fn streams_go_on_between_pieces(rt: HostRuntime) -> Result<(), Fail> {
-    let mut clients = one_client(rt.alloc())?;
-    assert_streams(&rt, rt.alloc(), &mut clients)
+fn is_so(clients: &mut Clients, alloc: Global, client: ClientId, asked: Asked) -> Option<bool> {
+    match asked {
+        IsClient(client, name, in_size, out_size) => {
+            is_client(clients, client, name, in_size, out_size)
+        }
+        IsPort(port, name, caps) => is_port(clients, client, port, name, caps),
+        IsFilter(filter, kinds) => is_filter(clients, client, filter, kinds),
+        IsQueue(queue, shared) => is_queue(clients, client, queue, shared),
+        Shows(queue, moment, running, elapsed) => {
+            shows(clients, client, queue, moment, running, elapsed)
+        }
+        Reaches(queue, tick, nanos) => reaches(clients, client, queue, tick, nanos),
+        Feeds(port, piece, count, bytes) => {
+            feeds(clients, alloc, client, port, piece, count, bytes)
+        }
+        Offers(client, moment, kept) => offers(clients, alloc, client, moment, kept),
+        Waits(waiting, lost) => {
+            Some(clients.waiting(client) == waiting && clients.lost(client) == lost)
+        }
+        Receives(max, moment) => receives(clients, client, max, moment),
+    }
 }
 
-fn assert_streams(rt: &impl Abort, alloc: Global, clients: &mut Clients) -> Result<(), Fail> {
-    let one = client(128)?;
-    make_port(clients, one, port(0)?)?;
-    let mut out = Vec::new(alloc);
-    assert!(rt; fed(clients, one, &[0x90, 60], &mut out)? == 0);
-    assert!(rt; fed(clients, one, &[], &mut out)? == 0);
-    // Running status: the second note has no status of its own.
-    assert!(rt; fed(clients, one, &[64, 62, 64], &mut out)? == 2);
+fn is_client(
+    clients: &Clients,
+    client: u8,
+    name: Option<&[u8]>,
+    in_size: u32,
+    out_size: u32,
+) -> Option<bool> {
+    let client = ClientId::new(client)?;
+    Some(
+        clients.is_open(client) == name.is_some()
+            && clients.name(client) == name
+            && clients.in_size(client) == in_size
+            && clients.out_size(client) == out_size,
+    )
+}
+
+fn is_port(
+    clients: &Clients,
+    client: ClientId,
+    port: u8,
+    name: Option<&[u8]>,
+    caps: Option<u8>,
+) -> Option<bool> {
+    let port = PortNo::new(port)?;
+    let node = Node::Port(port);
+    Some(
+        clients.has_port(client, port) == name.is_some()
+            && clients.port_name(client, port) == name
+            && clients.caps(&Addr { client, node }).map(|c| c.bits()) == caps,
+    )
+}
+
+fn is_filter(clients: &Clients, client: ClientId, filter: u8, kinds: Option<u16>) -> Option<bool> {
+    let filter = FilterNo::new(filter)?;
+    Some(
+        clients.has_filter(client, filter) == kinds.is_some()
+            && clients.rule(client, filter).map(|r| r.args().kinds) == kinds,
+    )
+}
+
+fn is_queue(clients: &Clients, client: ClientId, queue: u8, shared: Option<bool>) -> Option<bool> {
+    let queue = QueueNo::new(queue)?;
+    let found = clients.queue(&QueueAddr { client, queue });
+    Some(
+        clients.has_queue(client, queue) == shared.is_some()
+            && found.map(|q| q.is_shared()) == shared,
+    )
+}
+
+fn shows(
+    clients: &Clients,
+    client: ClientId,
+    queue: u8,
+    moment: u64,
+    running: bool,
+    elapsed: u64,
+) -> Option<bool> {
+    let queue = QueueNo::new(queue)?;
+    let clock = clients.queue(&QueueAddr { client, queue })?.clock();
+    Some(clock.running() == running && clock.elapsed(moment) == elapsed)
+}
+
+fn reaches(clients: &Clients, client: ClientId, queue: u8, tick: u64, nanos: u128) -> Option<bool> {
+    let queue = QueueNo::new(queue)?;
+    let clock = clients.queue(&QueueAddr { client, queue })?.clock();
+    Some(clock.map().nanos_at(tick) == nanos)
+}
+
+fn offers(
+    clients: &mut Clients,
+    alloc: Global,
+    client: u8,
+    moment: u64,
+    kept: bool,
+) -> Option<bool> {
+    let client = ClientId::new(client)?;
+    let arrival = note_off(alloc, moment)?;
+    Some(clients.offer(client, arrival) == kept)
+}
+
+fn receives(clients: &mut Clients, client: ClientId, max: u32, moment: u64) -> Option<bool> {
+    let taken = clients.receive(client, max).ok()?;
+    Some(taken.as_slice().first()?.moment == moment)
+}
+
+fn feeds(
+    clients: &mut Clients,
+    alloc: Global,
+    client: ClientId,
+    port: u8,
+    piece: &[u8],
+    count: usize,
+    wanted: &[u8],
+) -> Option<bool> {
+    let port = PortNo::new(port)?;
+    if !clients.has_port(client, port) {
+        return None;
+    }
+    let mut messages = Vec::new(alloc);
+    let fed = clients.feed(client, port, piece, &mut messages).ok()?;
     let mut bytes = Vec::new(alloc);
-    for message in out.iter() {
-        message.append_to(&mut bytes)?;
+    for message in messages.iter() {
+        message.append_to(&mut bytes).ok()?;
     }
-    assert!(rt; bytes.as_slice() == [0x90, 60, 64, 0x90, 62, 64].as_slice());
-    Ok(())
+    Some(fed == count && bytes.as_slice() == wanted)
 }
 
-/// A queue of 96 ticks per quarter note, two of them a second.
-fn make_queue(clients: &mut Clients, alloc: Global, one: ClientId, n: QueueNo) -> Result<(), Fail> {
-    let entry = TempoEntry {
-        tick: 0,
-        tempo: 500_000,
-    };
-    clients.create_queue(one, n, TempoMap::new(alloc, 96, &[entry])?);
-    Ok(())
-}
-
-/// Whether the queue runs, and what it shows at a moment.
-fn shown(clients: &Clients, addr: &QueueAddr, moment: u64) -> Option<(bool, u64)> {
-    let held = clients.queue(addr)?;
-    Some((held.clock().running(), held.clock().elapsed(moment)))
-}
-
-#[test]
-fn queues_are_made_and_shared(rt: HostRuntime) -> Result<(), Fail> {
-    let mut clients = one_client(rt.alloc())?;
-    assert_queues(&rt, rt.alloc(), &mut clients)
-}
-
-fn assert_queues(rt: &impl Abort, alloc: Global, clients: &mut Clients) -> Result<(), Fail> {
-    let one = client(128)?;
-    make_queue(clients, alloc, one, queue(7)?)?;
-    assert!(rt; clients.has_queue(one, queue(7)?));
-    assert!(rt; !clients.has_queue(one, queue(0)?));
-    let addr = queue_at(128, 7)?;
-    assert!(rt; clients.queue(&addr).map(|q| q.is_shared()) == Some(false));
-    clients.share(one, queue(7)?);
-    assert!(rt; clients.queue(&addr).map(|q| q.is_shared()) == Some(true));
-    clients.delete_queue(one, queue(7)?);
-    assert!(rt; !clients.has_queue(one, queue(7)?));
-    Ok(())
-}
-
-#[tactic(auto, using(seq_clients::proofs::Tested::none_if_not))]
-fn start(clients: &mut Clients, addr: &QueueAddr, moment: u64) -> Result<(), Fail> {
-    match clients.queue(addr) {
-        Some(held) if !held.clock().running() => {}
-        _ => return Err("a queue that is held")?,
-    }
-    clients.start(addr.client, addr.queue, moment);
-    Ok(())
-}
-
-#[tactic(auto, using(seq_clients::proofs::Tested::some_if))]
-fn stop(clients: &mut Clients, addr: &QueueAddr, moment: u64) -> Result<(), Fail> {
-    match clients.queue(addr) {
-        Some(held) if held.clock().running() => {}
-        _ => return Err("a queue that runs")?,
-    }
-    clients.stop(addr.client, addr.queue, moment);
-    Ok(())
-}
-
-#[tactic(auto, using(seq_clients::proofs::Tested::none_if_not, crate::proofs::Shown::shown_by))]
-fn resume(clients: &mut Clients, addr: &QueueAddr, moment: u64) -> Result<(), Fail> {
-    match clients.queue(addr) {
-        Some(held) if !held.clock().running() && held.clock().elapsed(moment) <= moment => {}
-        _ => return Err("a queue that is held, and shows no more than the moment")?,
-    }
-    clients.resume(addr.client, addr.queue, moment);
-    Ok(())
-}
-
-/// Sets a tempo of a quarter of a second.
-fn set_tempo(clients: &mut Clients, addr: &QueueAddr, moment: u64) -> Result<(), Fail> {
-    match clients.queue(addr) {
-        Some(held) if held.clock().map().division() < 0x8000 => {}
-        _ => return Err("a queue that counts ticks per quarter note")?,
-    }
-    clients.set_tempo(addr.client, addr.queue, moment, 250_000)?;
-    Ok(())
-}
-
-#[test]
-fn queues_run(rt: HostRuntime) -> Result<(), Fail> {
-    let mut clients = one_client(rt.alloc())?;
-    assert_queue_runs(&rt, rt.alloc(), &mut clients)
-}
-
-fn assert_queue_runs(rt: &impl Abort, alloc: Global, clients: &mut Clients) -> Result<(), Fail> {
-    make_queue(clients, alloc, client(128)?, queue(0)?)?;
-    let addr = queue_at(128, 0)?;
-    assert!(rt; shown(clients, &addr, 5) == Some((false, 0)));
-    start(clients, &addr, 10)?;
-    assert!(rt; shown(clients, &addr, 30) == Some((true, 20)));
-    stop(clients, &addr, 110)?;
-    assert!(rt; shown(clients, &addr, 399) == Some((false, 100)));
-    resume(clients, &addr, 400)?;
-    assert!(rt; shown(clients, &addr, 500) == Some((true, 200)));
-    Ok(())
-}
-
-#[test]
-fn a_tempo_is_set(rt: HostRuntime) -> Result<(), Fail> {
-    let mut clients = one_client(rt.alloc())?;
-    assert_tempo(&rt, rt.alloc(), &mut clients)
-}
-
-fn assert_tempo(rt: &impl Abort, alloc: Global, clients: &mut Clients) -> Result<(), Fail> {
-    make_queue(clients, alloc, client(128)?, queue(0)?)?;
-    let addr = queue_at(128, 0)?;
-    set_tempo(clients, &addr, 0)?;
-    // 96 ticks last as long as a quarter note does.
-    let nanos = clients.queue(&addr).map(|q| q.clock().map().nanos_at(96));
-    assert!(rt; nanos == Some(250_000_000));
-    Ok(())
-}
-
-/// An arrival at port 0: a note off.
-fn arrival(alloc: Global, moment: u64) -> Result<Arrival, Fail> {
-    let message = Message::from_bytes(alloc, &[0x80, 60, 0])?;
-    Ok(Arrival {
+/// An arrival at port 0.
+fn note_off(alloc: Global, moment: u64) -> Option<Arrival> {
+    Some(Arrival {
         moment,
-        port: port(0)?,
-        message: message.ok_or("a message")?,
+        port: PortNo::new(0)?,
+        message: Message::from_bytes(alloc, &[0x80, 60, 0]).ok()??,
     })
-}
-
-#[test]
-fn pools_fill_and_drain(rt: HostRuntime) -> Result<(), Fail> {
-    let mut clients = one_client(rt.alloc())?;
-    assert_pools(&rt, rt.alloc(), &mut clients)
-}
-
-fn assert_pools(rt: &impl Abort, alloc: Global, clients: &mut Clients) -> Result<(), Fail> {
-    let one = client(128)?;
-    assert!(rt; clients.offer(one, arrival(alloc, 10)?));
-    assert!(rt; clients.offer(one, arrival(alloc, 20)?));
-    assert!(rt; !clients.offer(one, arrival(alloc, 30)?));
-    assert!(rt; (clients.waiting(one), clients.lost(one)) == (2, 1));
-    let taken = clients.receive(one, 1)?;
-    assert!(rt; taken.as_slice().first().map(|a| a.moment) == Some(10));
-    assert!(rt; (clients.waiting(one), clients.lost(one)) == (1, 1));
-    assert!(rt; !clients.offer(client(129)?, arrival(alloc, 40)?));
-    Ok(())
 }

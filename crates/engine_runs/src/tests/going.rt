@@ -35,7 +35,6 @@ const A_THIRD_CLIENT_THAT_MAY: Run = Run {
             log: "0 line 1 ok\n1 line 2 ok\n3 line 3 ok\n",
         },
     ],
-    file: None,
     until: 10,
 };
 
@@ -77,7 +76,6 @@ const A_PORT_MADE_AGAIN: Run = Run {
             log: "0 line 1 ok\n0 line 2 ok\n0 line 3 ok\n0 line 4 ok\n6 port 0 91 3C 40\n",
         },
     ],
-    file: None,
     until: 10,
 };
 
@@ -122,7 +120,6 @@ const A_CLIENT_OPENED_AGAIN: Run = Run {
                 6 line 10 ok\n7 port 0 90 40 40\n",
         },
     ],
-    file: None,
     until: 10,
 };
 

@@ -25,29 +25,19 @@ pub enum Say {
     DeletePort(u8),
     /// A filter that may be joined to and from.
     Filter(u8, RuleArgs),
-    SetFilter(u8, RuleArgs),
-    DeleteFilter(u8),
     Connect(At, At),
     Disconnect(At, At),
     Bytes(u8, &'static [u8]),
     Send(u8, &'static [u8]),
     /// A queue, its pulses per quarter note and its tempo.
     Queue(u8, u32, u32),
-    /// A queue, and the file whose division it takes.
-    QueueFrom(u8, u32),
     /// A queue is named by its owner and its number, here and below.
     DeleteQueue(u8, u8),
     Start(u8, u8),
-    Stop(u8, u8),
-    Continue(u8, u8),
-    Tempo(u8, u8, u32),
     Status(u8, u8),
     Share(u8, u8),
     /// On queue 0 of a client, from the actor's port 0.
     Schedule(u8, DueAt, &'static [u8]),
-    /// A file, on a queue of a client, from the actor's port 0.
-    Play(u8, u8, u32),
-    DropOutput,
     Receive(u32),
     Pools,
 }
@@ -177,19 +167,11 @@ fn command_of(alloc: Global, said: Say) -> Option<Command> {
         Port(port, name, caps) => port_made(alloc, port, name, caps),
         DeletePort(port) => PortNo::new(port).map(|port| Command::DeletePort { port }),
         Filter(filter, rule) => filter_made(filter, rule),
-        SetFilter(filter, rule) => {
-            FilterNo::new(filter).map(|filter| Command::SetFilter { filter, rule })
-        }
-        DeleteFilter(filter) => {
-            FilterNo::new(filter).map(|filter| Command::DeleteFilter { filter })
-        }
         Connect(source, target) => joined(source, target),
         Disconnect(source, target) => parted(source, target),
         Bytes(port, bytes) => bytes_fed(alloc, port, bytes),
         Send(port, bytes) => message_sent(alloc, port, bytes),
         Schedule(client, due_at, bytes) => scheduled(alloc, client, due_at, bytes),
-        Play(client, queue, file) => played(client, queue, file),
-        DropOutput => Some(Command::DropOutput),
         Receive(max) => Some(Command::Receive { max }),
         Pools => Some(Command::PoolStatus),
         _ => queue_command(said),
@@ -202,18 +184,10 @@ fn queue_command(said: Say) -> Option<Command> {
         Queue(queue, ppq, tempo) => {
             QueueNo::new(queue).map(|queue| Command::CreateQueue { queue, ppq, tempo })
         }
-        QueueFrom(queue, file) => {
-            QueueNo::new(queue).map(|queue| Command::CreateQueueFrom { queue, file })
-        }
         DeleteQueue(client, queue) => {
             queue_at(client, queue).map(|queue| Command::DeleteQueue { queue })
         }
         Start(client, queue) => queue_at(client, queue).map(|queue| Command::Start { queue }),
-        Stop(client, queue) => queue_at(client, queue).map(|queue| Command::Stop { queue }),
-        Continue(client, queue) => queue_at(client, queue).map(|queue| Command::Continue { queue }),
-        Tempo(client, queue, tempo) => {
-            queue_at(client, queue).map(|queue| Command::Tempo { queue, tempo })
-        }
         Status(client, queue) => {
             queue_at(client, queue).map(|queue| Command::QueueStatus { queue })
         }
@@ -231,7 +205,7 @@ fn message(alloc: Global, bytes: &[u8]) -> Option<Message> {
     Message::from_bytes(alloc, bytes).ok()?
 }
 
-fn address(at: At) -> Option<Addr> {
+pub fn address(at: At) -> Option<Addr> {
     let (client, node) = match at {
         At::P(client, port) => (client, Node::Port(PortNo::new(port)?)),
         At::F(client, filter) => (client, Node::Filter(FilterNo::new(filter)?)),
@@ -242,7 +216,7 @@ fn address(at: At) -> Option<Addr> {
     })
 }
 
-fn queue_at(client: u8, queue: u8) -> Option<QueueAddr> {
+pub fn queue_at(client: u8, queue: u8) -> Option<QueueAddr> {
     Some(QueueAddr {
         client: ClientId::new(client)?,
         queue: QueueNo::new(queue)?,
@@ -306,10 +280,4 @@ fn scheduled(alloc: Global, client: u8, due_at: DueAt, bytes: &[u8]) -> Option<C
         due_at,
         message,
     })
-}
-
-fn played(client: u8, queue: u8, file: u32) -> Option<Command> {
-    let queue = queue_at(client, queue)?;
-    let port = PortNo::new(0)?;
-    Some(Command::Play { queue, port, file })
 }

@@ -4,9 +4,7 @@ use super::lines::{Lines, Part};
 use crate::run_under_both;
 use midi_wire::Message;
 use seq_engine::*;
-use smf_files::SmfFile;
 use std::alloc::Global;
-use std::ops::RangeInclusive;
 use std::process::Abort;
 use std::test::Fail;
 
@@ -14,8 +12,6 @@ use std::test::Fail;
 #[derive(Clone, Copy)]
 pub struct Run {
     pub parts: &'static [Part],
-    /// The only file, where there is one.
-    pub file: Option<&'static [u8]>,
     pub until: u64,
 }
 
@@ -37,46 +33,21 @@ pub fn assert_logs(
     Ok(())
 }
 
-/// The log of a run, which is the same under both agendas.
+/// The log of a run.
 pub fn ran(rt: &impl Abort, alloc: Global, run: &Run) -> Result<RunLog, Fail> {
     let lines = Lines::of(alloc, run.parts)?;
-    match run.file {
-        Some(file) => ran_on(rt, alloc, file, lines.inputs(), run.until),
-        None => ran_without_files(rt, alloc, &lines, run.until),
-    }
+    ran_of(rt, alloc, lines.inputs(), run.until)
 }
 
-pub fn ran_without_files(
+/// The log of these inputs, which is the same under both agendas.
+pub fn ran_of(
     rt: &impl Abort,
     alloc: Global,
-    lines: &Lines,
-    until: u64,
-) -> Result<RunLog, Fail> {
-    ran_with(rt, alloc, &[], lines.inputs(), until)
-}
-
-/// The log of these inputs with one file.
-pub fn ran_on(
-    rt: &impl Abort,
-    alloc: Global,
-    file: &[u8],
-    inputs: &[Input],
-    until: u64,
-) -> Result<RunLog, Fail> {
-    let files = [SmfFile::read(alloc, file)?];
-    ran_with(rt, alloc, &files, inputs, until)
-}
-
-/// The log of these inputs with these files.
-pub fn ran_with(
-    rt: &impl Abort,
-    alloc: Global,
-    files: &[SmfFile<'_>],
     inputs: &[Input],
     until: u64,
 ) -> Result<RunLog, Fail> {
     assert!(rt; is_timed(inputs, until));
-    let (log, sorted) = run_under_both(alloc, files, inputs, until)?;
+    let (log, sorted) = run_under_both(alloc, &[], inputs, until)?;
     assert!(rt; log.entries.len() == sorted.entries.len());
     for client in 128..132 {
         let heard = heard_by(alloc, &sorted, client)?;
@@ -185,15 +156,6 @@ pub fn assert_log(
     let heard = heard_by(alloc, log, client)?;
     assert!(rt; heard.as_str() == wanted);
     Ok(())
-}
-
-/// The log of lines that are all carried out at one moment.
-pub fn all_done(alloc: Global, moment: u64, lines: RangeInclusive<u64>) -> Result<String, Fail> {
-    let mut text = String::new(alloc);
-    for line in lines {
-        text.push_str(format!(in alloc; "{moment} line {line} ok\n")?.as_str())?;
-    }
-    Ok(text)
 }
 
 /// This came to port 0 of a client, byte for byte.

@@ -3,7 +3,7 @@
 use super::lines::At::P;
 use super::lines::Say::*;
 use super::lines::{ALL, Lines, Say};
-use super::logs::{assert_bytes, assert_log, port_0_of, ran_without_files};
+use super::logs::{assert_bytes, assert_log, port_0_of, ran_of};
 use super::sending::LISTENS;
 use seq_engine::*;
 use std::alloc::Global;
@@ -30,7 +30,7 @@ fn a_hundred_thousand_notes(rt: HostRuntime) -> Result<(), Fail> {
     lines.by(129);
     lines.say_all(LISTENS)?;
     add_notes(&mut lines, 100_000)?;
-    let log = ran_without_files(&rt, alloc, &lines, 100_000)?;
+    let log = ran_of(&rt, alloc, lines.inputs(), 100_000)?;
     assert!(rt; log.entries.len() == 300_005);
     // The status of the first note, and two bytes of each.
     assert!(rt; log.port_bytes(port_0_of(129)?)?.len() == 200_001);
@@ -71,7 +71,7 @@ fn ten_thousand_messages_in_a_piece(rt: HostRuntime) -> Result<(), Fail> {
     let alloc = rt.alloc();
     let mut lines = Lines::new(alloc);
     add_flood(&mut lines, ticks(alloc, 10_000)?)?;
-    let log = ran_without_files(&rt, alloc, &lines, 2)?;
+    let log = ran_of(&rt, alloc, lines.inputs(), 2)?;
     let sent = "0 line 1 ok\n0 line 2 ok\n1 line 3 ok 10000\n";
     assert_log(&rt, alloc, &log, 128, sent)?;
     assert!(rt; log.entries.len() == 2007);
@@ -183,7 +183,7 @@ fn a_full_house(rt: HostRuntime) -> Result<(), Fail> {
     let alloc = rt.alloc();
     let mut lines = Lines::new(alloc);
     add_full_house(&mut lines)?;
-    let log = ran_without_files(&rt, alloc, &lines, 0)?;
+    let log = ran_of(&rt, alloc, lines.inputs(), 0)?;
     assert!(rt; log.entries.len() == 64 * 41);
     assert!(rt; log.listing.as_slice() == full_listing(alloc)?.as_bytes());
     Ok(())

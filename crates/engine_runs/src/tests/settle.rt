@@ -15,15 +15,26 @@ fn assert_next(rt: &impl Abort, events: &mut Events<'_>, first: u8, last: u8) ->
     Ok(())
 }
 
+/// No event is left.
+fn assert_end(rt: &impl Abort, events: &mut Events<'_>) -> Result<(), Fail> {
+    assert!(rt; events.first_due().is_none());
+    assert!(rt; events.next()?.is_none());
+    Ok(())
+}
+
+// Events are lent by the test that makes them, so that they are dropped at one place alone: that is proved sooner.
+
+fn assert_scheduled(rt: &impl Abort, events: &mut Events<'_>) -> Result<(), Fail> {
+    assert!(rt; events.first_due() == Some(Due::Nanos(7)));
+    assert_next(rt, events, 60, 64)?;
+    assert_end(rt, events)
+}
+
 #[test]
 fn a_scheduled_message_goes_once(rt: HostRuntime) -> Result<(), Fail> {
     let note = Message::channel(Kind::NoteOn, 0, 60, 64).ok_or("a message")?;
     let mut events = Events::scheduled(Due::Nanos(7), note);
-    assert!(rt; events.first_due() == Some(Due::Nanos(7)));
-    assert_next(&rt, &mut events, 60, 64)?;
-    assert!(rt; events.first_due().is_none());
-    assert!(rt; events.next()?.is_none());
-    Ok(())
+    assert_scheduled(&rt, &mut events)
 }
 
 /// A format 0 file with a division of 480: 500,000 microseconds a quarter note, a note on at tick 0 and its end, by
@@ -31,15 +42,17 @@ fn a_scheduled_message_goes_once(rt: HostRuntime) -> Result<(), Fail> {
 const NOTE_FILE: &[u8] =
     b"MThd\x00\x00\x00\x06\x00\x00\x00\x01\x01\xE0MTrk\x00\x00\x00\x13\x00\xFF\x51\x03\x07\xA1\x20\x00\x90\x3C\x40\x83\x60\x3C\x00\x00\xFF\x2F\x00";
 
+fn assert_played(rt: &impl Abort, events: &mut Events<'_>) -> Result<(), Fail> {
+    for (tick, velocity) in [(0, 64), (480, 0)] {
+        assert!(rt; events.first_due() == Some(Due::Tick(tick)));
+        assert_next(rt, events, 60, velocity)?;
+    }
+    assert_end(rt, events)
+}
+
 #[test]
 fn a_file_plays_by_tick(rt: HostRuntime) -> Result<(), Fail> {
     let file = SmfFile::read(rt.alloc(), NOTE_FILE)?;
     let mut events = Events::played(file.cursor()?);
-    assert!(rt; events.first_due() == Some(Due::Tick(0)));
-    assert_next(&rt, &mut events, 60, 64)?;
-    assert!(rt; events.first_due() == Some(Due::Tick(480)));
-    assert_next(&rt, &mut events, 60, 0)?;
-    assert!(rt; events.first_due().is_none());
-    assert!(rt; events.next()?.is_none());
-    Ok(())
+    assert_played(&rt, &mut events)
 }

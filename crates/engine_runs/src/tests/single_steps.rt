@@ -3,7 +3,7 @@
 use super::lines::At::P;
 use super::lines::Say::*;
 use super::lines::{Lines, Say};
-use super::logs::{heard_by, ran_with};
+use super::logs::{heard_by, ran_of};
 use agenda_heap::HeapAgenda;
 use seq_engine::*;
 use std::alloc::Global;
@@ -87,7 +87,7 @@ fn assert_step(
 #[test]
 fn nobody_says_anything(rt: HostRuntime) -> Result<(), Fail> {
     let alloc = rt.alloc();
-    let log = ran_with(&rt, alloc, &[], &[], u64::MAX)?;
+    let log = ran_of(&rt, alloc, &[], u64::MAX)?;
     assert!(rt; log.entries.len() == 0);
     assert!(rt; log.listing.len() == 0);
     assert!(rt; heard_by(alloc, &log, 128)?.as_str() == "");
@@ -96,12 +96,12 @@ fn nobody_says_anything(rt: HostRuntime) -> Result<(), Fail> {
 
 #[test]
 fn faults_print(rt: HostRuntime) -> Result<(), Fail> {
-    assert!(rt;
-        format!(in rt.alloc(); "{}", EngineFault::OutOfMemory)?.as_str() == "out of memory"
-    );
-    assert!(rt;
-        format!(in rt.alloc(); "{}", EngineFault::Failed)?.as_str()
-            == "an earlier call found no memory"
-    );
+    let faults = [
+        (EngineFault::OutOfMemory, "out of memory"),
+        (EngineFault::Failed, "an earlier call found no memory"),
+    ];
+    for (fault, text) in faults {
+        assert!(rt; format!(in rt.alloc(); "{fault}")?.as_str() == text);
+    }
     Ok(())
 }
