@@ -1,7 +1,7 @@
 //! Devices that fail.
 
 use super::devices::Devices;
-use super::sending::{FIRST_NOTE, LISTENER, SENDER};
+use super::sending::FIRST_NOTE;
 use super::session::{Session, assert_text};
 use super::strangers::HOSTILE_THIRD_SCRIPT;
 use agenda_heap::HeapAgenda;
@@ -11,17 +11,6 @@ use seq_session::*;
 use std::alloc::Global;
 use std::process::Abort;
 use std::test::Fail;
-
-/// The first note, beside a third script that is empty.
-fn devices(alloc: Global) -> Result<Devices, Fail> {
-    let mut devices = Devices::of(alloc, FIRST_NOTE.parts)?;
-    devices.add(alloc, 131, b"")?;
-    Ok(devices)
-}
-
-fn run_to_fault(alloc: Global, devices: &mut Devices) -> Result<Option<SessionFault>, Fail> {
-    run_to(alloc, devices, FIRST_NOTE.until)
-}
 
 /// Runs a session without files.
 fn run_to(alloc: Global, devices: &mut Devices, until: u64) -> Result<Option<SessionFault>, Fail> {
@@ -33,54 +22,16 @@ fn client(number: u8) -> Result<ClientId, Fail> {
     Ok(ClientId::new(number).ok_or("a client number")?)
 }
 
-#[test]
-fn reader_that_fails(rt: HostRuntime) -> Result<(), Fail> {
-    let alloc = rt.alloc();
-    let mut devices = devices(alloc)?;
-    if let Some(source) = devices.scripts.last_mut() {
-        source.reader.fail_at(0);
-    }
-    let fault = run_to_fault(alloc, &mut devices)?;
-    let client = client(131)?;
-    assert!(rt; fault == Some(SessionFault::Read { client }));
-    for log in devices.logs.iter() {
-        assert_text(&rt, log.bytes(), "");
-    }
-    assert_text(&rt, devices.listing.bytes(), "");
-    Ok(())
-}
-
-/// A log takes ten bytes, and then fails.
-#[test]
-fn log_that_fails(rt: HostRuntime) -> Result<(), Fail> {
-    let alloc = rt.alloc();
-    let mut devices = devices(alloc)?;
-    if let Some(log) = devices.logs.get_mut(1) {
-        log.piece(10);
-        log.fail_at(1);
-    }
-    let fault = run_to_fault(alloc, &mut devices)?;
-    let client = client(129)?;
-    assert!(rt; fault == Some(SessionFault::Write { client }));
-    let wanted = [SENDER.log, "0 line 1 o", ""];
-    for (log, wanted) in devices.logs.iter().zip(wanted.iter()) {
-        assert_text(&rt, log.bytes(), wanted);
-    }
-    assert_text(&rt, devices.listing.bytes(), "");
-    Ok(())
-}
-
 /// The listing takes no byte. All logs are whole.
 #[test]
 fn listing_that_takes_nothing(rt: HostRuntime) -> Result<(), Fail> {
     let alloc = rt.alloc();
-    let mut devices = devices(alloc)?;
+    let mut devices = Devices::of(alloc, FIRST_NOTE.parts)?;
     devices.listing.piece(0);
-    let fault = run_to_fault(alloc, &mut devices)?;
+    let fault = run_to(alloc, &mut devices, FIRST_NOTE.until)?;
     assert!(rt; fault == Some(SessionFault::WriteListing));
-    let wanted = [SENDER.log, LISTENER.log, ""];
-    for (log, wanted) in devices.logs.iter().zip(wanted.iter()) {
-        assert_text(&rt, log.bytes(), wanted);
+    for (log, part) in devices.logs.iter().zip(FIRST_NOTE.parts.iter()) {
+        assert_text(&rt, log.bytes(), part.log);
     }
     assert_text(&rt, devices.listing.bytes(), "");
     Ok(())
@@ -132,19 +83,37 @@ fn assert_logs(rt: &impl Abort, devices: &Devices, plain: &Devices, place: usize
     }
 }
 
+/// A session ends so, on these devices.
+fn assert_ends(
+    rt: &impl Abort,
+    alloc: Global,
+    devices: &mut Devices,
+    until: u64,
+    wanted: Option<SessionFault>,
+) -> Result<(), Fail> {
+    assert!(rt; run_to(alloc, devices, until)? == wanted);
+    Ok(())
+}
+
+// What a session without a failure leaves is lent to those that follow, so that it is dropped at one place alone.
+
 /// Each of the two reads of each script fails: the first gives the script, the second tells its end.
-fn assert_reads(rt: &impl Abort, alloc: Global, session: &Session) -> Result<(), Fail> {
-    let plain = plain(rt, alloc, session)?;
+fn assert_reads(
+    rt: &impl Abort,
+    alloc: Global,
+    session: &Session,
+    plain: &Devices,
+) -> Result<(), Fail> {
     for (place, part) in session.parts.iter().enumerate() {
+        let client = client(part.client)?;
         for read in 0..2 {
-            let mut devices = bytewise(alloc, session, &plain)?;
+            let mut devices = bytewise(alloc, session, plain)?;
             if let Some(source) = devices.scripts.get_mut(place) {
                 source.reader.fail_at(read);
             }
-            let fault = run_to(alloc, &mut devices, session.until)?;
-            let client = client(part.client)?;
-            assert!(rt; fault == Some(SessionFault::Read { client }));
-            assert_logs(rt, &devices, &plain, 0, 0);
+            let fault = Some(SessionFault::Read { client });
+            assert_ends(rt, alloc, &mut devices, session.until, fault)?;
+            assert_logs(rt, &devices, plain, 0, 0);
             assert_front(rt, &devices.listing, b"", 0);
         }
     }
@@ -152,18 +121,22 @@ fn assert_reads(rt: &impl Abort, alloc: Global, session: &Session) -> Result<(),
 }
 
 /// Each write of each log fails, a byte each.
-fn assert_log_writes(rt: &impl Abort, alloc: Global, session: &Session) -> Result<(), Fail> {
-    let plain = plain(rt, alloc, session)?;
+fn assert_log_writes(
+    rt: &impl Abort,
+    alloc: Global,
+    session: &Session,
+    plain: &Devices,
+) -> Result<(), Fail> {
     for (place, part) in session.parts.iter().enumerate() {
+        let client = client(part.client)?;
         for write in 0..part.log.len() {
-            let mut devices = bytewise(alloc, session, &plain)?;
+            let mut devices = bytewise(alloc, session, plain)?;
             if let Some(log) = devices.logs.get_mut(place) {
                 log.fail_at(write as u64);
             }
-            let fault = run_to(alloc, &mut devices, session.until)?;
-            let client = client(part.client)?;
-            assert!(rt; fault == Some(SessionFault::Write { client }));
-            assert_logs(rt, &devices, &plain, place, write);
+            let fault = Some(SessionFault::Write { client });
+            assert_ends(rt, alloc, &mut devices, session.until, fault)?;
+            assert_logs(rt, &devices, plain, place, write);
             assert_front(rt, &devices.listing, b"", 0);
         }
     }
@@ -171,38 +144,31 @@ fn assert_log_writes(rt: &impl Abort, alloc: Global, session: &Session) -> Resul
 }
 
 /// Each write of the listing fails, a byte each; and then none does.
-fn assert_listing_writes(rt: &impl Abort, alloc: Global, session: &Session) -> Result<(), Fail> {
-    let plain = plain(rt, alloc, session)?;
+fn assert_listing_writes(
+    rt: &impl Abort,
+    alloc: Global,
+    session: &Session,
+    plain: &Devices,
+) -> Result<(), Fail> {
     let listing = plain.listing.bytes();
     for write in 0..listing.len() + 1 {
-        let mut devices = bytewise(alloc, session, &plain)?;
+        let mut devices = bytewise(alloc, session, plain)?;
         devices.listing.fail_at(write as u64);
-        let fault = run_to(alloc, &mut devices, session.until)?;
-        if write < listing.len() {
-            assert!(rt; fault == Some(SessionFault::WriteListing));
-        } else {
-            assert!(rt; fault.is_none());
-        }
-        assert_logs(rt, &devices, &plain, session.parts.len(), 0);
+        let fault = (write < listing.len()).then_some(SessionFault::WriteListing);
+        assert_ends(rt, alloc, &mut devices, session.until, fault)?;
+        assert_logs(rt, &devices, plain, session.parts.len(), 0);
         assert_front(rt, &devices.listing, listing, write);
     }
     Ok(())
 }
 
 #[test]
-fn each_read_fails(rt: HostRuntime) -> Result<(), Fail> {
-    assert_reads(&rt, rt.alloc(), &FIRST_NOTE)?;
-    assert_reads(&rt, rt.alloc(), &HOSTILE_THIRD_SCRIPT)
-}
-
-#[test]
-fn each_write_of_a_log_fails(rt: HostRuntime) -> Result<(), Fail> {
-    assert_log_writes(&rt, rt.alloc(), &FIRST_NOTE)?;
-    assert_log_writes(&rt, rt.alloc(), &HOSTILE_THIRD_SCRIPT)
-}
-
-#[test]
-fn each_write_of_the_listing_fails(rt: HostRuntime) -> Result<(), Fail> {
-    assert_listing_writes(&rt, rt.alloc(), &FIRST_NOTE)?;
-    assert_listing_writes(&rt, rt.alloc(), &HOSTILE_THIRD_SCRIPT)
+fn each_read_and_each_write_fails(rt: HostRuntime) -> Result<(), Fail> {
+    for session in [FIRST_NOTE, HOSTILE_THIRD_SCRIPT] {
+        let plain = plain(&rt, rt.alloc(), &session)?;
+        assert_reads(&rt, rt.alloc(), &session, &plain)?;
+        assert_log_writes(&rt, rt.alloc(), &session, &plain)?;
+        assert_listing_writes(&rt, rt.alloc(), &session, &plain)?;
+    }
+    Ok(())
 }

@@ -1,21 +1,16 @@
-//! Scripts that are read with ample memory.
+//! The line of each command. Scripts with lines that are skipped, and of the greatest length, are in the sessions.
 
-ghost use Rattle.std.specs.Prelude.{◌≡◌, IfOk, length};
-
-use memory::OutOfMemory;
 use node_table::ClientId;
-use script_text::{MOST_SCRIPT, ScriptRead, Skip, SkipReason, parse_script};
+use script_text::{ScriptRead, SkipReason, parse_script};
 use seq_state::Command;
 use std::alloc::Global;
 use std::process::Abort;
 use std::test::Fail;
 
 /// The reading of a script of client 131, for a run of 10 ns without files.
-fn read(alloc: Global, text: &[u8]) -> Result<Option<ScriptRead>, OutOfMemory> {
-    match ClientId::new(131) {
-        Some(client) => Ok(Some(parse_script(alloc, client, text, &[], 10)?)),
-        None => Ok(None),
-    }
+fn read(alloc: Global, text: &[u8]) -> Result<ScriptRead, Fail> {
+    let client = ClientId::new(131).ok_or("a client number")?;
+    Ok(parse_script(alloc, client, text, &[], 10)?)
 }
 
 /// The word of a command's line.
@@ -96,82 +91,9 @@ fn reads_each_form(rt: HostRuntime) -> Result<(), Fail> {
         let mut text = Vec::from_slice(rt.alloc(), b"7\t ")?;
         text.extend_from_slice(line.as_bytes())?;
         text.extend_from_slice(b"\r\n")?;
-        let script = read(rt.alloc(), text.as_slice())?.ok_or("a script")?;
+        let script = read(rt.alloc(), text.as_slice())?;
         assert_command(&rt, &script, line);
     }
-    Ok(())
-}
-
-/// A line that can't be read, a late one, and one past the end; the line after it is taken.
-#[test]
-fn skips_hostile_lines(rt: HostRuntime) -> Result<(), Fail> {
-    let text =
-        b"0 open x 1 1\nzzz\n1 port 0 in 66\n0 close\n2 connect 128:p0 131:p0\n99 close\n3 connect 131:p0 131:f0";
-    let Some(script) = read(rt.alloc(), text)? else {
-        assert!(rt; false);
-        return Ok(());
-    };
-    let skips = [
-        Skip {
-            line: 2,
-            why: SkipReason::Unreadable,
-        },
-        Skip {
-            line: 4,
-            why: SkipReason::Late,
-        },
-        Skip {
-            line: 6,
-            why: SkipReason::PastEnd,
-        },
-    ];
-    assert!(rt; script.skips.as_slice() == skips.as_slice());
-    let mut lines = Vec::new(rt.alloc());
-    for taken in script.inputs.as_slice() {
-        lines.push(taken.line)?;
-    }
-    assert!(rt; lines.as_slice() == [1, 3, 5, 7].as_slice());
-    Ok(())
-}
-
-#[test]
-fn reads_the_longest_script(rt: HostRuntime) -> Result<(), Fail> {
-    let mut text = Vec::new(rt.alloc());
-    for _byte in 0..MOST_SCRIPT {
-        text.push(b'\n')?;
-    }
-    let Some(script) = read(rt.alloc(), text.as_slice())? else {
-        assert!(rt; false);
-        return Ok(());
-    };
-    assert!(rt; script.inputs.len() == 0);
-    assert!(rt; script.skips.len() == 0);
-    text.push(b'\n')?;
-    let Some(script) = read(rt.alloc(), text.as_slice())? else {
-        assert!(rt; false);
-        return Ok(());
-    };
-    assert!(rt; script.inputs.len() == 0);
-    let too_long = [Skip {
-        line: 0,
-        why: SkipReason::TooLong,
-    }];
-    assert!(rt; script.skips.as_slice() == too_long.as_slice());
-    Ok(())
-}
-
-#[test]
-fn reads_as_many_lines_as_fit(rt: HostRuntime) -> Result<(), Fail> {
-    let mut text = Vec::new(rt.alloc());
-    for _line in 0..131_072u32 {
-        text.extend_from_slice(b"0 pools\n")?;
-    }
-    let Some(script) = read(rt.alloc(), text.as_slice())? else {
-        assert!(rt; false);
-        return Ok(());
-    };
-    assert!(rt; script.inputs.len() == 131_072);
-    assert!(rt; script.skips.len() == 0);
     Ok(())
 }
 

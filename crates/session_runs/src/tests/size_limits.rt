@@ -15,33 +15,28 @@ use std::test::Fail;
 /// The first note beside a script of client 131, which gets this log under both agendas. The
 /// circle's logs are what they are without it.
 fn assert_beside(rt: &impl Abort, alloc: Global, script: &[u8], log: &str) -> Result<(), Fail> {
-    let heap = run_beside(rt, alloc, script, HeapAgenda::new(alloc), log)?;
-    let sorted = run_beside(rt, alloc, script, SortedAgenda::new(alloc), log)?;
     let mut circle = Devices::of(alloc, FIRST_NOTE.parts)?;
-    run_plain(
-        rt,
-        alloc,
-        &mut circle,
-        HeapAgenda::new(alloc),
-        FIRST_NOTE.until,
-    )?;
-    assert_among(rt, &circle, &heap)?;
-    assert_among(rt, &circle, &sorted)
+    let heap = HeapAgenda::new(alloc);
+    run_plain(rt, alloc, &mut circle, heap, FIRST_NOTE.until)?;
+    assert_run_beside(rt, alloc, script, HeapAgenda::new(alloc), log, &circle)?;
+    assert_run_beside(rt, alloc, script, SortedAgenda::new(alloc), log, &circle)
 }
 
-fn run_beside<A: Agenda + Drop>(
+/// The same under one agenda.
+fn assert_run_beside<A: Agenda + Drop>(
     rt: &impl Abort,
     alloc: Global,
     script: &[u8],
     agenda: A,
     log: &str,
-) -> Result<Devices, Fail>
+    circle: &Devices,
+) -> Result<(), Fail>
     requires { A.content agenda ≡ finmap.empty }
 {
     let mut devices = beside(alloc, script)?;
     run_plain(rt, alloc, &mut devices, agenda, FIRST_NOTE.until)?;
     assert_last(rt, &devices, log)?;
-    Ok(devices)
+    assert_among(rt, circle, &devices)
 }
 
 fn beside(alloc: Global, script: &[u8]) -> Result<Devices, Fail> {

@@ -6,10 +6,11 @@ use byte_io::{MemSink, write_all};
 use memory::OutOfMemory;
 use node_table::{ClientId, PortAddr, PortNo};
 use session_tools::{
-    ScriptWord, midi_files, open_files, port_named, print_logs, scripts_named, taken_files,
-    until_named,
+    FolderFiles, ScriptWord, midi_files, open_files, port_named, print_logs, scripts_named,
+    taken_files, until_named,
 };
 use std::alloc::Global;
+use std::process::Abort;
 use std::test::Fail;
 use tool_text::{ProgramFault, ToolFault};
 
@@ -82,6 +83,16 @@ fn owned(alloc: Global, names: &[&str]) -> Result<Vec<String>, Fail> {
     Ok(all)
 }
 
+// What is owned is lent by the function that makes it, so that it is dropped at one place alone: that is proved sooner.
+
+/// The names are these, in this order.
+fn check_names(rt: &impl Abort, names: &[String], wanted: &[&str]) {
+    assert!(rt; names.len() == wanted.len());
+    for (name, wanted) in names.iter().zip(wanted.iter()) {
+        assert!(rt; name.as_str() == *wanted);
+    }
+}
+
 #[test]
 fn keeps_midi_files_in_byte_order(rt: HostRuntime) -> Result<(), Fail> {
     let names = [
@@ -96,10 +107,7 @@ fn keeps_midi_files_in_byte_order(rt: HostRuntime) -> Result<(), Fail> {
     ];
     let files = midi_files(owned(rt.alloc(), &names)?)?;
     let wanted = [".mid", "B.mid", "a.mid", "b.mid", "é.mid"];
-    assert!(rt; files.len() == wanted.len());
-    for (file, name) in files.iter().zip(wanted) {
-        assert!(rt; file.as_str() == name);
-    }
+    check_names(&rt, files.as_slice(), &wanted);
     Ok(())
 }
 
@@ -123,22 +131,21 @@ fn takes_256_files(rt: HostRuntime) -> Result<(), Fail> {
 const SHORT: &[u8; 26] =
     b"MThd\x00\x00\x00\x06\x00\x00\x00\x01\x01\xE0MTrk\x00\x00\x00\x04\x00\xFF\x2F\x00";
 
-#[test]
-fn leaves_out_what_is_no_file(rt: HostRuntime) -> Result<(), Fail> {
-    let alloc = rt.alloc();
-    let names = [
-        "a.mid".to_string(alloc)?,
-        "b.mid".to_string(alloc)?,
-        "c.mid".to_string(alloc)?,
-        "d.mid".to_string(alloc)?,
-    ];
-    let contents = [
-        Some(Vec::from_slice(alloc, SHORT)?),
-        None,
-        Some(Vec::from_slice(alloc, b"MThd")?),
-        Some(Vec::from_slice(alloc, SHORT)?),
-    ];
-    let opened = open_files(alloc, &names, &contents)?;
+/// What each file of a folder holds, where it could be read.
+fn contents(alloc: Global, files: &[Option<&[u8]>]) -> Result<Vec<Option<Vec<u8>>>, Fail> {
+    let mut contents = Vec::new(alloc);
+    for file in files {
+        let content = match file {
+            Some(bytes) => Some(Vec::from_slice(alloc, bytes)?),
+            None => None,
+        };
+        contents.push(content)?;
+    }
+    Ok(contents)
+}
+
+/// The first and the last of four files can be played.
+fn check_opened(rt: &impl Abort, opened: &FolderFiles<'_>) {
     assert!(rt; opened.files.len() == 2);
     assert!(rt; opened.names.len() == 2);
     for (name, wanted) in opened.names.iter().zip(["a.mid", "d.mid"]) {
@@ -148,7 +155,28 @@ fn leaves_out_what_is_no_file(rt: HostRuntime) -> Result<(), Fail> {
     for (name, wanted) in opened.left_out.iter().zip(["b.mid", "c.mid"]) {
         assert!(rt; *name == wanted);
     }
+}
+
+fn check_four(
+    rt: &impl Abort,
+    alloc: Global,
+    names: &[String],
+    contents: &[Option<Vec<u8>>],
+) -> Result<(), Fail> {
+    if names.len() != contents.len() {
+        return Err("a name for each file")?;
+    }
+    check_opened(rt, &open_files(alloc, names, contents)?);
     Ok(())
+}
+
+#[test]
+fn leaves_out_what_is_no_file(rt: HostRuntime) -> Result<(), Fail> {
+    let alloc = rt.alloc();
+    let names = owned(alloc, &["a.mid", "b.mid", "c.mid", "d.mid"])?;
+    let files = [Some(&SHORT[..]), None, Some(&b"MThd"[..]), Some(&SHORT[..])];
+    let contents = contents(alloc, &files)?;
+    check_four(&rt, alloc, names.as_slice(), contents.as_slice())
 }
 
 fn sink(alloc: Global) -> Result<MemSink, OutOfMemory>
@@ -167,17 +195,26 @@ fn script<'a>(client: ClientId) -> ScriptWord<'a> {
     ScriptWord { client, path: "a" }
 }
 
-#[test]
-fn prints_logs_and_the_listing(rt: HostRuntime) -> Result<(), Fail> {
-    let alloc = rt.alloc();
+/// Prints the logs of clients 128 and 191, of which the one has a line, and the listing, and tells the outcome.
+fn print(
+    alloc: Global,
+    listing: Option<&[u8]>,
+    out: &mut MemSink,
+) -> Result<Result<(), ToolFault>, Fail>
+    requires { out.old.broken ≡ false }
+{
     let first = ClientId::new(128).ok_or("a client number")?;
     let second = ClientId::new(191).ok_or("a client number")?;
     let scripts = [script(first), script(second)];
-    let logs = [log(alloc, b"0 line 1 ok\n")?, log(alloc, b"")?];
+    let logs = [log(alloc, b"0 line 1 ok\n")?, sink(alloc)?];
+    Ok(print_logs(alloc, &scripts, &logs, listing, out))
+}
+
+#[test]
+fn prints_logs_and_the_listing(rt: HostRuntime) -> Result<(), Fail> {
+    let mut out = sink(rt.alloc())?;
     let listing = b"client 128 keys in 1 out 1\n".as_slice();
-    let mut out = sink(alloc)?;
-    let done = print_logs(alloc, &scripts, &logs, Some(listing), &mut out);
-    assert!(rt; done == Ok(()));
+    assert!(rt; print(rt.alloc(), Some(listing), &mut out)? == Ok(()));
     let text = b"client 128\n0 line 1 ok\nclient 191\nclient 128 keys in 1 out 1\n";
     assert!(rt; out.bytes() == text.as_slice());
     Ok(())
@@ -185,15 +222,9 @@ fn prints_logs_and_the_listing(rt: HostRuntime) -> Result<(), Fail> {
 
 #[test]
 fn stops_at_a_failed_write(rt: HostRuntime) -> Result<(), Fail> {
-    let alloc = rt.alloc();
-    let first = ClientId::new(128).ok_or("a client number")?;
-    let second = ClientId::new(191).ok_or("a client number")?;
-    let scripts = [script(first), script(second)];
-    let logs = [log(alloc, b"0 line 1 ok\n")?, log(alloc, b"")?];
-    let mut out = sink(alloc)?;
+    let mut out = sink(rt.alloc())?;
     out.fail_at(2);
-    let done = print_logs(alloc, &scripts, &logs, None, &mut out);
-    assert!(rt; done == Err(ToolFault::Write));
+    assert!(rt; print(rt.alloc(), None, &mut out)? == Err(ToolFault::Write));
     assert!(rt; out.bytes() == b"client 128\n0 line 1 ok\n".as_slice());
     Ok(())
 }
