@@ -17,7 +17,7 @@ fn assert_alone(rt: &impl Abort, alloc: Global, run: &Run, circle: &[u8]) -> Res
     assert_same(rt, alloc, &log, &ran_alone(rt, alloc, run, circle)?)
 }
 
-/// The log of a run's lines of a circle alone.
+/// The log of what a circle says in a run, without the others.
 fn ran_alone(rt: &impl Abort, alloc: Global, run: &Run, circle: &[u8]) -> Result<RunLog, Fail> {
     let mut lines = Lines::of(alloc, run.parts)?;
     lines.only(circle);

@@ -159,17 +159,26 @@ fn passes_on_an_error_of_std(rt: HostRuntime) {
     assert!(rt; out.write(b"four") == Err(DeviceFault::Broken));
 }
 
+const DEVICE_FAULTS: &[(DeviceFault, &'static str)] = &[
+    (DeviceFault::Broken, "the device is broken"),
+    (DeviceFault::OutOfMemory, "out of memory"),
+];
+
+const WRITE_FAULTS: &[(WriteFault, &'static str)] = &[
+    (
+        WriteFault::Device(DeviceFault::OutOfMemory),
+        "out of memory",
+    ),
+    (WriteFault::TookNothing, "the device took no byte"),
+];
+
 #[test]
 fn shows_each_fault(rt: HostRuntime) -> Result<(), Fail> {
-    let alloc = rt.alloc();
-    let grows = WriteFault::Device(DeviceFault::OutOfMemory);
-    check_text(&rt, alloc, &DeviceFault::Broken, "the device is broken")?;
-    check_text(&rt, alloc, &OutOfMemory, "out of memory")?;
-    check_text(&rt, alloc, &grows, "out of memory")?;
-    check_text(
-        &rt,
-        alloc,
-        &WriteFault::TookNothing,
-        "the device took no byte",
-    )
+    for (fault, text) in DEVICE_FAULTS {
+        check_text(&rt, rt.alloc(), fault, text)?;
+    }
+    for (fault, text) in WRITE_FAULTS {
+        check_text(&rt, rt.alloc(), fault, text)?;
+    }
+    check_text(&rt, rt.alloc(), &OutOfMemory, "out of memory")
 }

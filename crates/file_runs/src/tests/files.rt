@@ -10,6 +10,7 @@ use smf_grammar::{ChunkFault, PairFault};
 use std::alloc::Global;
 use std::process::Abort;
 use std::test::Fail;
+use tempo_clock::TempoMap;
 
 /// A chunk of another type, and a track with a tempo and a note that sounds for 480 ticks.
 const SMALL: [u8; 51] = [
@@ -41,19 +42,90 @@ const STATUS_GONE: [u8; 37] = [
     0x40, 0x00, 0xFF, 0x2F, 0x00,
 ];
 
-/// The fault of bytes, if they have one.
-fn fault_of(alloc: Global, bytes: &[u8]) -> Option<SmfFault> {
-    SmfFile::read(alloc, bytes).err()
+/// The small file with 40 ticks in each of 25 frames a second.
+const FRAMES: [u8; 51] = [
+    0x4D, 0x54, 0x68, 0x64, 0x00, 0x00, 0x00, 0x06, 0x00, 0x00, 0x00, 0x01, 0xE7, 0x28, 0x58, 0x59,
+    0x5A, 0x31, 0x00, 0x00, 0x00, 0x02, 0xAA, 0xBB, 0x4D, 0x54, 0x72, 0x6B, 0x00, 0x00, 0x00, 0x13,
+    0x00, 0xFF, 0x51, 0x03, 0x07, 0xA1, 0x20, 0x00, 0x90, 0x3C, 0x40, 0x83, 0x60, 0x3C, 0x00, 0x00,
+    0xFF, 0x2F, 0x00,
+];
+
+/// A quantity, and its number with how many bytes it has.
+const QUANTITIES: &[(&'static [u8], Result<(u32, usize), QuantityFault>)] = &[
+    (&[0x81, 0x00], Ok((128, 2))),
+    (&[0xFF, 0xFF, 0xFF, 0x7F], Ok((268_435_455, 4))),
+    (&[0x80, 0x00], Ok((0, 2))),
+    (&[0x80, 0x80, 0x80, 0x80, 0x00], Err(QuantityFault::Long)),
+    (&[0x81], Err(QuantityFault::Short)),
+    (&[], Err(QuantityFault::Short)),
+];
+
+#[test]
+fn reads_quantities(rt: HostRuntime) {
+    for (bytes, number) in QUANTITIES {
+        assert!(rt; quantity(bytes) == *number, "of {bytes:?}");
+    }
 }
 
-/// The small file with another byte at a place.
-fn damaged(alloc: Global, at: usize, byte: u8) -> Result<Vec<u8>, OutOfMemory> {
-    let mut bytes = Vec::from_slice(alloc, &SMALL)?;
-    if let Some(place) = bytes.get_mut(at) {
-        *place = byte;
-    }
-    Ok(bytes)
+/// A file, and what it says.
+struct Said {
+    name: &'static str,
+    bytes: &'static [u8],
+    format: u16,
+    tracks: u16,
+    division: u16,
+    tempos: &'static [TempoEntry],
+    /// The tick and the bytes of each event.
+    events: &'static [(u64, &'static [u8])],
 }
+
+const HALF_SECONDS: TempoEntry = TempoEntry {
+    tick: 0,
+    tempo: 500_000,
+};
+
+const FILES: &[Said] = &[
+    Said {
+        name: "a track, and a chunk of another type",
+        bytes: &SMALL,
+        format: 0,
+        tracks: 1,
+        division: 480,
+        tempos: &[HALF_SECONDS],
+        events: &[(0, &[0x90, 0x3C, 0x40]), (480, &[0x90, 0x3C, 0x00])],
+    },
+    Said {
+        name: "a file that counts frames has no tempo",
+        bytes: &FRAMES,
+        format: 0,
+        tracks: 1,
+        division: 59_176,
+        tempos: &[],
+        events: &[(0, &[0x90, 0x3C, 0x40]), (480, &[0x90, 0x3C, 0x00])],
+    },
+    Said {
+        name: "events of one tick go by track",
+        bytes: &TWO_TRACKS,
+        format: 1,
+        tracks: 2,
+        division: 96,
+        tempos: &[
+            TempoEntry {
+                tick: 0,
+                tempo: 250_000,
+            },
+            TempoEntry {
+                tick: 96,
+                tempo: 500_000,
+            },
+        ],
+        events: &[
+            (96, &[0x90, 0x01, 0x40]),
+            (96, &[0x90, 0x02, 0x40]),
+            (96, &[0x90, 0x03, 0x40]),
+        ],
+    },
+];
 
 /// All bytes of a message.
 fn full_bytes(alloc: Global, message: &Message) -> Result<Vec<u8>, OutOfMemory> {
@@ -62,78 +134,71 @@ fn full_bytes(alloc: Global, message: &Message) -> Result<Vec<u8>, OutOfMemory> 
     Ok(full)
 }
 
-/// An event has this tick and these bytes.
-fn check_event(
-    rt: &impl Abort,
-    alloc: Global,
-    event: &Event,
-    tick: u64,
-    bytes: &[u8],
-) -> Result<(), Fail> {
-    assert!(rt; event.tick == tick);
-    let full = full_bytes(alloc, &event.message)?;
-    assert!(rt; full.as_slice() == bytes);
-    Ok(())
+fn is_event(alloc: Global, event: &Event, tick: u64, bytes: &[u8]) -> Result<bool, OutOfMemory> {
+    Ok(event.tick == tick && full_bytes(alloc, &event.message)?.as_slice() == bytes)
 }
 
 // A cursor is lent by the function that makes it, so that it is dropped at one place alone: that is proved sooner.
 
-/// The next event has this tick and these bytes.
-fn check_next(
-    rt: &impl Abort,
+/// Whether the next event has this tick, which is told before, and these bytes.
+fn is_next(
     alloc: Global,
     cursor: &mut Cursor<'_>,
     tick: u64,
     bytes: &[u8],
-) -> Result<(), Fail> {
-    let event = cursor.next()?.ok_or("an event")?;
-    check_event(rt, alloc, &event, tick, bytes)
+) -> Result<bool, OutOfMemory> {
+    let peeked = cursor.peek_tick();
+    match cursor.next()? {
+        Some(event) => Ok(peeked == Some(tick) && is_event(alloc, &event, tick, bytes)?),
+        None => Ok(false),
+    }
 }
 
-/// No event is left.
-fn check_end(rt: &impl Abort, cursor: &mut Cursor<'_>) -> Result<(), Fail> {
-    assert!(rt; cursor.next()?.is_none());
+fn is_at_end(cursor: &mut Cursor<'_>) -> Result<bool, OutOfMemory> {
+    Ok(cursor.peek_tick() == None && cursor.next()?.is_none())
+}
+
+fn plays(
+    alloc: Global,
+    cursor: &mut Cursor<'_>,
+    events: &[(u64, &[u8])],
+) -> Result<bool, OutOfMemory> {
+    for (tick, bytes) in events {
+        if !is_next(alloc, cursor, *tick, bytes)? {
+            return Ok(false);
+        }
+    }
+    is_at_end(cursor)
+}
+
+fn says(file: &SmfFile<'_>, said: &Said) -> bool {
+    (file.format(), file.tracks(), file.division()) == (said.format, said.tracks, said.division)
+        && file.tempo_entries() == said.tempos
+        && file.skipped() == 0
+}
+
+fn assert_said(rt: &impl Abort, alloc: Global, said: &Said) -> Result<(), Fail> {
+    let file = SmfFile::read(alloc, said.bytes)?;
+    assert!(rt; says(&file, said), "{}", said.name);
+    assert!(rt;
+        plays(alloc, &mut file.cursor()?, said.events)?,
+        "{}",
+        said.name
+    );
     Ok(())
 }
 
-fn entry(tick: u64, tempo: u32) -> TempoEntry {
-    TempoEntry { tick, tempo }
-}
-
 #[test]
-fn reads_quantities(rt: HostRuntime) {
-    assert!(rt; quantity(&[0x81, 0x00]) == Ok((128, 2)));
-    assert!(rt; quantity(&[0xFF, 0xFF, 0xFF, 0x7F]) == Ok((268_435_455, 4)));
-    assert!(rt; quantity(&[0x80, 0x00]) == Ok((0, 2)));
-    let long = quantity(&[0x80, 0x80, 0x80, 0x80, 0x00]);
-    assert!(rt; long == Err(QuantityFault::Long));
-    assert!(rt; quantity(&[0x81]) == Err(QuantityFault::Short));
-    assert!(rt; quantity(&[]) == Err(QuantityFault::Short));
-}
-
-#[test]
-fn reads_the_small_file(rt: HostRuntime) -> Result<(), Fail> {
-    let file = SmfFile::read(rt.alloc(), &SMALL)?;
-    assert!(rt; file.format() == 0);
-    assert!(rt; file.tracks() == 1);
-    assert!(rt; file.division() == 480);
-    assert!(rt; file.tempo_entries() == [entry(0, 500_000)].as_slice());
-    assert!(rt; file.skipped() == 0);
+fn files_say_and_play(rt: HostRuntime) -> Result<(), Fail> {
+    for said in FILES {
+        assert_said(&rt, rt.alloc(), said)?;
+    }
     Ok(())
 }
 
-fn check_small_events(rt: &impl Abort, alloc: Global, cursor: &mut Cursor<'_>) -> Result<(), Fail> {
-    check_next(rt, alloc, cursor, 0, &[0x90, 0x3C, 0x40])?;
-    assert!(rt; cursor.peek_tick() == Some(480));
-    check_next(rt, alloc, cursor, 480, &[0x90, 0x3C, 0x00])?;
-    assert!(rt; cursor.peek_tick() == None);
-    check_end(rt, cursor)
-}
-
-#[test]
-fn plays_the_small_file(rt: HostRuntime) -> Result<(), Fail> {
-    let mut cursor = SmfFile::read(rt.alloc(), &SMALL)?.cursor()?;
-    check_small_events(&rt, rt.alloc(), &mut cursor)
+/// The fault of bytes, if they have one.
+fn fault_of(alloc: Global, bytes: &[u8]) -> Option<SmfFault> {
+    SmfFile::read(alloc, bytes).err()
 }
 
 #[test]
@@ -150,144 +215,156 @@ fn tells_cuts(rt: HostRuntime) {
     }
 }
 
-#[test]
-fn tells_damage(rt: HostRuntime) -> Result<(), Fail> {
-    let patterns = damaged(rt.alloc(), 9, 2)?;
-    assert!(rt; fault_of(rt.alloc(), patterns.as_slice()) == Some(SmfFault::Format2));
-    let unended = damaged(rt.alloc(), 31, 15)?;
-    let front = unended.as_slice().get(..47).ok_or("47 bytes")?;
-    let fault = fault_of(rt.alloc(), front);
-    assert!(rt; fault == Some(SmfFault::NoEndOfTrack { track: 0 }));
-    assert!(rt; fault_of(rt.alloc(), &STATUS_GONE) == Some(SmfFault::NoStatus { at: 30 }));
-    Ok(())
-}
-
-/// The small file with two other bytes in place of its division.
-fn divided(alloc: Global, first: u8, second: u8) -> Result<Vec<u8>, OutOfMemory> {
-    let mut bytes = damaged(alloc, 12, first)?;
-    if let Some(place) = bytes.get_mut(13) {
-        *place = second;
+/// The bytes of a file, with another byte at a place.
+fn damaged(alloc: Global, file: &[u8], at: usize, byte: u8) -> Result<Vec<u8>, OutOfMemory> {
+    let mut bytes = Vec::from_slice(alloc, file)?;
+    if let Some(place) = bytes.get_mut(at) {
+        *place = byte;
     }
     Ok(bytes)
 }
 
-fn check_frames(rt: &impl Abort, file: &SmfFile<'_>) {
-    assert!(rt; file.division() == 59_176);
-    assert!(rt; file.tempo_entries().is_empty());
-    assert!(rt; file.skipped() == 0);
+/// A file, how many of its bytes are there, a byte at a place, and the fault that it has then.
+struct Damage {
+    file: &'static [u8],
+    length: usize,
+    at: usize,
+    byte: u8,
+    fault: SmfFault,
+}
+
+const DAMAGES: &[Damage] = &[
+    Damage {
+        file: &SMALL,
+        length: 51,
+        at: 9,
+        byte: 2,
+        fault: SmfFault::Format2,
+    },
+    // The track ends before its last event.
+    Damage {
+        file: &SMALL,
+        length: 47,
+        at: 31,
+        byte: 15,
+        fault: SmfFault::NoEndOfTrack { track: 0 },
+    },
+    Damage {
+        file: &SMALL,
+        length: 51,
+        at: 12,
+        byte: 0xE3,
+        fault: SmfFault::DropFrame,
+    },
+    Damage {
+        file: &SMALL,
+        length: 51,
+        at: 12,
+        byte: 0xE0,
+        fault: SmfFault::SmpteDivision,
+    },
+    Damage {
+        file: &TWO_TRACKS,
+        length: 64,
+        at: 11,
+        byte: 3,
+        fault: SmfFault::TrackMissing,
+    },
+];
+
+fn fault_of_damage(alloc: Global, damage: &Damage) -> Result<Option<SmfFault>, Fail> {
+    let bytes = damaged(alloc, damage.file, damage.at, damage.byte)?;
+    let front = bytes
+        .as_slice()
+        .get(..damage.length)
+        .ok_or("so many bytes")?;
+    Ok(fault_of(alloc, front))
 }
 
 #[test]
-fn reads_frames(rt: HostRuntime) -> Result<(), Fail> {
-    let bytes = divided(rt.alloc(), 0xE7, 40)?;
-    let file = SmfFile::read(rt.alloc(), bytes.as_slice())?;
-    check_frames(&rt, &file);
-    Ok(())
-}
-
-/// The fault of the small file with another byte at a place.
-fn fault_at(alloc: Global, at: usize, byte: u8) -> Result<Option<SmfFault>, OutOfMemory> {
-    let bytes = damaged(alloc, at, byte)?;
-    Ok(fault_of(alloc, bytes.as_slice()))
-}
-
-#[test]
-fn tells_other_divisions(rt: HostRuntime) -> Result<(), Fail> {
-    assert!(rt; fault_at(rt.alloc(), 12, 0xE3)? == Some(SmfFault::DropFrame));
-    assert!(rt; fault_at(rt.alloc(), 12, 0xE0)? == Some(SmfFault::SmpteDivision));
-    Ok(())
-}
-
-#[test]
-fn reads_two_tracks(rt: HostRuntime) -> Result<(), Fail> {
-    let file = SmfFile::read(rt.alloc(), &TWO_TRACKS)?;
-    assert!(rt; file.format() == 1);
-    assert!(rt; file.tracks() == 2);
-    let expected = [entry(0, 250_000), entry(96, 500_000)];
-    assert!(rt; file.tempo_entries() == expected.as_slice());
-    Ok(())
-}
-
-fn check_merged(rt: &impl Abort, alloc: Global, cursor: &mut Cursor<'_>) -> Result<(), Fail> {
-    for note in [1, 2, 3] {
-        check_next(rt, alloc, cursor, 96, &[0x90, note, 0x40])?;
+fn tells_damage(rt: HostRuntime) -> Result<(), Fail> {
+    for damage in DAMAGES {
+        let fault = fault_of_damage(rt.alloc(), damage)?;
+        assert!(rt;
+            fault == Some(damage.fault),
+            "in place of {:?}",
+            damage.fault
+        );
     }
-    check_end(rt, cursor)
-}
-
-#[test]
-fn merges_two_tracks(rt: HostRuntime) -> Result<(), Fail> {
-    let mut cursor = SmfFile::read(rt.alloc(), &TWO_TRACKS)?.cursor()?;
-    check_merged(&rt, rt.alloc(), &mut cursor)
-}
-
-#[test]
-fn tells_missing_tracks(rt: HostRuntime) -> Result<(), Fail> {
-    let mut bytes = Vec::from_slice(rt.alloc(), &TWO_TRACKS)?;
-    if let Some(place) = bytes.get_mut(11) {
-        *place = 3;
-    }
-    assert!(rt; fault_of(rt.alloc(), bytes.as_slice()) == Some(SmfFault::TrackMissing));
-    if let Some(place) = bytes.get_mut(11) {
-        *place = 1;
-    }
-    let file = SmfFile::read(rt.alloc(), bytes.as_slice())?;
-    assert!(rt; file.tracks() == 1);
+    assert!(rt; fault_of(rt.alloc(), &STATUS_GONE) == Some(SmfFault::NoStatus { at: 30 }));
     Ok(())
+}
+
+/// What follows the tracks that the header tells of is passed over.
+#[test]
+fn reads_one_of_two_tracks(rt: HostRuntime) -> Result<(), Fail> {
+    let bytes = damaged(rt.alloc(), &TWO_TRACKS, 11, 1)?;
+    assert!(rt; SmfFile::read(rt.alloc(), bytes.as_slice())?.tracks() == 1);
+    Ok(())
+}
+
+/// Ticks of a map, and the moments in nanoseconds at which they come.
+type Moments = &'static [(u64, u128)];
+
+fn reaches(map: &TempoMap, moments: &[(u64, u128)]) -> bool {
+    for (tick, nanos) in moments {
+        if map.nanos_at(*tick) != *nanos {
+            return false;
+        }
+    }
+    true
 }
 
 /// 96 ticks per quarter note: a quarter of a second each up to tick 96, then half a second.
+const TWO_TEMPOS: Moments = &[
+    (0, 0),
+    (1, 2_604_167),
+    (96, 250_000_000),
+    (97, 255_208_334),
+    (192, 750_000_000),
+];
+
 #[test]
 fn plays_by_tempos(rt: HostRuntime) -> Result<(), Fail> {
     let map = SmfFile::read(rt.alloc(), &TWO_TRACKS)?.tempo_map()?;
     assert!(rt; map.ppq() == 96);
-    for (tick, nanos) in [
-        (0, 0),
-        (1, 2_604_167),
-        (96, 250_000_000),
-        (97, 255_208_334),
-        (192, 750_000_000),
-    ] {
-        assert!(rt; map.nanos_at(tick) == nanos);
-    }
+    assert!(rt; reaches(&map, TWO_TEMPOS));
     Ok(())
+}
+
+fn assert_one_tempo(rt: &impl Abort, map: &TempoMap) {
+    assert!(rt; map.entries() == [HALF_SECONDS].as_slice());
+    assert!(rt; reaches(map, &[(480, 500_000_000)]));
 }
 
 #[test]
 fn plays_by_one_tempo(rt: HostRuntime) -> Result<(), Fail> {
     let file = SmfFile::read(rt.alloc(), &SMALL)?;
     file.plays_in_order();
-    let map = file.tempo_map()?;
-    assert!(rt; map.entries() == [entry(0, 500_000)].as_slice());
-    assert!(rt; map.nanos_at(480) == 500_000_000);
+    assert_one_tempo(&rt, &file.tempo_map()?);
     Ok(())
 }
 
-/// A division by frames, and when its ticks 1 and 480 come: no tempo counts.
+/// A division by frames, and when ticks 1 and 480 come: no tempo counts.
+const DIVISIONS: &[(u8, u8, Moments)] = &[
+    (0xE8, 4, &[(1, 10_416_667), (480, 5_000_000_000)]),
+    (0xE7, 40, &[(1, 1_000_000), (480, 480_000_000)]),
+    (0xE2, 80, &[(1, 416_667), (480, 200_000_000)]),
+];
+
+/// The map of the small file with another division.
+fn divided(alloc: Global, minus_frames: u8, per_frame: u8) -> Result<TempoMap, Fail> {
+    let bytes = damaged(alloc, &SMALL, 12, minus_frames)?;
+    let bytes = damaged(alloc, bytes.as_slice(), 13, per_frame)?;
+    Ok(SmfFile::read(alloc, bytes.as_slice())?.tempo_map()?)
+}
+
 #[test]
 fn plays_by_frames(rt: HostRuntime) -> Result<(), Fail> {
-    for (minus_frames, per_frame, first, last) in [
-        (0xE8, 4, 10_416_667, 5_000_000_000),
-        (0xE7, 40, 1_000_000, 480_000_000),
-        (0xE2, 80, 416_667, 200_000_000),
-    ] {
-        let bytes = divided(rt.alloc(), minus_frames, per_frame)?;
-        check_by_frames(&rt, rt.alloc(), bytes.as_slice(), first, last)?;
+    for (minus_frames, per_frame, moments) in DIVISIONS {
+        let map = divided(rt.alloc(), *minus_frames, *per_frame)?;
+        assert!(rt; map.entries().is_empty() && reaches(&map, moments));
     }
-    Ok(())
-}
-
-fn check_by_frames(
-    rt: &impl Abort,
-    alloc: Global,
-    bytes: &[u8],
-    first: u128,
-    last: u128,
-) -> Result<(), Fail> {
-    let map = SmfFile::read(alloc, bytes)?.tempo_map()?;
-    assert!(rt; map.entries().is_empty());
-    assert!(rt; map.nanos_at(1) == first);
-    assert!(rt; map.nanos_at(480) == last);
     Ok(())
 }
 
@@ -296,14 +373,14 @@ fn check_by_frames(
 fn plays_exclusive_messages(rt: HostRuntime) -> Result<(), Fail> {
     let file = SmfFile::read(rt.alloc(), &EXCLUSIVES)?;
     assert!(rt; file.skipped() == 2);
-    let mut cursor = file.cursor()?;
-    check_exclusive(&rt, rt.alloc(), &mut cursor)
+    assert_exclusive(&rt, rt.alloc(), &mut file.cursor()?)
 }
 
-fn check_exclusive(rt: &impl Abort, alloc: Global, cursor: &mut Cursor<'_>) -> Result<(), Fail> {
+fn assert_exclusive(rt: &impl Abort, alloc: Global, cursor: &mut Cursor<'_>) -> Result<(), Fail> {
     let first = next_or_again(rt, cursor)?.ok_or("an event")?;
-    check_event(rt, alloc, &first, 0, &[0xF0, 0x7D, 0x01, 0xF7])?;
-    check_end(rt, cursor)
+    assert!(rt; is_event(alloc, &first, 0, &[0xF0, 0x7D, 0x01, 0xF7])?);
+    assert!(rt; is_at_end(cursor)?);
+    Ok(())
 }
 
 fn next_or_again(rt: &impl Abort, cursor: &mut Cursor<'_>) -> Result<Option<Event>, OutOfMemory> {
@@ -361,7 +438,7 @@ fn all_kinds(alloc: Global) -> Result<Vec<Event>, Fail> {
 }
 
 /// The bytes are a file of these events, with this tempo from its beginning.
-fn check_written(
+fn assert_written(
     rt: &impl Abort,
     alloc: Global,
     bytes: &[u8],
@@ -369,30 +446,31 @@ fn check_written(
     events: &[Event],
 ) -> Result<(), Fail> {
     let file = SmfFile::read(alloc, bytes)?;
-    assert!(rt; file.tempo_entries() == [entry(0, tempo)].as_slice());
+    assert!(rt; file.tempo_entries() == [TempoEntry { tick: 0, tempo }].as_slice());
     assert!(rt; file.skipped() == 0);
-    let mut cursor = file.cursor()?;
-    check_all(rt, alloc, &mut cursor, events)
+    assert!(rt; plays_all(alloc, &mut file.cursor()?, events)?);
+    Ok(())
 }
 
-fn check_all(
-    rt: &impl Abort,
+fn plays_all(
     alloc: Global,
     cursor: &mut Cursor<'_>,
     events: &[Event],
-) -> Result<(), Fail> {
+) -> Result<bool, OutOfMemory> {
     for event in events {
         let full = full_bytes(alloc, &event.message)?;
-        check_next(rt, alloc, cursor, event.tick, full.as_slice())?;
+        if !is_next(alloc, cursor, event.tick, full.as_slice())? {
+            return Ok(false);
+        }
     }
-    check_end(rt, cursor)
+    is_at_end(cursor)
 }
 
 #[test]
 fn writes_what_it_reads(rt: HostRuntime) -> Result<(), Fail> {
     let events = all_kinds(rt.alloc())?;
     let bytes = write_format0(rt.alloc(), 480, 250_000, events.as_slice())?;
-    check_written(
+    assert_written(
         &rt,
         rt.alloc(),
         bytes.as_slice(),
@@ -414,57 +492,81 @@ fn writes_one_note(rt: HostRuntime) -> Result<(), Fail> {
     Ok(())
 }
 
+/// Ticks per quarter note and a tempo, and why a clock at tick 7 is not written.
+const REFUSED: &[(u16, u32, WriteFault)] = &[
+    (480, 500_000, WriteFault::BadEvent { index: 0 }),
+    (0, 0, WriteFault::BadPpq),
+    (32_767, 16_777_216, WriteFault::BadTempo),
+];
+
 #[test]
 fn refuses_real_time(rt: HostRuntime) -> Result<(), Fail> {
-    let clock = Message::from_bytes(rt.alloc(), &[0xF8])?.ok_or("a message")?;
-    let events = [Event {
-        tick: 7,
-        message: clock,
-    }];
-    let refused = write_format0(rt.alloc(), 480, 500_000, &events).err();
-    assert!(rt; refused == Some(WriteFault::BadEvent { index: 0 }));
-    let refused = write_format0(rt.alloc(), 0, 0, &events).err();
-    assert!(rt; refused == Some(WriteFault::BadPpq));
-    let refused = write_format0(rt.alloc(), 32_767, 16_777_216, &events).err();
-    assert!(rt; refused == Some(WriteFault::BadTempo));
+    let message = Message::from_bytes(rt.alloc(), &[0xF8])?.ok_or("a message")?;
+    let events = [Event { tick: 7, message }];
+    for (ppq, tempo, fault) in REFUSED {
+        let refused = write_format0(rt.alloc(), *ppq, *tempo, &events).err();
+        assert!(rt; refused == Some(*fault));
+    }
+    Ok(())
+}
+
+const WRITE_FAULTS: &[(WriteFault, &'static str)] = &[
+    (
+        WriteFault::BadPpq,
+        "the ticks per quarter note are out of range",
+    ),
+    (WriteFault::BadTempo, "the tempo is out of range"),
+    (
+        WriteFault::BadEvent { index: 3 },
+        "event 3 can't be written",
+    ),
+    (WriteFault::TooLarge, "the file is too large"),
+    (WriteFault::OutOfMemory, "out of memory"),
+];
+
+#[test]
+fn write_faults_print(rt: HostRuntime) -> Result<(), Fail> {
+    for (fault, text) in WRITE_FAULTS {
+        check_text(&rt, rt.alloc(), fault, text)?;
+    }
     Ok(())
 }
 
 #[test]
-fn write_faults_print(rt: HostRuntime) -> Result<(), Fail> {
-    let alloc = rt.alloc();
-    let bad_ppq = "the ticks per quarter note are out of range";
-    let bad_event = WriteFault::BadEvent { index: 3 };
-    check_text(&rt, alloc, &WriteFault::BadPpq, bad_ppq)?;
-    check_text(
-        &rt,
-        alloc,
-        &WriteFault::BadTempo,
-        "the tempo is out of range",
-    )?;
-    check_text(&rt, alloc, &bad_event, "event 3 can't be written")?;
-    check_text(&rt, alloc, &WriteFault::TooLarge, "the file is too large")?;
-    check_text(&rt, alloc, &WriteFault::OutOfMemory, "out of memory")
+fn reading_faults_print(rt: HostRuntime) -> Result<(), Fail> {
+    let quantities = [
+        (QuantityFault::Short, "the quantity is cut"),
+        (QuantityFault::Long, "the quantity has more than four bytes"),
+    ];
+    for (fault, text) in quantities {
+        check_text(&rt, rt.alloc(), &fault, text)?;
+    }
+    let chunks = [
+        (ChunkFault::Missing, "no chunk"),
+        (ChunkFault::Cut, "the chunk is cut"),
+    ];
+    for (fault, text) in chunks {
+        check_text(&rt, rt.alloc(), &fault, text)?;
+    }
+    Ok(())
 }
 
-#[test]
-fn reading_faults_print(rt: HostRuntime) -> Result<(), Fail> {
-    let alloc = rt.alloc();
-    let long = "the quantity has more than four bytes";
-    check_text(&rt, alloc, &QuantityFault::Short, "the quantity is cut")?;
-    check_text(&rt, alloc, &QuantityFault::Long, long)?;
-    check_text(&rt, alloc, &ChunkFault::Missing, "no chunk")?;
-    check_text(&rt, alloc, &ChunkFault::Cut, "the chunk is cut")
-}
+const PAIR_FAULTS: &[(PairFault, &'static str)] = &[
+    (PairFault::NoPair, "no end of track"),
+    (PairFault::Truncated, "the event is cut"),
+    (
+        PairFault::LongQuantity,
+        "a quantity has more than four bytes",
+    ),
+    (PairFault::NoStatus, "no running status"),
+    (PairFault::BadStatus, "no status of a file"),
+    (PairFault::BadData, "no data byte"),
+];
 
 #[test]
 fn pair_faults_print(rt: HostRuntime) -> Result<(), Fail> {
-    let alloc = rt.alloc();
-    let long = "a quantity has more than four bytes";
-    check_text(&rt, alloc, &PairFault::NoPair, "no end of track")?;
-    check_text(&rt, alloc, &PairFault::Truncated, "the event is cut")?;
-    check_text(&rt, alloc, &PairFault::LongQuantity, long)?;
-    check_text(&rt, alloc, &PairFault::NoStatus, "no running status")?;
-    check_text(&rt, alloc, &PairFault::BadStatus, "no status of a file")?;
-    check_text(&rt, alloc, &PairFault::BadData, "no data byte")
+    for (fault, text) in PAIR_FAULTS {
+        check_text(&rt, rt.alloc(), fault, text)?;
+    }
+    Ok(())
 }

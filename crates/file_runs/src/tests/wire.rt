@@ -31,59 +31,122 @@ fn read_pieces(alloc: Global, stream: &[u8], length: usize) -> Result<Vec<Messag
     Ok(messages)
 }
 
-/// There are so many messages, with these full bytes.
-// Lists of messages are made by one function and lent to the next, so that each is dropped at one place alone: that is
-// proved sooner.
-fn check_messages(
-    rt: &impl Abort,
-    alloc: Global,
-    messages: &[Message],
+/// A stream, how many messages it has, the full bytes of these, and what a writer makes of them.
+struct Reading {
+    name: &'static str,
+    stream: &'static [u8],
     count: usize,
-    expected: &[u8],
-) -> Result<(), Fail> {
-    assert!(rt; messages.len() == count);
-    let bytes = full_bytes(alloc, messages)?;
-    assert!(rt; bytes.as_slice() == expected);
-    Ok(())
+    full: &'static [u8],
+    written: &'static [u8],
 }
 
-/// A stream in two pieces has so many messages, with these full bytes.
-fn check_cut(
-    rt: &impl Abort,
+const READINGS: &[Reading] = &[
+    Reading {
+        name: "running status with real time",
+        stream: &[0x90, 0x3C, 0x40, 0xF8, 0x3E, 0xF8, 0x40],
+        count: 4,
+        full: &[0x90, 0x3C, 0x40, 0xF8, 0xF8, 0x90, 0x3E, 0x40],
+        written: &[0x90, 0x3C, 0x40, 0xF8, 0xF8, 0x3E, 0x40],
+    },
+    Reading {
+        name: "real time inside an exclusive message",
+        stream: &[0xF0, 0x7D, 0x01, 0xFE, 0x02, 0xF7],
+        count: 2,
+        full: &[0xFE, 0xF0, 0x7D, 0x01, 0x02, 0xF7],
+        written: &[0xFE, 0xF0, 0x7D, 0x01, 0x02, 0xF7],
+    },
+    Reading {
+        name: "a status ends an exclusive message",
+        stream: &[0xF0, 0x7D, 0x01, 0x90, 0x3C, 0x40],
+        count: 2,
+        full: &[0xF0, 0x7D, 0x01, 0xF7, 0x90, 0x3C, 0x40],
+        written: &[0xF0, 0x7D, 0x01, 0xF7, 0x90, 0x3C, 0x40],
+    },
+    Reading {
+        name: "real time and a status among exclusive messages",
+        stream: &[
+            0xF0, 0x01, 0xF7, 0xF0, 0x02, 0xF8, 0x03, 0xF7, 0xF0, 0x04, 0x90, 0x3C, 0x40, 0xF0,
+            0xF7,
+        ],
+        count: 6,
+        full: &[
+            0xF0, 0x01, 0xF7, 0xF8, 0xF0, 0x02, 0x03, 0xF7, 0xF0, 0x04, 0xF7, 0x90, 0x3C, 0x40,
+            0xF0, 0xF7,
+        ],
+        written: &[
+            0xF0, 0x01, 0xF7, 0xF8, 0xF0, 0x02, 0x03, 0xF7, 0xF0, 0x04, 0xF7, 0x90, 0x3C, 0x40,
+            0xF0, 0xF7,
+        ],
+    },
+    Reading {
+        name: "a tune request ends running status",
+        stream: &[0x90, 0x3C, 0x40, 0xF6, 0x3C, 0x40],
+        count: 2,
+        full: &[0x90, 0x3C, 0x40, 0xF6],
+        written: &[0x90, 0x3C, 0x40, 0xF6],
+    },
+    Reading {
+        name: "after a tune request the status is written again",
+        stream: &[0x90, 0x3C, 0x40, 0xF6, 0x90, 0x3C, 0x40],
+        count: 3,
+        full: &[0x90, 0x3C, 0x40, 0xF6, 0x90, 0x3C, 0x40],
+        written: &[0x90, 0x3C, 0x40, 0xF6, 0x90, 0x3C, 0x40],
+    },
+    Reading {
+        name: "an undefined status ends running status",
+        stream: &[0x90, 0x3C, 0x40, 0xF4, 0x3C, 0x40],
+        count: 1,
+        full: &[0x90, 0x3C, 0x40],
+        written: &[0x90, 0x3C, 0x40],
+    },
+    Reading {
+        name: "two statuses are written",
+        stream: &[0xB0, 0x07, 0x7F, 0x90, 0x3C, 0x40],
+        count: 2,
+        full: &[0xB0, 0x07, 0x7F, 0x90, 0x3C, 0x40],
+        written: &[0xB0, 0x07, 0x7F, 0x90, 0x3C, 0x40],
+    },
+];
+
+// Lists of messages are made by one function and lent to the next, so that each is dropped at one place alone: that is
+// proved sooner.
+
+/// Whether there are so many messages, with these full bytes.
+fn are(alloc: Global, messages: &[Message], count: usize, full: &[u8]) -> Result<bool, Fail> {
+    Ok(messages.len() == count && full_bytes(alloc, messages)?.as_slice() == full)
+}
+
+/// Whether a stream in two pieces has these.
+fn has_in_two(
     alloc: Global,
     (front, back): (&[u8], &[u8]),
     count: usize,
-    expected: &[u8],
-) -> Result<(), Fail> {
-    let messages = read_in_two(alloc, front, back)?;
-    check_messages(rt, alloc, messages.as_slice(), count, expected)
+    full: &[u8],
+) -> Result<bool, Fail> {
+    are(
+        alloc,
+        read_in_two(alloc, front, back)?.as_slice(),
+        count,
+        full,
+    )
 }
 
-/// The same of a stream that is read byte by byte.
-fn check_bytes(
-    rt: &impl Abort,
-    alloc: Global,
-    stream: &[u8],
-    count: usize,
-    expected: &[u8],
-) -> Result<(), Fail> {
-    let messages = read_pieces(alloc, stream, 1)?;
-    check_messages(rt, alloc, messages.as_slice(), count, expected)
-}
-
-/// A stream has so many messages, with these full bytes, however it is cut.
-fn check_reading(
-    rt: &impl Abort,
-    alloc: Global,
-    stream: &[u8],
-    count: usize,
-    expected: &[u8],
-) -> Result<(), Fail> {
-    check_bytes(rt, alloc, stream, count, expected)?;
-    for cut in 0..=stream.len() {
-        check_cut(rt, alloc, stream.split_at(cut), count, expected)?;
+/// Whether a stream has these, byte by byte and wherever it is cut into two.
+fn has(alloc: Global, stream: &[u8], count: usize, full: &[u8]) -> Result<bool, Fail> {
+    if !are(
+        alloc,
+        read_pieces(alloc, stream, 1)?.as_slice(),
+        count,
+        full,
+    )? {
+        return Ok(false);
     }
-    Ok(())
+    for cut in 0..=stream.len() {
+        if !has_in_two(alloc, stream.split_at(cut), count, full)? {
+            return Ok(false);
+        }
+    }
+    Ok(true)
 }
 
 /// The messages as a writer writes them.
@@ -96,16 +159,30 @@ fn written(alloc: Global, messages: &[Message]) -> Result<Vec<u8>, OutOfMemory> 
     Ok(bytes)
 }
 
-/// The messages of a stream are written as these bytes.
-fn check_writing(
-    rt: &impl Abort,
-    alloc: Global,
-    stream: &[u8],
-    expected: &[u8],
-) -> Result<(), Fail> {
+/// Whether the messages of a stream are written so.
+fn writes(alloc: Global, stream: &[u8], wanted: &[u8]) -> Result<bool, Fail> {
     let messages = read_in_two(alloc, stream, &[])?;
-    let bytes = written(alloc, messages.as_slice())?;
-    assert!(rt; bytes.as_slice() == expected);
+    Ok(written(alloc, messages.as_slice())?.as_slice() == wanted)
+}
+
+fn assert_reading(rt: &impl Abort, alloc: Global, reading: &Reading) -> Result<(), Fail> {
+    let Reading {
+        name,
+        stream,
+        count,
+        full,
+        written,
+    } = reading;
+    assert!(rt; has(alloc, stream, *count, full)?, "{name}: read");
+    assert!(rt; writes(alloc, stream, written)?, "{name}: written");
+    Ok(())
+}
+
+#[test]
+fn streams_are_read_and_written(rt: HostRuntime) -> Result<(), Fail> {
+    for reading in READINGS {
+        assert_reading(&rt, rt.alloc(), reading)?;
+    }
     Ok(())
 }
 
@@ -140,66 +217,9 @@ fn check_cuts(rt: &impl Abort, alloc: Global, stream: &[u8]) -> Result<(), Fail>
     check_each_cut(rt, alloc, stream, whole.as_slice())
 }
 
-#[test]
-fn running_status_with_real_time(rt: HostRuntime) -> Result<(), Fail> {
-    let stream = [0x90, 0x3C, 0x40, 0xF8, 0x3E, 0xF8, 0x40];
-    let expected = [0x90, 0x3C, 0x40, 0xF8, 0xF8, 0x90, 0x3E, 0x40];
-    check_reading(&rt, rt.alloc(), &stream, 4, &expected)?;
-    let written = [0x90, 0x3C, 0x40, 0xF8, 0xF8, 0x3E, 0x40];
-    check_writing(&rt, rt.alloc(), &stream, &written)
-}
-
-#[test]
-fn real_time_inside_exclusive(rt: HostRuntime) -> Result<(), Fail> {
-    let stream = [0xF0, 0x7D, 0x01, 0xFE, 0x02, 0xF7];
-    let expected = [0xFE, 0xF0, 0x7D, 0x01, 0x02, 0xF7];
-    check_reading(&rt, rt.alloc(), &stream, 2, &expected)
-}
-
-#[test]
-fn status_ends_exclusive(rt: HostRuntime) -> Result<(), Fail> {
-    let stream = [0xF0, 0x7D, 0x01, 0x90, 0x3C, 0x40];
-    let expected = [0xF0, 0x7D, 0x01, 0xF7, 0x90, 0x3C, 0x40];
-    check_reading(&rt, rt.alloc(), &stream, 2, &expected)
-}
-
-#[test]
-fn real_time_and_status_among_exclusives(rt: HostRuntime) -> Result<(), Fail> {
-    let stream = [
-        0xF0, 0x01, 0xF7, 0xF0, 0x02, 0xF8, 0x03, 0xF7, 0xF0, 0x04, 0x90, 0x3C, 0x40, 0xF0, 0xF7,
-    ];
-    let expected = [
-        0xF0, 0x01, 0xF7, 0xF8, 0xF0, 0x02, 0x03, 0xF7, 0xF0, 0x04, 0xF7, 0x90, 0x3C, 0x40, 0xF0,
-        0xF7,
-    ];
-    check_reading(&rt, rt.alloc(), &stream, 6, &expected)
-}
-
-#[test]
-fn tune_request_ends_running_status(rt: HostRuntime) -> Result<(), Fail> {
-    let stream = [0x90, 0x3C, 0x40, 0xF6, 0x3C, 0x40];
-    check_reading(&rt, rt.alloc(), &stream, 2, &[0x90, 0x3C, 0x40, 0xF6])?;
-    let repeated = [0x90, 0x3C, 0x40, 0xF6, 0x90, 0x3C, 0x40];
-    check_writing(&rt, rt.alloc(), &repeated, &repeated)
-}
-
-#[test]
-fn undefined_status_ends_running_status(rt: HostRuntime) -> Result<(), Fail> {
-    let stream = [0x90, 0x3C, 0x40, 0xF4, 0x3C, 0x40];
-    check_reading(&rt, rt.alloc(), &stream, 1, &[0x90, 0x3C, 0x40])
-}
-
-#[test]
-fn two_statuses_are_written(rt: HostRuntime) -> Result<(), Fail> {
-    let stream = [0xB0, 0x07, 0x7F, 0x90, 0x3C, 0x40];
-    check_writing(&rt, rt.alloc(), &stream, &stream)
-}
-
-/// What was written, each other kind of message under running status or without, and what is passed over.
-const STREAMS: [&[u8]; 8] = [
+/// No byte, each other kind of message under running status or without, and what is passed over.
+const STREAMS: [&[u8]; 6] = [
     &[],
-    &[0xB0, 0x07, 0x7F, 0x90, 0x3C, 0x40],
-    &[0x90, 0x3C, 0x40, 0xF6, 0x90, 0x3C, 0x40],
     &[
         0xC5, 0x01, 0x02, 0xD3, 0x10, 0x11, 0xE0, 0x00, 0x40, 0x01, 0x41, 0xA0, 0x3C, 0x01,
     ],
@@ -284,7 +304,10 @@ fn extend_exclusive(stream: &mut Vec<u8>, length: u16) -> Result<(), OutOfMemory
 fn exclusive_messages_of_many_lengths(rt: HostRuntime) -> Result<(), Fail> {
     for length in [0, 1, 125, 126, 127, 128, 129] {
         let stream = exclusive(rt.alloc(), length)?;
-        check_reading(&rt, rt.alloc(), stream.as_slice(), 1, stream.as_slice())?;
+        assert!(rt;
+            has(rt.alloc(), stream.as_slice(), 1, stream.as_slice())?,
+            "of {length}"
+        );
     }
     Ok(())
 }
@@ -300,29 +323,38 @@ fn check_row(rt: &impl Abort, alloc: Global, stream: &mut Vec<u8>) -> Result<(),
     for length in 0..20 {
         extend_exclusive(stream, length)?;
     }
-    check_reading(rt, alloc, stream.as_slice(), 20, stream.as_slice())
+    assert!(rt; has(alloc, stream.as_slice(), 20, stream.as_slice())?);
+    Ok(())
 }
 
-fn check_bend(rt: &impl Abort, bend: &Message) {
-    assert!(rt; bend.kind() == Kind::PitchBend);
-    assert!(rt; bend.status() == 0xE5);
-    assert!(rt; bend.channel_of() == Some(5));
-    assert!(rt; bend.len() == 3);
-    assert!(rt; bend.byte_at(2) == Some(0x40));
-    assert!(rt; bend.byte_at(3) == None);
-}
+/// A kind, a channel and two data bytes, and the bytes of the channel message.
+const CHANNEL_MESSAGES: &[(Kind, u8, u8, u8, &'static [u8])] = &[
+    (Kind::PitchBend, 5, 0x00, 0x40, &[0xE5, 0x00, 0x40]),
+    (Kind::ProgramChange, 15, 0x7F, 0, &[0xCF, 0x7F]),
+];
 
-fn check_program(rt: &impl Abort, program: &Message) {
-    assert!(rt; program.status() == 0xCF);
-    assert!(rt; program.len() == 2);
+fn is_channel_message(message: &Message, kind: Kind, channel: u8, bytes: &[u8]) -> bool {
+    for (place, byte) in bytes.iter().enumerate() {
+        if message.byte_at(place) != Some(*byte) {
+            return false;
+        }
+    }
+    message.len() == bytes.len()
+        && message.byte_at(bytes.len()) == None
+        && bytes.first() == Some(&message.status())
+        && message.kind() == kind
+        && message.channel_of() == Some(channel)
 }
 
 #[test]
 fn channel_messages(rt: HostRuntime) -> Result<(), Fail> {
-    let bend = Message::channel(Kind::PitchBend, 5, 0x00, 0x40).ok_or("a message")?;
-    check_bend(&rt, &bend);
-    let program = Message::channel(Kind::ProgramChange, 15, 0x7F, 0).ok_or("a message")?;
-    check_program(&rt, &program);
+    for (kind, channel, first, second, bytes) in CHANNEL_MESSAGES {
+        let message = Message::channel(*kind, *channel, *first, *second).ok_or("a message")?;
+        assert!(rt;
+            is_channel_message(&message, *kind, *channel, bytes),
+            "of {bytes:?}"
+        );
+    }
     Ok(())
 }
 
@@ -338,18 +370,17 @@ fn no_channel_messages(rt: HostRuntime) {
     }
 }
 
-/// The bytes are no message.
-fn assert_none(rt: &impl Abort, alloc: Global, bytes: &[u8]) -> Result<(), Fail> {
-    assert!(rt; Message::from_bytes(alloc, bytes)?.is_none());
-    Ok(())
-}
+/// Bytes that are no message.
+const NO_MESSAGES: &[&[u8]] = &[&[0x90, 0x3C], &[0xF6, 0x00], &[0xF4], &[0xF0, 0x7E]];
 
 #[test]
 fn no_messages_from_bytes(rt: HostRuntime) -> Result<(), Fail> {
-    assert_none(&rt, rt.alloc(), &[0x90, 0x3C])?;
-    assert_none(&rt, rt.alloc(), &[0xF6, 0x00])?;
-    assert_none(&rt, rt.alloc(), &[0xF4])?;
-    assert_none(&rt, rt.alloc(), &[0xF0, 0x7E])?;
+    for bytes in NO_MESSAGES {
+        assert!(rt;
+            Message::from_bytes(rt.alloc(), bytes)?.is_none(),
+            "of {bytes:?}"
+        );
+    }
     Ok(())
 }
 
@@ -433,9 +464,15 @@ fn many_messages_in_one_piece(rt: HostRuntime) -> Result<(), Fail> {
     check_many(&rt, &mut stream, &mut messages)
 }
 
+const FAULTS: &[(WireFault, &'static str)] = &[
+    (WireFault::OutOfMemory, "out of memory"),
+    (WireFault::Failed, "an earlier call found no memory"),
+];
+
 #[test]
 fn faults_print(rt: HostRuntime) -> Result<(), Fail> {
-    check_text(&rt, rt.alloc(), &WireFault::OutOfMemory, "out of memory")?;
-    let failed = "an earlier call found no memory";
-    check_text(&rt, rt.alloc(), &WireFault::Failed, failed)
+    for (fault, text) in FAULTS {
+        check_text(&rt, rt.alloc(), fault, text)?;
+    }
+    Ok(())
 }

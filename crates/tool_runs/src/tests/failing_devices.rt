@@ -1,7 +1,8 @@
 //! Each read and each write of a tool fails in turn.
 
-use super::streams::source;
-use byte_io::MemSink;
+ghost use Rattle.std.specs.Prelude.{◌≡◌, IfOk, false};
+
+use byte_io::{MemSink, MemSource, OutOfMemory};
 use std::alloc::Global;
 use std::process::Abort;
 use std::test::Fail;
@@ -15,7 +16,7 @@ const PASSED: &[u8] = b"0 129:p0 90 3C 40\n0 129:p0 F8\n0 129:p0 F8\n0 129:p0 90
 const COPIED: &[u8] = b"90 3C 40\nF8\nF8\n90 3E 40\nwritten 90 3C 40 F8 F8 3E 40\n";
 
 /// A chunk of another type, and a track with a tempo and a note that sounds for 480 ticks.
-const SMALL: &[u8] = &[
+pub(super) const SMALL: &[u8] = &[
     0x4D, 0x54, 0x68, 0x64, 0x00, 0x00, 0x00, 0x06, 0x00, 0x00, 0x00, 0x01, 0x01, 0xE0, 0x58, 0x59,
     0x5A, 0x31, 0x00, 0x00, 0x00, 0x02, 0xAA, 0xBB, 0x4D, 0x54, 0x72, 0x6B, 0x00, 0x00, 0x00, 0x13,
     0x00, 0xFF, 0x51, 0x03, 0x07, 0xA1, 0x20, 0x00, 0x90, 0x3C, 0x40, 0x83, 0x60, 0x3C, 0x00, 0x00,
@@ -24,6 +25,12 @@ const SMALL: &[u8] = &[
 
 const DUMPED: &[u8] =
     b"format 0 tracks 1 division 480\ntempo 0 500000\n0 90 3C 40\n480 90 3C 00\nskipped 0\n";
+
+fn source(alloc: Global, bytes: &[u8]) -> Result<MemSource, OutOfMemory>
+    ensures { IfOk result (λ s. s.broken ≡ false) }
+{
+    Ok(MemSource::new(Vec::from_slice(alloc, bytes)?))
+}
 
 /// A tool prints a text of bytes. To a sink that takes a byte at a time, and fails at a write, it prints those of the
 /// writes before.
