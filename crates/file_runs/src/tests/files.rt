@@ -368,7 +368,7 @@ fn plays_by_frames(rt: HostRuntime) -> Result<(), Fail> {
     Ok(())
 }
 
-/// A refused request leaves the cursor at its event. `rt try --fail-alloc` refuses it.
+/// Where memory is refused, the cursor stays at its event, which comes when it is asked again.
 #[test]
 fn plays_exclusive_messages(rt: HostRuntime) -> Result<(), Fail> {
     let file = SmfFile::read(rt.alloc(), &EXCLUSIVES)?;

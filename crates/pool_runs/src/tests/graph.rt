@@ -72,8 +72,8 @@ const BESIDE: &[Edge] = &[
     (P(130, 0), P(131, 0)),
 ];
 
-/// Through seven filters.
-const EIGHT_EDGES: &[Edge] = &[
+/// Seven edges, each to the next of the filters 0 to 6.
+const CHAIN: &[Edge] = &[
     (P(128, 0), F(128, 0)),
     (F(128, 0), F(128, 1)),
     (F(128, 1), F(128, 2)),
@@ -81,20 +81,6 @@ const EIGHT_EDGES: &[Edge] = &[
     (F(128, 3), F(128, 4)),
     (F(128, 4), F(128, 5)),
     (F(128, 5), F(128, 6)),
-    (F(128, 6), P(129, 0)),
-];
-
-/// Through eight filters.
-const NINE_EDGES: &[Edge] = &[
-    (P(128, 0), F(128, 0)),
-    (F(128, 0), F(128, 1)),
-    (F(128, 1), F(128, 2)),
-    (F(128, 2), F(128, 3)),
-    (F(128, 3), F(128, 4)),
-    (F(128, 4), F(128, 5)),
-    (F(128, 5), F(128, 6)),
-    (F(128, 6), F(128, 7)),
-    (F(128, 7), P(129, 0)),
 ];
 
 const CASES: &[Case] = &[
@@ -195,7 +181,8 @@ const CASES: &[Case] = &[
     Case {
         name: "eight edges are walked",
         steps: &[
-            Joins(EIGHT_EDGES),
+            Joins(CHAIN),
+            Joins(&[(F(128, 6), P(129, 0))]),
             Has(8),
             Ways(
                 P(128, 0),
@@ -215,7 +202,8 @@ const CASES: &[Case] = &[
     Case {
         name: "nine edges are not walked",
         steps: &[
-            Joins(NINE_EDGES),
+            Joins(CHAIN),
+            Joins(&[(F(128, 6), F(128, 7)), (F(128, 7), P(129, 0))]),
             Has(9),
             Ways(P(128, 0), &[]),
             Ways(

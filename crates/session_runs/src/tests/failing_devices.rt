@@ -1,7 +1,7 @@
 //! Devices that fail.
 
 use super::devices::Devices;
-use super::sending::FIRST_NOTE;
+use super::sending::{FIRST_NOTE, LISTENER, SENDER};
 use super::session::{Session, assert_text};
 use super::strangers::HOSTILE_THIRD_SCRIPT;
 use agenda_heap::HeapAgenda;
@@ -22,16 +22,18 @@ fn client(number: u8) -> Result<ClientId, Fail> {
     Ok(ClientId::new(number).ok_or("a client number")?)
 }
 
-/// The listing takes no byte. All logs are whole.
+/// The listing takes no byte. All logs are whole, and that of an empty script has nothing.
 #[test]
 fn listing_that_takes_nothing(rt: HostRuntime) -> Result<(), Fail> {
     let alloc = rt.alloc();
     let mut devices = Devices::of(alloc, FIRST_NOTE.parts)?;
+    devices.add(alloc, 131, b"")?;
     devices.listing.piece(0);
     let fault = run_to(alloc, &mut devices, FIRST_NOTE.until)?;
     assert!(rt; fault == Some(SessionFault::WriteListing));
-    for (log, part) in devices.logs.iter().zip(FIRST_NOTE.parts.iter()) {
-        assert_text(&rt, log.bytes(), part.log);
+    let wanted = [SENDER.log, LISTENER.log, ""];
+    for (log, wanted) in devices.logs.iter().zip(wanted.iter()) {
+        assert_text(&rt, log.bytes(), wanted);
     }
     assert_text(&rt, devices.listing.bytes(), "");
     Ok(())

@@ -1,7 +1,7 @@
-//! The line of each command. Scripts with lines that are skipped, and of the greatest length, are in the sessions.
+//! The line of each command, and lines that are skipped. Scripts of the greatest length are in the sessions.
 
 use node_table::ClientId;
-use script_text::{ScriptRead, SkipReason, parse_script};
+use script_text::{ScriptRead, Skip, SkipReason, parse_script};
 use seq_state::Command;
 use std::alloc::Global;
 use std::process::Abort;
@@ -94,6 +94,32 @@ fn reads_each_form(rt: HostRuntime) -> Result<(), Fail> {
         let script = read(rt.alloc(), text.as_slice())?;
         assert_command(&rt, &script, line);
     }
+    Ok(())
+}
+
+/// A line that can't be read, a late one, and one past the end. The line after it is taken, though no line end follows.
+#[test]
+fn skips_hostile_lines(rt: HostRuntime) -> Result<(), Fail> {
+    let text = b"0 open x 1 1\nzzz\n1 port 0 in 66\n0 close\n2 connect 128:p0 131:p0\n99 close\n\
+        3 connect 131:p0 131:f0";
+    let script = read(rt.alloc(), text)?;
+    let skips = [
+        Skip {
+            line: 2,
+            why: SkipReason::Unreadable,
+        },
+        Skip {
+            line: 4,
+            why: SkipReason::Late,
+        },
+        Skip {
+            line: 6,
+            why: SkipReason::PastEnd,
+        },
+    ];
+    assert!(rt; script.skips.as_slice() == skips.as_slice());
+    let lines = script.inputs.as_slice().iter().map(|taken| taken.line);
+    assert!(rt; lines.eq([1, 3, 5, 7].iter().copied()));
     Ok(())
 }
 

@@ -41,7 +41,8 @@ const DUMPS: &[(&'static [u8], &'static [u8])] = &[
     ),
     (
         &TWO_TRACKS,
-        b"format 1 tracks 2 division 96\ntempo 0 250000\ntempo 96 500000\n96 90 01 40\n96 90 02 40\n96 90 03 40\nskipped 0\n",
+        b"format 1 tracks 2 division 96\ntempo 0 250000\ntempo 96 500000\n\
+            96 90 01 40\n96 90 02 40\n96 90 03 40\nskipped 0\n",
     ),
 ];
 
