@@ -1,19 +1,33 @@
--- Bytes that went from one list to another.
-use Rattle.std.specs.Prelude.{◌≡◌, ◌≤◌, ◌<◌, ◌++◌, ℕ, Bool, List, length, true, false}
+-- Bytes that went from a device, or to one.
+use Rattle.std.specs.Prelude.{◌≡◌, ◌<◌, ◌≤◌, ◌⊎◌, ◌++◌, ℕ, Bool, List, [], length, true, false}
 use Rattle.byte_io.specs.declared.fault.WriteFault.{WriteFault}
 use Rattle.byte_io.specs.declared.fault.WriteFault.TheVariants.{Device, TookNothing}
 
--- a source gave at most so many of its first bytes
-pub record GivesBytes (old new : List ℕ) (most : ℕ) : Type 0 where
+-- Reads gave these bytes: whatever the source has left now, before it had these, and then that.
+abbrev pub Gave : {R : Type 0} → (R → List ℕ → Type 0) → R → List ℕ → R → Type 0
+Gave HasLeft old bytes new = (rest : List ℕ) → HasLeft new rest → HasLeft old (bytes ++ rest)
+
+-- Reads gave these bytes, no more than were asked for; and then none was left, or as many had come.
+pub record GaveAll {R : Type 0} (HasLeft : R → List ℕ → Type 0) (most : ℕ) (old : R) (bytes : List ℕ) (new : R) : Type 0 where
+  pub gave : Gave HasLeft old bytes new
+  pub within : length bytes ≤ most
+  pub ended : HasLeft new [] ⊎ (length bytes ≡ most)
+
+-- Reads gave some bytes, and no more than so many.
+pub record GaveSome {R : Type 0} (HasLeft : R → List ℕ → Type 0) (most : ℕ) (old new : R) : Type 0 where
   pub given : List ℕ
-  pub split : old ≡ given ++ new
+  pub gave : Gave HasLeft old given new
   pub within : length given ≤ most
 
--- a sink gained a front of the bytes, and some are missing
-pub record GainsBytes (old new bytes : List ℕ) : Type 0 where
+-- Writes took these bytes: whatever the sink had taken before, now it has taken that, and then these.
+abbrev pub Took : {W : Type 0} → (W → List ℕ → Type 0) → W → List ℕ → W → Type 0
+Took HasTaken old bytes new = (before : List ℕ) → HasTaken old before → HasTaken new (before ++ bytes)
+
+-- Writes took the first of these bytes, and some are missing.
+pub record TookPart {W : Type 0} (HasTaken : W → List ℕ → Type 0) (old : W) (bytes : List ℕ) (new : W) : Type 0 where
   pub gained : List ℕ
   pub missing : List ℕ
-  pub now : new ≡ old ++ gained
+  pub took : Took HasTaken old gained new
   pub split : bytes ≡ gained ++ missing
   pub short : 0 < length missing
 

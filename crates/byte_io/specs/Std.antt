@@ -1,7 +1,6 @@
 -- The devices over the standard library, as contracts see them.
-use Rattle.std.specs.Prelude.{◌≡◌, ℕ, Bool, List, Option, Result, false}
-use Rattle.std.specs.Io.KnownBytes.{Keeps, ReadConsumes, WriteAppends}
-use Rattle.byte_io.specs.declared.fault.DeviceFault.{DeviceFault}
+use Rattle.std.specs.Prelude.{◌≡◌, ℕ, Bool, List, Option, Some, None}
+use Rattle.std.specs.Io.KnownBytes.{Keeps}
 
 -- a source: the reader that it was given, and the mark
 pub record StdInput (R : Type 0) : Type 0 where
@@ -17,13 +16,23 @@ pub record StdOutput (W : Type 0) : Type 0 where
 abbrev pub Known : Type 0 → Type 0
 Known D = D → Option (List ℕ)
 
--- where the source had not failed, its reader lost the bytes that the read gave
-abbrev pub ReadsThrough : {R : Type 0} → Known R → StdInput R → StdInput R → Result ℕ DeviceFault → List ℕ → Type 0
-ReadsThrough known old new r buffer = old.broken ≡ false → ReadConsumes (known old.reader) (known new.reader) r buffer
+-- these bytes, where any are known
+abbrev pub MayBe : Option (List ℕ) → List ℕ → Type 0
+MayBe None bytes = Unit {0}
+MayBe (Some known) bytes = known ≡ bytes
 
--- where the sink had not failed, its writer gained the bytes that the write took
-abbrev pub WritesThrough : {W : Type 0} → Known W → StdOutput W → StdOutput W → Result ℕ DeviceFault → List ℕ → Type 0
-WritesThrough known old new r bytes = old.broken ≡ false → WriteAppends (known old.writer) (known new.writer) r bytes
+-- bytes are known, and are these
+abbrev pub IsKnownAs : Option (List ℕ) → List ℕ → Type 0
+IsKnownAs None bytes = ⊥
+IsKnownAs (Some known) bytes = known ≡ bytes
+
+-- its reader has these bytes left, where it is known what that has
+abbrev pub HasUnread : {R : Type 0} → Known R → StdInput R → List ℕ → Type 0
+HasUnread known s rest = MayBe (known s.reader) rest
+
+-- its writer holds these bytes, as is known of it
+abbrev pub HasWritten : {W : Type 0} → Known W → StdOutput W → List ℕ → Type 0
+HasWritten known s bytes = IsKnownAs (known s.writer) bytes
 
 -- its writer holds the bytes that it held
 abbrev pub KeepsBytes : {W : Type 0} → Known W → StdOutput W → StdOutput W → Type 0

@@ -87,9 +87,7 @@ impl MemSink {
 }
 
 impl Sink for MemSink {
-    ghost tells = { λ _. true };
-
-    ghost taken = { λ s. s.taken };
+    ghost HasTaken = { λ s bytes. s.taken ≡ bytes };
 
     ghost failed = { λ s. s.broken };
 

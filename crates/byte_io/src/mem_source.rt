@@ -59,9 +59,7 @@ impl MemSource {
 }
 
 impl Source for MemSource {
-    ghost tells = { λ _. true };
-
-    ghost left = { λ s. s.left };
+    ghost HasLeft = { λ s rest. s.left ≡ rest };
 
     ghost failed = { λ s. s.broken };
 

@@ -1,7 +1,8 @@
 //! A sink over a writer of the standard library.
 
-ghost use Rattle.std.specs.Prelude.{◌≡◌, ◌≤◌, true, false, [], length, IfOk, IfErr, IsErr, is_err};
-ghost use Rattle.byte_io.specs.Std.{KeepsBytes, WritesThrough};
+ghost use Rattle.std.specs.Prelude.{◌≡◌, ◌≤◌, true, false, [], length, take, IfOk, IfErr, IsErr, OnErr, is_err};
+ghost use Rattle.byte_io.specs.Moved.{Took};
+ghost use Rattle.byte_io.specs.Std.{KeepsBytes, HasWritten};
 
 use crate::fault::DeviceFault;
 use crate::sink::Sink;
@@ -11,7 +12,7 @@ use std::marker::Model;
 /// A sink over a writer of the standard library. Any error of the writer marks it, that of an
 /// interrupted call too, and a marked sink leaves the writer alone.
 ///
-/// As a `Sink` it tells no bytes. What it moves is what its writer takes, where that is known.
+/// What it has taken is what its writer has, where that is known.
 ///
 /// Over a `BufWriter` a write only fills the buffer, so a caller ends with `flush`.
 #[derive(Drop)]
@@ -57,17 +58,17 @@ impl<W: Write + Drop> StdSink<W> {
 }
 
 impl<W: Write + Drop> Sink for StdSink<W> {
-    ghost tells = { λ _. false };
-
     ghost takes_some = { λ _. false };
 
-    ghost taken = { λ _. [] };
+    ghost HasTaken = { λ s bytes. HasWritten W.contents s bytes };
 
     ghost failed = { λ s. s.broken };
 
     fn write(&mut self, bytes: &[u8]) -> Result<usize, DeviceFault>
         ensures within { IfOk result (λ n. n ≤ length bytes.now) }
-        ensures bytes { WritesThrough W.contents self.old self.new result bytes.now }
+        ensures took { IfOk result (λ n.
+            Took (HasWritten W.contents) self.old (take n bytes.now) self.new) }
+        ensures unmoved { OnErr result (Took (HasWritten W.contents) self.old [] self.new) }
         ensures fault { IfErr result (λ e. e ≡ DeviceFault.Broken) }
         ensures mark { self.new.broken ≡ is_err result }
         ensures stuck { self.old.broken ≡ true → IsErr result }

@@ -1,7 +1,8 @@
 //! A source over a reader of the standard library.
 
-ghost use Rattle.std.specs.Prelude.{◌≡◌, ◌≤◌, [], length, true, false, is_err, IfOk, IfErr, IsErr};
-ghost use Rattle.byte_io.specs.Std.{ReadsThrough};
+ghost use Rattle.std.specs.Prelude.{◌≡◌, ◌≤◌, ◌<◌, [], length, take, true, false, is_err, IfOk, IfErr, IsErr, OnErr};
+ghost use Rattle.byte_io.specs.Moved.{Gave};
+ghost use Rattle.byte_io.specs.Std.{HasUnread};
 
 use crate::fault::DeviceFault;
 use crate::source::Source;
@@ -11,7 +12,7 @@ use std::marker::Model;
 /// A source over a reader of the standard library. Any error of the reader marks it, that of an
 /// interrupted call too, and a marked source leaves the reader alone.
 ///
-/// As a `Source` it tells no bytes. What it moves is what its reader gives, where that is known.
+/// What it has left is what its reader has, where that is known.
 #[derive(Drop)]
 pub struct StdSource<R: Read + Drop> {
     reader: R,
@@ -39,15 +40,17 @@ impl<R: Read + Drop> StdSource<R> {
 }
 
 impl<R: Read + Drop> Source for StdSource<R> {
-    ghost tells = { λ _. false };
-
-    ghost left = { λ _. [] };
+    ghost HasLeft = { λ s rest. HasUnread R.remaining s rest };
 
     ghost failed = { λ s. s.broken };
 
     fn read(&mut self, buffer: &mut [u8]) -> Result<usize, DeviceFault>
         ensures within { IfOk result (λ n. n ≤ length buffer.old) }
-        ensures bytes { ReadsThrough R.remaining self.old self.new result buffer.new }
+        ensures gave { IfOk result (λ n.
+            Gave (HasUnread R.remaining) self.old (take n buffer.new) self.new) }
+        ensures ended { IfOk result (λ n.
+            n ≡ 0 → 0 < length buffer.old → HasUnread R.remaining self.new []) }
+        ensures unmoved { OnErr result (Gave (HasUnread R.remaining) self.old [] self.new) }
         ensures fault { IfErr result (λ e. e ≡ DeviceFault.Broken) }
         ensures mark { self.new.broken ≡ is_err result }
         ensures stuck { self.old.broken ≡ true → IsErr result }

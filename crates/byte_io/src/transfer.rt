@@ -1,7 +1,7 @@
 //! Moving many bytes from a source or to a sink.
 
-ghost use Rattle.std.specs.Prelude.{◌≡◌, ◌≤◌, ◌++◌, [], length, take, drop, true, false, IfOk, IfErr, OnOk, OnErr, IsOk, IsErrOf};
-ghost use Rattle.byte_io.specs.Moved.{GivesBytes, GainsBytes, is_device_fault};
+ghost use Rattle.std.specs.Prelude.{◌≡◌, ◌≤◌, [], length, true, false, IfOk, IfErr, OnOk, OnErr, IsOk, IsErrOf};
+ghost use Rattle.byte_io.specs.Moved.{GaveAll, GaveSome, Took, TookPart, is_device_fault};
 
 use crate::fault::{DeviceFault, WriteFault};
 use crate::sink::Sink;
@@ -19,13 +19,9 @@ const CHUNK: usize = 8192;
 pub fn read_to<R: Source>(alloc: Global, input: &mut R, most: usize) -> Result<Vec<u8>, DeviceFault>
     requires sound { R.failed input.old ≡ false }
     ensures within { IfOk result (λ read. length read.items ≤ most) }
-    ensures bytes { R.tells input.old ≡ true
-        → IfOk result (λ read. read.items ≡ take most (R.left input.old)) }
-    ensures rest { R.tells input.old ≡ true
-        → OnOk result (R.left input.new ≡ drop most (R.left input.old)) }
-    ensures lost { R.tells input.old ≡ true
-        → OnErr result (GivesBytes (R.left input.old) (R.left input.new) most) }
-    ensures telling { R.tells input.new ≡ R.tells input.old }
+    ensures bytes { IfOk result (λ read.
+        GaveAll R.HasLeft most input.old read.items input.new) }
+    ensures lost { OnErr result (GaveSome R.HasLeft most input.old input.new) }
     ensures unmarked { OnOk result (R.failed input.new ≡ false) }
     ensures broken { IsErrOf result DeviceFault.Broken → R.failed input.new ≡ true }
 {
@@ -45,11 +41,8 @@ pub fn read_to<R: Source>(alloc: Global, input: &mut R, most: usize) -> Result<V
 /// Writes all of the bytes. On an error the device has taken the first of them, and not all.
 pub fn write_all<W: Sink>(out: &mut W, bytes: &[u8]) -> Result<(), WriteFault>
     requires sound { W.failed out.old ≡ false }
-    ensures written { W.tells out.old ≡ true
-        → OnOk result (W.taken out.new ≡ W.taken out.old ++ bytes.now) }
-    ensures part { W.tells out.old ≡ true
-        → OnErr result (GainsBytes (W.taken out.old) (W.taken out.new) bytes.now) }
-    ensures telling { W.tells out.new ≡ W.tells out.old }
+    ensures written { OnOk result (Took W.HasTaken out.old bytes.now out.new) }
+    ensures part { OnErr result (TookPart W.HasTaken out.old bytes.now out.new) }
     ensures unmarked { OnOk result (W.failed out.new ≡ false) }
     ensures eager { W.takes_some out.new ≡ W.takes_some out.old }
     ensures fault { IfErr result (λ e. W.failed out.new ≡ is_device_fault e) }

@@ -7,11 +7,13 @@ mod words;
 use byte_io::{StdSink, StdSource};
 use clap::ArgMatches;
 use clap::error::ErrorKind;
+use file_store::SystemFiles;
+use session_files::perform;
 use std::alloc::{AllocError, Global};
 use std::process::ExitCode;
 use std::rt::{Env, Files};
-use std::{env, fs, io};
-use tool_text::{ProgramFault, STANDARD, Stream, Task, ToolFault};
+use std::{env, io};
+use tool_text::{ProgramFault, STANDARD, Task};
 
 fn main(rt: HostRuntime) -> ExitCode {
     let words = match read_words(&rt) {
@@ -60,7 +62,7 @@ fn program<'a>(
     words: &'a [String],
 ) -> Result<ExitCode, ProgramFault<'a>> {
     if words.len() <= 1 {
-        return perform(rt, Task::without_words());
+        return on_streams(rt, Task::without_words());
     }
     match parse(rt.alloc(), words)? {
         Ok(matches) => {
@@ -88,37 +90,30 @@ fn subcommand<'a>(
     name: &str,
     found: &ArgMatches<'a>,
 ) -> Result<ExitCode, ProgramFault<'a>> {
+    let store = SystemFiles::new(rt.clone()?);
     match name {
-        "run" => sessions::run(rt, found)?,
-        "record" => sessions::record(rt, found)?,
+        "run" => sessions::run(rt, &store, found, &mut StdSink::new(io::writer(rt)))?,
+        "record" => sessions::record(rt, &store, found)?,
         _ => {
             let file = found.get_str("FILE").unwrap_or(STANDARD);
             let Some(task) = Task::of_words(name, file) else {
                 return Err(ProgramFault::NoSubcommand);
             };
-            return perform(rt, task);
+            return on_streams(rt, task);
         }
     }
     Ok(ExitCode::SUCCESS)
 }
 
-/// Gives a tool its stream, and prints on standard output.
+/// Does a task on the standard streams.
 #[inline(never)]
-fn perform<'a>(
-    rt: &(impl Files + Input + Print + AllocGlobal),
+fn on_streams<'a>(
+    rt: &(impl Files + Input + Print + AllocGlobal + Clone + Drop),
     task: Task<'a>,
 ) -> Result<ExitCode, ProgramFault<'a>> {
+    let store = SystemFiles::new(rt.clone()?);
+    let mut input = StdSource::new(rt.reader());
     let mut out = StdSink::new(io::writer(rt));
-    let tool = task.tool;
-    let done = match task.stream {
-        Stream::Standard => tool.print(rt.alloc(), &mut StdSource::new(rt.reader()), &mut out),
-        Stream::Path(path) => match fs::open(rt, path) {
-            Ok(file) => tool.print(rt.alloc(), &mut StdSource::new(file), &mut out),
-            Err(_) => Err(ToolFault::Read),
-        },
-    };
-    match done {
-        Ok(()) => Ok(ExitCode::SUCCESS),
-        Err(fault) => Err(ProgramFault::of_tool(task.stream, fault)),
-    }
+    perform(rt.alloc(), &store, task, &mut input, &mut out)?;
+    Ok(ExitCode::SUCCESS)
 }

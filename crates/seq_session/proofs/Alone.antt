@@ -1,10 +1,11 @@
 -- What the texts of a session are, and that each log is isolated.
-use Rattle.std.proofs.Common.{◌≡◌, ℕ, ◌≤◌, ◌<◌, Bool, cond, List, [], ◌∷◌, map, length, Option, Some, None, OnOk, Result, Ok, Err, refl, sym, ap, subst, ◌∙◌, arith}
+use Rattle.std.proofs.Common.{◌≡◌, ℕ, ◌≤◌, ◌<◌, Bool, cond, List, [], ◌∷◌, map, length, Option, Some, None, OnOk, OnErr, IfErr, Result, Ok, Err, refl, sym, ap, subst, ◌∙◌, arith}
 use Rattle.std.specs.List.{AllByRecursion}
 use Rattle.std.proofs.lemmas.Bool.{eq-eqb, ne_eqb}
 use Rattle.std.proofs.lemmas.List.{length-map}
 use Rattle.seq_state.specs.declared.log.LogEntry.{LogEntry}
 use Rattle.seq_state.specs.Step.{plain}
+use Rattle.byte_io.specs.Moved.{Took, TookPart}
 use Rattle.script_text.specs.declared.reading.ScriptRead.{ScriptRead}
 use Rattle.script_text.proofs.Read.{script-client}
 use Rattle.seq_session.specs.declared.fault.SessionFault.{SessionFault}
@@ -16,8 +17,8 @@ use Rattle.seq_session.specs.Rising.{RiseFrom, AreRising}
 use Rattle.seq_session.specs.Merging.{merged}
 use Rattle.seq_session.specs.Logs.{log_text}
 use Rattle.seq_session.specs.AllLogs.{clients_read}
-use Rattle.seq_session.specs.Sessions.{Folder, read, log_of, all_logs, script_clients, script_for}
-use Rattle.seq_session.specs.Devices.{clients, told, AreOpen, Wrote, AreAlone, log_of_fault, IsReading, LogsTell}
+use Rattle.seq_session.specs.Sessions.{Folder, read, log_of, all_logs, listing_after, script_clients, script_for}
+use Rattle.seq_session.specs.Devices.{clients, AreRead, AreOpen, Wrote, AreAlone, IsSession, log_of_fault, IsReading, LogsTell}
 use Rattle.seq_session.proofs.Blamed.{none_told}
 use Rattle.seq_session.proofs.Isolated.{log_law}
 
@@ -61,8 +62,8 @@ own_scripts [] r = tt
 own_scripts (s ∷ scripts) r =
     (ap (λ b. cond b (Some s) (script_for s.client scripts)) (eq-eqb s.client s.client refl), later_scripts s s.client scripts scripts (omega arith) r (own_from s.client scripts r))
 
-module _ {W : Type 0} (folder : Folder) (end : ℕ) (taken : W → List ℕ) (scripts : List Script) (rise : AreRising (script_clients scripts)) where
-  each_alone : (owners : List Script) (olds news : List W) → AllByRecursion (λ x. script_for x.client scripts ≡ Some x) owners → Wrote taken olds news (map (log_of folder end scripts) owners) → AreAlone folder end taken scripts owners olds news
+module _ {W : Type 0} (folder : Folder) (end : ℕ) (HasTaken : W → List ℕ → Type 0) (scripts : List Script) (rise : AreRising (script_clients scripts)) where
+  each_alone : (owners : List Script) (olds news : List W) → AllByRecursion (λ x. script_for x.client scripts ≡ Some x) owners → Wrote HasTaken olds news (map (log_of folder end scripts) owners) → AreAlone folder end HasTaken scripts owners olds news
   each_alone [] [] [] own h = tt
   each_alone [] [] (n ∷ news) own h = h
   each_alone [] (o ∷ olds) [] own h = h
@@ -71,11 +72,11 @@ module _ {W : Type 0} (folder : Folder) (end : ℕ) (taken : W → List ℕ) (sc
   each_alone (s ∷ owners) [] (n ∷ news) own h = h
   each_alone (s ∷ owners) (o ∷ olds) [] own h = h
   each_alone (s ∷ owners) (o ∷ olds) (n ∷ news) own h = (
-    record { gained = log_of folder end scripts s; appended = h.0; alone = λ member closed. log_law folder end s member scripts rise own.0 closed },
+    record { gained = log_of folder end scripts s; took = h.0; alone = λ member closed. log_law folder end s member scripts rise own.0 closed },
     each_alone owners olds news own.1 h.1,
   )
 
-  pub all_alone : (olds news : List W) → Wrote taken olds news (all_logs folder end scripts) → AreAlone folder end taken scripts scripts olds news
+  pub all_alone : (olds news : List W) → Wrote HasTaken olds news (all_logs folder end scripts) → AreAlone folder end HasTaken scripts scripts olds news
   all_alone olds news h = each_alone scripts olds news (own_scripts scripts rise) h
 
 -- ---- before anything is written
@@ -93,6 +94,25 @@ none_blamed failed eager blamed sources logs b n s =
     subst (λ bl. LogsTell failed eager bl (clients sources) logs) (sym b)
     (none_told failed eager (clients sources) logs (n ∙ sym (length-map sources (λ s. s.client))) s)
 
-pub told-clients : {R : Type 0} (left : R → List ℕ) (sources : List (ScriptSource R)) → script_clients (told left sources) ≡ clients sources
-told-clients left [] = refl
-told-clients left (s ∷ sources) = ap (λ cs. s.client ∷ cs) (told-clients left sources)
+-- ---- a session that comes to its listing
+
+module _ {R W : Type 0} {HasLeft : R → List ℕ → Type 0} {HasTaken : W → List ℕ → Type 0} {folder : Folder} {end : ℕ} {sources rests : List (ScriptSource R)} {olds news : List W} {before after : W} (scripts : List Script) {text : List ℕ} where
+  pub at_listing : (r : Result (Unit {0}) SessionFault) → AreRead HasLeft sources rests scripts → AreRising (script_clients scripts) → Wrote HasTaken olds news (all_logs folder end scripts) → text ≡ listing_after folder end scripts →
+      OnOk r (Took HasTaken before text after) → OnErr r (TookPart HasTaken before text after) → IfErr r (λ e. e ≡ WriteListing) → IsSession HasLeft HasTaken folder end sources rests olds news before after r
+  at_listing (Ok u) read rise wrote same took part fault = record {
+    scripts = scripts;
+    read = read;
+    written = record {
+      logs = wrote;
+      listing = subst (λ t. Took HasTaken before t after) same took;
+      isolated = all_alone folder end HasTaken scripts rise olds news wrote;
+    };
+  }
+  at_listing (Err WriteListing) read rise wrote same took part fault = record {
+    scripts = scripts;
+    read = read;
+    written = record { whole = wrote; listing_part = subst (λ t. TookPart HasTaken before t after) same part };
+  }
+  at_listing (Err OutOfMemory) read rise wrote same took part fault = cc
+  at_listing (Err (Read client)) read rise wrote same took part fault = cc
+  at_listing (Err (Write client)) read rise wrote same took part fault = cc

@@ -1,5 +1,5 @@
 -- Whom the answer of a session blames, and who is not blamed.
-use Rattle.std.proofs.Common.{◌≡◌, ℕ, ◌≤◌, ◌<◌, Bool, true, false, eqb, ◌||◌, List, [], ◌∷◌, ◌++◌, length, take, drop, ◌-◌, get_or, append_assoc, Option, Some, None, is_some, IfSome, refl, sym, ap, subst, ◌∙◌, arith, Result, Ok, Err, OnOk}
+use Rattle.std.proofs.Common.{◌≡◌, ℕ, ◌≤◌, ◌<◌, Bool, true, false, eqb, ◌||◌, List, [], ◌∷◌, length, take, drop, ◌-◌, get_or, Option, Some, None, is_some, IfSome, refl, sym, ap, subst, ◌∙◌, arith}
 use Rattle.std.specs.List.{list_any}
 use Rattle.std.proofs.lemmas.List.{length-map, take_rest}
 use Rattle.std.proofs.lemmas.Bool.{false≢true, eqb-true, eq-eqb, ne_eqb}
@@ -7,9 +7,7 @@ use Rattle.seq_session.specs.declared.source.ScriptSource.{ScriptSource}
 use Rattle.seq_session.specs.Rising.{RiseFrom, AreRising}
 use Rattle.seq_session.specs.declared.source.Script.{Script}
 use Rattle.seq_session.specs.Sessions.{script_clients}
-use Rattle.seq_session.specs.Devices.{clients, script_told, told, unread, behind_script, behind_scripts, AreSound, AreOpen, is_blamed, is_of_writing, IsAmong, IsReading, ReadersTell, IsTold, LogsTell}
-use Rattle.seq_session.specs.declared.fault.SessionFault.{SessionFault}
-use Rattle.seq_session.specs.declared.fault.SessionFault.TheVariants.{OutOfMemory, Read, Write, WriteListing}
+use Rattle.seq_session.specs.Devices.{clients, AreSound, AreOpen, is_blamed, IsAmong, ReadersTell, IsTold, LogsTell}
 
 -- a client that is among those that rise from a number is above it
 above : (low k : ℕ) (cs : List ℕ) → RiseFrom low cs → IsAmong k cs → low < k
@@ -105,28 +103,3 @@ module _ {W : Type 0} (failed eager : W → Bool) where
 pub first_at : {X : Type 0} (xs : List X) (x : X) → 0 < length xs → x ≡ get_or xs 0 x → xs ≡ x ∷ take (length xs - 1) (drop 1 xs)
 first_at [] x l e = absurd (omega arith)
 first_at (y ∷ xs) x l e = ap (λ z. z ∷ xs) (sym e) ∙ ap (λ ys. x ∷ ys) (sym (take_rest (y ∷ xs) 1))
-
--- what was read, with one script more in front
-pub told_more : {R E : Type 0} (left : R → List ℕ) (r : Result (Unit {0}) E) (before mid after : List Script) (s : Script) (x : ScriptSource R) (xs sources : List (ScriptSource R)) →
-    sources ≡ x ∷ xs → mid ≡ before ++ s ∷ [] → s ≡ script_told left x → OnOk r (after ≡ mid ++ told left xs) → OnOk r (after ≡ before ++ told left sources)
-told_more left (Err e) before mid after s x xs sources parts m t h = tt
-told_more left (Ok u) before mid after s x xs sources parts m t h =
-    h ∙ ap (λ ys. ys ++ told left xs) m
-    ∙ append_assoc before (s ∷ []) (told left xs)
-    ∙ ap (λ y. before ++ y ∷ told left xs) t
-    ∙ ap (λ ys. before ++ told left ys) (sym parts)
-
--- what the readers have left, with one reader more in front
-pub unread_more : {R E : Type 0} (left : R → List ℕ) (r : Result (Unit {0}) E) (x new : ScriptSource R) (xs news sources : List (ScriptSource R)) →
-    sources ≡ x ∷ xs → left new.reader ≡ behind_script (left x.reader) → OnOk r (unread left news ≡ behind_scripts (unread left xs)) →
-    OnOk r (unread left (new ∷ news) ≡ behind_scripts (unread left sources))
-unread_more left (Err e) x new xs news sources parts one rest = tt
-unread_more left (Ok u) x new xs news sources parts one rest =
-    ap (λ y. y ∷ unread left news) one ∙ ap (λ ys. behind_script (left x.reader) ∷ ys) rest ∙ ap (λ ys. behind_scripts (unread left ys)) (sym parts)
-
--- before all is read no answer says that it is
-pub not_read : (e : SessionFault) → IsReading e → is_of_writing e ≡ false
-not_read OutOfMemory h = refl
-not_read (Read client) h = refl
-not_read (Write client) h = absurd h
-not_read WriteListing h = absurd h

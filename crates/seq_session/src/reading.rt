@@ -1,9 +1,9 @@
 //! The scripts of a session, read from their devices.
 
-ghost use Rattle.std.specs.Prelude.{◌≡◌, ◌++◌, true, false, is_some, IfOk, OnOk, IfErr, IfSome};
+ghost use Rattle.std.specs.Prelude.{◌≡◌, ◌++◌, false, is_some, IfOk, OnOk, IfErr, IfSome};
 ghost use Rattle.seq_session.specs.Rising.{AreRising};
 ghost use Rattle.seq_session.specs.Sessions.{script_clients};
-ghost use Rattle.seq_session.specs.Devices.{clients, script_told, told, unread, behind_script, behind_scripts, AreSound, AllTell, reader_blamed, ReadersTell, IsAmong, IsReading};
+ghost use Rattle.seq_session.specs.Devices.{clients, AreSound, IsRead, ReadsOn, reader_blamed, ReadersTell, IsAmong, IsReading};
 
 use crate::fault::SessionFault;
 use crate::source::{Script, ScriptSource};
@@ -15,12 +15,8 @@ use std::alloc::Global;
 /// Reads one script.
 fn read_one<R: Source>(alloc: Global, source: &mut ScriptSource<R>) -> Result<Script, SessionFault>
     requires sound { R.failed source.old.reader ≡ false }
-    ensures told { R.tells source.old.reader ≡ true
-        → IfOk result (λ s. s ≡ script_told R.left source.old) }
-    ensures rest { R.tells source.old.reader ≡ true → OnOk result
-        (R.left source.new.reader ≡ behind_script (R.left source.old.reader)) }
+    ensures read { IfOk result (λ s. IsRead R.HasLeft source.old source.new s) }
     ensures client { source.new.client ≡ source.old.client }
-    ensures of_client { IfOk result (λ s. s.client ≡ source.old.client) }
     ensures mark { R.failed source.new.reader ≡ is_some (reader_blamed result) }
     ensures blamed { IfSome (reader_blamed result) (λ k. k ≡ source.old.client) }
     ensures only { IfErr result IsReading }
@@ -49,10 +45,8 @@ pub(crate) fn read_all<R: Source>(
 ) -> Result<(), SessionFault>
     requires rising { AreRising (clients sources.old) }
     requires sound { AreSound R.failed sources.old }
-    ensures told { AllTell R.tells sources.old
-        → OnOk result (scripts.new.items ≡ scripts.old.items ++ told R.left sources.old) }
-    ensures rest { AllTell R.tells sources.old
-        → OnOk result (unread R.left sources.new ≡ behind_scripts (unread R.left sources.old)) }
+    ensures read { OnOk result
+        (ReadsOn R.HasLeft sources.old sources.new scripts.old.items scripts.new.items) }
     ensures of_clients { OnOk result
         (script_clients scripts.new.items
         ≡ script_clients scripts.old.items ++ clients sources.old) }

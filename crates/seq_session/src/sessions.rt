@@ -1,15 +1,14 @@
 //! Sessions from the bytes of scripts to the bytes of logs.
 
-ghost use Rattle.std.specs.Prelude.{◌≡◌, ◌++◌, ℕ, true, false, map, length, IfOk, IfErr, OnOk, IsErrOf, IfSome};
+ghost use Rattle.std.specs.Prelude.{◌≡◌, true, false, map, length, IfOk, IfErr, IfSome};
 ghost use Rattle.std.specs.FinMap as finmap;
-ghost use Rattle.byte_io.specs.Moved.{GainsBytes};
 ghost use Rattle.seq_state.specs.State.{start};
 ghost use Rattle.seq_state.specs.Step.{plain, state_after, IsTimed};
 ghost use Rattle.seq_engine.specs.Ending.{listing_of};
 ghost use Rattle.seq_session.specs.Rising.{AreRising};
 ghost use Rattle.seq_session.specs.Merging.{inputs_of};
 ghost use Rattle.seq_session.specs.Sessions.{happens, all_logs, listing_after, script_clients};
-ghost use Rattle.seq_session.specs.Devices.{clients, told, unread, behind_scripts, AreSound, AllTell, AreOpen, TellAll, Wrote, WroteUpTo, AreAlone};
+ghost use Rattle.seq_session.specs.Devices.{clients, AreSound, AreOpen, IsSession, IsRun};
 ghost use Rattle.seq_session.specs.Devices.{reader_blamed, log_blamed, blames_listing, has_read, IsAmong, IsReading, ReadersTell, IsTold, LogsTell};
 
 use crate::fault::SessionFault;
@@ -52,39 +51,17 @@ pub fn run_sessions<'f, 'b, R: Source, W: Sink, A: Agenda + Drop>(
     requires listing { W.failed listing.old ≡ false }
     requires empty { A.content agenda ≡ finmap.empty }
 
-    // Each log gains the client's log in the session of the scripts, and the listing who is there at the end.
-    ensures logs { AllTell R.tells scripts.old → TellAll W.tells logs.old
-        → OnOk result (Wrote W.taken logs.old logs.new
-        (all_logs files.now until (told R.left scripts.old))) }
-    ensures listing { AllTell R.tells scripts.old → W.tells listing.old ≡ true
-        → OnOk result (W.taken listing.new ≡ W.taken listing.old
-        ++ listing_after files.now until (told R.left scripts.old)) }
-
-    // Where a circle of clients is closed round the owner of a log, what the log gains tells what it tells in the
-    // session of the circle's scripts alone, whatever all others say.
-    ensures isolated { AllTell R.tells scripts.old → TellAll W.tells logs.old
-        → OnOk result (AreAlone files.now until W.taken
-        (told R.left scripts.old) (told R.left scripts.old) logs.old logs.new) }
-
-    // Once all is read, each reader has left what is behind the bytes that were asked of it.
-    ensures rest { AllTell R.tells scripts.old → has_read result ≡ true
-        → unread R.left scripts.new ≡ behind_scripts (unread R.left scripts.old) }
+    // Once all is read, there are scripts, each what the calls of its reader gave, and what is written is that of the
+    // session of just these: each log gains the client's log, and the listing who is there at the end. Where a circle
+    // of clients is closed round the owner of a log, what the log gains tells what it tells in the session of the
+    // circle's scripts alone, whatever all others say. At a write fault the earlier logs are whole, that one has the
+    // first part of its text, and nothing is written any more.
+    ensures session { has_read result ≡ true → IsSession R.HasLeft W.HasTaken files.now until
+        scripts.old scripts.new logs.old logs.new listing.old listing.new result }
 
     // Before all is read, and the texts are made, nothing is written.
     ensures unwritten { IfErr result (λ e. IsReading e
         → (logs.new ≡ logs.old) × (listing.new ≡ listing.old)) }
-
-    // At a write fault the earlier logs are whole, that one has a front of its text, and nothing is written any more.
-    ensures part { AllTell R.tells scripts.old → TellAll W.tells logs.old
-        → IfSome (log_blamed result) (λ k. WroteUpTo W.taken k (clients scripts.old)
-        logs.old logs.new (all_logs files.now until (told R.left scripts.old))) }
-    ensures no_listing { IfSome (log_blamed result) (λ _. listing.new ≡ listing.old) }
-    ensures whole { AllTell R.tells scripts.old → TellAll W.tells logs.old
-        → blames_listing result ≡ true → Wrote W.taken logs.old logs.new
-        (all_logs files.now until (told R.left scripts.old)) }
-    ensures listing_part { AllTell R.tells scripts.old → W.tells listing.old ≡ true
-        → blames_listing result ≡ true → GainsBytes (W.taken listing.old) (W.taken listing.new)
-        (listing_after files.now until (told R.left scripts.old)) }
 
     // A device is blamed where it failed in this call, or is a sink that may take no byte, and wherever it failed.
     ensures clients { clients scripts.new ≡ clients scripts.old }
@@ -117,10 +94,8 @@ pub fn run_scripts<'f, 'b, R: Source, A: Agenda + Drop>(
     requires rising { AreRising (clients scripts.old) }
     requires readers { AreSound R.failed scripts.old }
     requires empty { A.content agenda ≡ finmap.empty }
-    ensures plain { AllTell R.tells scripts.old → IfOk result (λ log.
-        log.entries ≡ happens files.now until (told R.left scripts.old)) }
-    ensures listing { AllTell R.tells scripts.old → IfOk result (λ log.
-        log.listing ≡ listing_after files.now until (told R.left scripts.old)) }
+    ensures run { IfOk result (λ log.
+        IsRun R.HasLeft files.now until scripts.old scripts.new log) }
     ensures only { IfErr result IsReading }
     ensures clients { clients scripts.new ≡ clients scripts.old }
     ensures reader_marks { ReadersTell R.failed (reader_blamed result) scripts.new }

@@ -1,10 +1,10 @@
 //! The logs of a session, written to their devices.
 
-ghost use Rattle.std.specs.Prelude.{◌≡◌, ◌++◌, true, false, is_err, map, length, OnOk, OnErr, IfErr, IfSome, IsSome};
-ghost use Rattle.byte_io.specs.Moved.{GainsBytes};
+ghost use Rattle.std.specs.Prelude.{◌≡◌, false, is_err, map, length, OnOk, OnErr, IfErr, IfSome, IsSome};
+ghost use Rattle.byte_io.specs.Moved.{Took, TookPart};
 ghost use Rattle.seq_session.specs.Rising.{AreRising};
 ghost use Rattle.seq_session.specs.Sessions.{script_clients};
-ghost use Rattle.seq_session.specs.Devices.{Wrote, WroteUpTo, IsTold, LogsTell, log_of_fault, log_blamed, IsAmong, AreOpen, TellAll};
+ghost use Rattle.seq_session.specs.Devices.{Wrote, WroteUpTo, IsTold, LogsTell, log_of_fault, log_blamed, IsAmong, AreOpen};
 
 use crate::fault::SessionFault;
 use crate::source::Script;
@@ -14,10 +14,8 @@ use node_table::ClientId;
 /// Writes the log of a client.
 fn write_one<W: Sink>(client: ClientId, log: &mut W, text: &[u8]) -> Result<(), SessionFault>
     requires sound { W.failed log.old ≡ false }
-    ensures written { W.tells log.old ≡ true
-        → OnOk result (W.taken log.new ≡ W.taken log.old ++ text.now) }
-    ensures part { W.tells log.old ≡ true
-        → OnErr result (GainsBytes (W.taken log.old) (W.taken log.new) text.now) }
+    ensures written { OnOk result (Took W.HasTaken log.old text.now log.new) }
+    ensures part { OnErr result (TookPart W.HasTaken log.old text.now log.new) }
     ensures mark { IsTold (W.failed log.new) (W.takes_some log.new) (is_err result) }
     ensures fault { IfErr result (λ e. e ≡ SessionFault.Write client) }
 {
@@ -30,10 +28,8 @@ fn write_one<W: Sink>(client: ClientId, log: &mut W, text: &[u8]) -> Result<(), 
 /// Writes the listing.
 pub(crate) fn write_listing<W: Sink>(listing: &mut W, text: &[u8]) -> Result<(), SessionFault>
     requires sound { W.failed listing.old ≡ false }
-    ensures written { W.tells listing.old ≡ true
-        → OnOk result (W.taken listing.new ≡ W.taken listing.old ++ text.now) }
-    ensures part { W.tells listing.old ≡ true
-        → OnErr result (GainsBytes (W.taken listing.old) (W.taken listing.new) text.now) }
+    ensures written { OnOk result (Took W.HasTaken listing.old text.now listing.new) }
+    ensures part { OnErr result (TookPart W.HasTaken listing.old text.now listing.new) }
     ensures mark { IsTold (W.failed listing.new) (W.takes_some listing.new) (is_err result) }
     ensures fault { IfErr result (λ e. e ≡ SessionFault.WriteListing) }
 {
@@ -53,10 +49,9 @@ pub(crate) fn write_logs<W: Sink>(
     requires logs { length logs.old ≡ length scripts.now }
     requires texts { length texts.now ≡ length scripts.now }
     requires sound { AreOpen W.failed logs.old }
-    ensures wrote { TellAll W.tells logs.old
-        → OnOk result (Wrote W.taken logs.old logs.new (map (λ t. t.items) texts.now)) }
-    ensures part { TellAll W.tells logs.old
-        → IfSome (log_blamed result) (λ k. WroteUpTo W.taken k
+    ensures wrote { OnOk result
+        (Wrote W.HasTaken logs.old logs.new (map (λ t. t.items) texts.now)) }
+    ensures part { IfSome (log_blamed result) (λ k. WroteUpTo W.HasTaken k
         (script_clients scripts.now) logs.old logs.new (map (λ t. t.items) texts.now)) }
     ensures marks { LogsTell W.failed W.takes_some (log_blamed result)
         (script_clients scripts.now) logs.new }

@@ -1,2 +1,4 @@
+pub mod Files
 pub mod Opened
+pub mod Printed
 pub mod Rising

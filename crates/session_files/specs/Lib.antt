@@ -1,1 +1,6 @@
+pub mod Apart
+pub mod Opened
+pub mod Printed
+pub mod Recorded
 pub mod Sessions
+pub mod Tasks

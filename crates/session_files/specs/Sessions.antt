@@ -1,5 +1,6 @@
 -- What the subcommands that run scripts tell.
-use Rattle.std.specs.Prelude.{◌≡◌, ℕ, false, List, length, map, Contains}
+use Rattle.std.specs.Prelude.{◌≡◌, ℕ, false, List, [], length, map, Contains}
+use Rattle.std.specs.List.{AllByRecursion}
 use Rattle.byte_io.specs.Memory.{MemOutput}
 use Rattle.seq_session.specs.Devices.{AreOpen}
 use Rattle.seq_session.specs.Rising.{AreRising}
@@ -14,11 +15,15 @@ use Rattle.tool_text.specs.declared.program_fault.ProgramFault.TheVariants.{OutO
 abbrev pub owners : List ScriptWord → List ℕ
 owners scripts = map (λ s. s.client) scripts
 
+-- logs that have taken nothing
+abbrev pub AreEmpty : List MemOutput → Type 0
+AreEmpty logs = AllByRecursion (λ l. l.taken ≡ []) logs
+
 -- logs, one for each script, and a listing that scripts in the order of their clients may be run into
 abbrev pub MayBeRun : List ScriptWord → List MemOutput → MemOutput → Type 0
 MayBeRun scripts logs listing =
     AreRising (owners scripts) × (length logs ≡ length scripts) × AreOpen (λ (l : MemOutput). l.broken) logs
-    × (listing.broken ≡ false)
+    × (listing.broken ≡ false) × AreEmpty logs × (listing.taken ≡ [])
 
 -- the fault that tells this word
 abbrev pub IsNotAMoment : List ℕ → ProgramFault → Type 0

@@ -1,17 +1,18 @@
 //! The files of a folder, for a run to play.
 
-ghost use Rattle.std.specs.Prelude.{◌≡◌, ◌≤◌, [], None, length, take, map, string_bytes, IfOk};
+ghost use Rattle.std.specs.Prelude.{◌≡◌, ◌≤◌, ◌+◌, length, take, map, string_bytes, IfOk};
+ghost use Rattle.std.specs.Option.{option_map};
 ghost use Rattle.script_text.specs.declared.script.TheConstants.{MOST_FILES};
 ghost use Rattle.session_tools.specs.Folder.{bytes_read, seen_files, AreOpened};
+ghost use Rattle.session_files.specs.Opened.{path_in, IsContent, IsFolder};
 ghost use Rattle.smf_grammar.specs.Played.{played};
 
-use byte_io::{Source, StdSource, read_to};
+use byte_io::{DeviceFault, Source, read_to};
+use file_store::FileStore;
+use memory::OutOfMemory;
 use seq_session::NamedFiles;
 use session_tools::{FolderFiles, midi_files, open_files, taken_files};
 use std::alloc::Global;
-use std::fs;
-use std::io::{Error, ErrorKind};
-use std::rt::Files;
 use tool_text::{LeftOut, ProgramFault};
 
 /// One byte more than a Standard MIDI File may have.
@@ -29,21 +30,24 @@ pub struct Folder {
 
 impl Folder {
     /// Reads the files of a folder; where none is named there are no files.
-    pub fn read<'a>(
-        rt: &(impl Files + AllocGlobal + Clone + Drop),
+    pub fn read<'a, S: FileStore>(
+        alloc: Global,
+        store: &S,
         dir: Option<&'a str>,
     ) -> Result<Folder, ProgramFault<'a>>
-        ensures none { dir.entry ≡ None → IfOk result (λ f. f.names.items ≡ []) }
+        ensures read { IfOk result (λ f. IsFolder S.IsOpened S.Reader.HasLeft S.CannotOpen
+            S.Reader.failed S.HasNames (option_map (λ d. d.now) dir.entry)
+            (map string_bytes f.names.items) (map bytes_read f.contents.items)) }
     {
-        let mut contents = Vec::new(rt.alloc());
+        let mut contents = Vec::new(alloc);
         let Some(dir) = dir else {
-            let names = Vec::new(rt.alloc());
+            let names = Vec::new(alloc);
             return Ok(Folder { names, contents });
         };
-        let names = midi_files(names_in(rt, dir)?)?;
+        let names = midi_files(names_in(alloc, store, dir)?)?;
         let (taken, _) = taken_files(names.as_slice());
         for name in taken {
-            contents.push(content_of(rt, dir, name.as_str())?)?;
+            contents.push(content_of(alloc, store, dir, name.as_str())?)?;
         }
         Ok(Folder { names, contents })
     }
@@ -77,47 +81,42 @@ fn tell_left_out(rt: &impl Eprint, name: &str) {
 }
 
 /// The names in a folder, but for those that are not UTF-8.
-fn names_in<'a>(
-    rt: &(impl Files + AllocGlobal + Clone + Drop),
+fn names_in<'a, S: FileStore>(
+    alloc: Global,
+    store: &S,
     dir: &'a str,
-) -> Result<Vec<String>, ProgramFault<'a>> {
-    let mut names = Vec::new(rt.alloc());
-    let entries = match fs::read_dir(rt, dir) {
-        Ok(entries) => entries,
-        Err(error) => return Err(listing_fault(error.kind(), dir)),
-    };
-    for entry in entries {
-        match entry {
-            Ok(entry) => names.push(String::from_str(rt.alloc(), entry.file_name())?)?,
-            Err(error) => {
-                if error.kind() != ErrorKind::InvalidFilename {
-                    return Err(listing_fault(error.kind(), dir));
-                }
-            }
-        }
+) -> Result<Vec<String>, ProgramFault<'a>>
+    ensures { IfOk result (λ names. S.HasNames dir.now (map string_bytes names.items)) }
+{
+    match store.names(alloc, dir) {
+        Ok(names) => Ok(names),
+        Err(DeviceFault::OutOfMemory) => Err(ProgramFault::OutOfMemory),
+        Err(DeviceFault::Broken) => Err(ProgramFault::CannotRead(dir)),
     }
-    Ok(names)
 }
 
-fn listing_fault(kind: ErrorKind, dir: &str) -> ProgramFault<'_> {
-    match kind {
-        ErrorKind::OutOfMemory => ProgramFault::OutOfMemory,
-        _ => ProgramFault::CannotRead(dir),
-    }
+/// The path of a file in a folder.
+pub(crate) fn path_in(alloc: Global, dir: &str, name: &str) -> Result<String, OutOfMemory>
+    ensures { IfOk result (λ path. string_bytes path ≡ path_in dir.now name.now) }
+{
+    Ok(format!(in alloc; "{dir}/{name}")?)
 }
 
 /// What a file holds, if it can be read, up to one byte more than a file may have.
-fn content_of(
-    rt: &(impl Files + AllocGlobal),
+fn content_of<S: FileStore>(
+    alloc: Global,
+    store: &S,
     dir: &str,
     name: &str,
-) -> Result<Option<Vec<u8>>, ProgramFault<'static>> {
-    let path = format!(in rt.alloc(); "{dir}/{name}")?;
-    let Ok(file) = fs::open(rt, path.as_str()) else {
+) -> Result<Option<Vec<u8>>, ProgramFault<'static>>
+    ensures { IfOk result (λ content. IsContent S.IsOpened S.Reader.HasLeft S.CannotOpen
+        S.Reader.failed (path_in dir.now name.now) (bytes_read content)) }
+{
+    let path = path_in(alloc, dir, name)?;
+    let Ok(mut source) = store.open(path.as_str()) else {
         return Ok(None);
     };
-    let mut source = StdSource::new(file);
-    match read_to(rt.alloc(), &mut source, MOST_READ) {
+    match read_to(alloc, &mut source, MOST_READ) {
         Ok(bytes) => Ok(Some(bytes)),
         Err(_) => {
             if source.has_failed() {

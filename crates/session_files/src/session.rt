@@ -5,14 +5,14 @@ ghost use Rattle.script_text.specs.Numbers as says;
 ghost use Rattle.seq_session.specs.Rising.{AreRising};
 ghost use Rattle.seq_session.specs.Devices.{clients, AreSound, AreOpen, reader_of, IsAmong};
 ghost use Rattle.session_tools.specs.Words.{scripts_named, scripts_seen, IsOfWords};
-ghost use Rattle.session_files.specs.Sessions.{owners, IsNotAMoment, IsToldAs};
+ghost use Rattle.session_files.specs.Opened.{AreSourcesOf};
+ghost use Rattle.session_files.specs.Sessions.{owners, AreEmpty, IsNotAMoment, IsToldAs};
 
-use byte_io::{MemSink, StdSource};
+use byte_io::MemSink;
+use file_store::FileStore;
 use seq_session::{ScriptSource, SessionFault};
 use session_tools::{ScriptWord, scripts_named, until_named};
 use std::alloc::Global;
-use std::fs;
-use std::rt::Files;
 use tool_text::ProgramFault;
 
 /// A session as the words of the command line say it.
@@ -56,23 +56,23 @@ impl<'a> Session<'a> {
     }
 
     /// Opens the scripts, by client.
-    pub fn open<R: Files>(
+    pub fn open<S: FileStore>(
         &self,
-        rt: &R,
         alloc: Global,
-    ) -> Result<Vec<ScriptSource<StdSource<R::File>>>, ProgramFault<'a>>
+        store: &S,
+    ) -> Result<Vec<ScriptSource<S::Reader>>, ProgramFault<'a>>
+        ensures opened { IfOk result (λ v.
+            AreSourcesOf S.IsOpened self.now.scripts.items v.items) }
         ensures clients { IfOk result (λ v. clients v.items ≡ owners self.now.scripts.items) }
-        ensures readers { IfOk result (λ v. AreSound (λ s. s.broken) v.items) }
+        ensures readers { IfOk result (λ v. AreSound S.Reader.failed v.items) }
     {
         let mut sources = Vec::new(alloc);
         for script in &self.scripts {
-            let Ok(file) = fs::open(rt, script.path) else {
+            let Ok(reader) = store.open(script.path) else {
                 return Err(ProgramFault::CannotRead(script.path));
             };
-            sources.push(ScriptSource {
-                client: script.client,
-                reader: StdSource::new(file),
-            })?;
+            let client = script.client;
+            sources.push(ScriptSource { client, reader })?;
         }
         Ok(sources)
     }
@@ -81,6 +81,7 @@ impl<'a> Session<'a> {
     pub fn logs(&self, alloc: Global) -> Result<Vec<MemSink>, ProgramFault<'a>>
         ensures as_many { IfOk result (λ v. length v.items ≡ length self.now.scripts.items) }
         ensures open { IfOk result (λ v. AreOpen (λ l. l.broken) v.items) }
+        ensures empty { IfOk result (λ v. AreEmpty v.items) }
     {
         let mut logs = Vec::new(alloc);
         for _script in &self.scripts {

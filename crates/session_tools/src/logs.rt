@@ -2,7 +2,7 @@
 
 ghost use Rattle.std.specs.Prelude.{◌≡◌, ◌++◌, ◌⊎◌, true, false, length, IfErr, OnOk, OnErr, IsErrOf};
 ghost use Rattle.std.specs.Option.{option_map};
-ghost use Rattle.byte_io.specs.Moved.{GainsBytes};
+ghost use Rattle.byte_io.specs.Moved.{Took, TookPart};
 ghost use Rattle.session_tools.specs.Printed.{client_heading, headed_log, logs_text, printed_text, IsOfPrinting};
 
 use crate::words::ScriptWord;
@@ -16,7 +16,7 @@ use tool_text::{ToolFault, send};
 /// Prints the number of each script's client and the log in the same place, and then the listing where there is one.
 /// Each log is written at once, and only the lines with the numbers take memory.
 ///
-/// At a fault the sink has taken a front of the text.
+/// At a fault the sink has taken the first part of the text.
 pub fn print_logs<W: Sink>(
     alloc: Global,
     scripts: &[ScriptWord<'_>],
@@ -27,11 +27,10 @@ pub fn print_logs<W: Sink>(
     requires paired { length scripts.now ≡ length logs.now }
     requires sound { W.failed out.old ≡ false }
 
-    ensures text { W.tells out.old ≡ true → OnOk result (W.taken out.new ≡ W.taken out.old
-        ++ printed_text scripts.now logs.now (option_map (λ l. l.now) listing.entry)) }
-    ensures short { W.tells out.old ≡ true
-        → OnErr result (GainsBytes (W.taken out.old) (W.taken out.new)
-        (printed_text scripts.now logs.now (option_map (λ l. l.now) listing.entry))) }
+    ensures text { OnOk result (Took W.HasTaken out.old
+        (printed_text scripts.now logs.now (option_map (λ l. l.now) listing.entry)) out.new) }
+    ensures short { OnErr result (TookPart W.HasTaken out.old
+        (printed_text scripts.now logs.now (option_map (λ l. l.now) listing.entry)) out.new) }
 
     // `Write` comes where the sink failed or is one that may take no byte, and want of memory is told only where the
     // sink did not fail.
@@ -56,11 +55,10 @@ fn print_all<W: Sink>(
 ) -> Result<(), ToolFault>
     requires paired { length scripts.now ≡ length logs.now }
     requires sound { W.failed out.old ≡ false }
-    ensures text { W.tells out.old ≡ true
-        → OnOk result (W.taken out.new ≡ W.taken out.old ++ logs_text scripts.now logs.now) }
-    ensures short { W.tells out.old ≡ true → OnErr result
-        (GainsBytes (W.taken out.old) (W.taken out.new) (logs_text scripts.now logs.now)) }
-    ensures telling { W.tells out.new ≡ W.tells out.old }
+    ensures text { OnOk result
+        (Took W.HasTaken out.old (logs_text scripts.now logs.now) out.new) }
+    ensures short { OnErr result
+        (TookPart W.HasTaken out.old (logs_text scripts.now logs.now) out.new) }
     ensures eager { W.takes_some out.new ≡ W.takes_some out.old }
     ensures unmarked { OnOk result (W.failed out.new ≡ false) }
     ensures write { IsErrOf result ToolFault.Write
@@ -84,12 +82,9 @@ fn print_log<W: Sink>(
     out: &mut W,
 ) -> Result<(), ToolFault>
     requires { W.failed out.old ≡ false }
-    ensures text { W.tells out.old ≡ true
-        → OnOk result (W.taken out.new ≡ W.taken out.old ++ headed_log client log.now) }
-    ensures short { W.tells out.old ≡ true
-        → OnErr result
-        (GainsBytes (W.taken out.old) (W.taken out.new) (headed_log client log.now)) }
-    ensures telling { W.tells out.new ≡ W.tells out.old }
+    ensures text { OnOk result (Took W.HasTaken out.old (headed_log client log.now) out.new) }
+    ensures short { OnErr result
+        (TookPart W.HasTaken out.old (headed_log client log.now) out.new) }
     ensures eager { W.takes_some out.new ≡ W.takes_some out.old }
     ensures unmarked { OnOk result (W.failed out.new ≡ false) }
     ensures write { IsErrOf result ToolFault.Write

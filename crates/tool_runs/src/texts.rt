@@ -1,8 +1,8 @@
 //! What a tool prints of bytes in memory.
 
-ghost use Rattle.std.specs.Prelude.{◌≤◌, [], length, IfOk, IfErr, OnOk};
+ghost use Rattle.std.specs.Prelude.{◌≤◌, length, IfOk, IfErr, OnOk};
 ghost use Rattle.smf_grammar.specs.Chunks.{most_bytes};
-ghost use Rattle.tool_text.specs.Tools.{IsPrinted, MayTell};
+ghost use Rattle.tool_runs.specs.Texts.{IsTextOf, IsFaultOf};
 
 use byte_io::{MemSink, MemSource};
 use std::alloc::Global;
@@ -10,9 +10,9 @@ use tool_text::{Tool, ToolFault};
 
 /// All that the tool prints of these bytes. A fault of a file is theirs.
 pub fn printed(alloc: Global, tool: Tool, bytes: &[u8]) -> Result<Vec<u8>, ToolFault>
-    ensures text { IfOk result (λ text. IsPrinted tool bytes.now [] text.items) }
+    ensures text { IfOk result (λ text. IsTextOf tool bytes.now text.items) }
     ensures bounded { OnOk result (length bytes.now ≤ most_bytes) }
-    ensures told { IfErr result (MayTell tool bytes.now) }
+    ensures told { IfErr result (IsFaultOf tool bytes.now) }
 {
     let mut input = MemSource::new(Vec::from_slice(alloc, bytes)?);
     let mut out = MemSink::new(alloc, 0)?;

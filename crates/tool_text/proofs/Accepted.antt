@@ -1,17 +1,18 @@
 -- A file that was read up to one byte more than it may have.
-use Rattle.std.proofs.Common.{◌≡◌, ◌≢◌, ◌≤◌, ◌<◌, ℕ, zero, suc, false, List, [], ◌∷◌, ◌∙◌, ◌⊎◌, inl, inr, length, take, drop, refl, arith, ap, sym, subst}
-use Rattle.std.specs.Prelude.{Err, nat_le}
+use Rattle.std.proofs.Common.{◌≡◌, ◌≢◌, ◌+◌, ◌≤◌, ◌<◌, ℕ, false, List, [], ◌⊎◌, inl, inr, length, refl, arith, sym, subst}
+use Rattle.std.specs.Prelude.{Result, Ok, Err, IfErr, nat_le}
 use Rattle.std.proofs.lemmas.Bool.{cases_lt}
 use Rattle.std.proofs.lemmas.Bool.Decides.{nat_tests}
+use Rattle.byte_io.specs.Moved.{GaveAll, Took}
 use Rattle.smf_grammar.specs.declared.fault.SmfFault.{SmfFault}
 use Rattle.smf_grammar.specs.declared.fault.SmfFault.TheVariants as smf
 use Rattle.smf_grammar.specs.Chunks.{header_at, most_bytes}
 use Rattle.smf_grammar.specs.Files.{MidiFile, IsFile, Fault}
-use Rattle.smf_grammar.proofs.Whole.{one-fault, not-both}
+use Rattle.smf_grammar.proofs.Whole.{not-both}
 use Rattle.tool_text.specs.declared.fault.ToolFault.{ToolFault}
-use Rattle.tool_text.specs.declared.fault.ToolFault.TheVariants as tool
-use Rattle.tool_text.specs.Dump.{TellsFault, IsRefusedBy}
-use Rattle.tool_text.specs.Faults.{tool_fault}
+use Rattle.tool_text.specs.Dump.{dump_of, IsDumped, StopsInFile, IsAccepted, TellsFault}
+use Rattle.tool_text.specs.Faults.{tool_fault, IsOutput}
+use Rattle.tool_text.specs.Gathered.{Stops}
 
 too-large : (bytes : List ℕ) → most_bytes < length bytes → header_at bytes ≡ Err smf.TooLarge
 unfolding header_at
@@ -19,66 +20,45 @@ too-large bytes h =
     let f : nat_le (length bytes) most_bytes ≡ false = grind (arith, nat_tests) in
     rw f refl
 
-take-short : (xs : List ℕ) (n : ℕ) → length xs ≤ n → take n xs ≡ xs
-take-short [] zero h = refl
-take-short [] (suc n) h = refl
-take-short (x ∷ xs) zero h = absurd (omega arith)
-take-short (x ∷ xs) (suc n) h = ap (λ (ys : List ℕ). x ∷ ys) (take-short xs n (omega arith))
-
-drop-short : (xs : List ℕ) (n : ℕ) → length xs ≤ n → drop n xs ≡ []
-drop-short [] zero h = refl
-drop-short [] (suc n) h = refl
-drop-short (x ∷ xs) zero h = absurd (omega arith)
-drop-short (x ∷ xs) (suc n) h = drop-short xs n (omega arith)
-
-take-long : (xs : List ℕ) (n : ℕ) → n ≤ length xs → length (take n xs) ≡ n
-take-long xs zero h = go xs
+-- a file has no byte too many
+file-bounded : (bytes : List ℕ) (f : MidiFile) → IsFile bytes f → length bytes ≤ most_bytes
+file-bounded bytes f w = go (cases_lt most_bytes (length bytes))
   where
-    go : (xs : List ℕ) → length (take zero xs) ≡ zero
-    go [] = refl
-    go (x ∷ xs) = refl
-take-long [] (suc n) h = absurd (omega arith)
-take-long (x ∷ xs) (suc n) h = ap suc (take-long xs n (omega arith))
+    go : (most_bytes < length bytes) ⊎ (length bytes ≤ most_bytes) → length bytes ≤ most_bytes
+    go (inl h) = absurd (not-both bytes f smf.TooLarge w (inl (too-large bytes h)))
+    go (inr h) = h
 
--- the bytes that were read are all, or they are too many, as all are
-read-or-large : (left bytes : List ℕ) → bytes ≡ take 16777217 left → ((bytes ≡ left) × (length left ≤ 16777216)) ⊎ ((most_bytes < length left) × (most_bytes < length bytes))
-read-or-large left bytes e =
-    go (cases_lt most_bytes (length left))
-  where
-    go : (most_bytes < length left) ⊎ (length left ≤ most_bytes) → ((bytes ≡ left) × (length left ≤ 16777216)) ⊎ ((most_bytes < length left) × (most_bytes < length bytes))
-    go (inl h) = inr (h, (let n : length bytes ≡ 16777217 = ap (λ (xs : List ℕ). length xs) e ∙ take-long left 16777217 (omega arith) in omega arith))
-    go (inr h) = inl (e ∙ take-short left 16777217 (omega arith), h)
+module _ {R : Type 0} (HasLeft : R → List ℕ → Type 0) (before after : R) (read : List ℕ) (all : GaveAll HasLeft (most_bytes + 1) before read after) where
+  -- ---- where the bytes are a file
 
-pub accepted : (left bytes : List ℕ) (f : MidiFile) → bytes ≡ take 16777217 left → IsFile bytes f → (IsFile left f) × (drop 16777217 left ≡ []) × (length left ≤ 16777216)
-accepted left bytes f e w =
-    go (read-or-large left bytes e)
-  where
-    go : ((bytes ≡ left) × (length left ≤ 16777216)) ⊎ ((most_bytes < length left) × (most_bytes < length bytes)) → (IsFile left f) × (drop 16777217 left ≡ []) × (length left ≤ 16777216)
-    go (inl h) = (subst (λ (xs : List ℕ). IsFile xs f) h.0 w, drop-short left 16777217 (omega arith), h.1)
-    go (inr h) = absurd (not-both bytes f smf.TooLarge w (inl (too-large bytes h.1)))
+  module _ (f : MidiFile) (file : IsFile read f) where
+    -- so the source was read to its end
+    file-ended : HasLeft after []
+    file-ended = go all.ended
+      where
+        go : HasLeft after [] ⊎ (length read ≡ most_bytes + 1) → HasLeft after []
+        go (inl h) = h
+        go (inr e) = absurd (omega (arith, file-bounded read f file))
 
-pub fault-of-all : (left bytes : List ℕ) (x : SmfFault) → bytes ≡ take 16777217 left → Fault bytes x → Fault left x
-fault-of-all left bytes x e w =
-    go (read-or-large left bytes e)
-  where
-    go : ((bytes ≡ left) × (length left ≤ 16777216)) ⊎ ((most_bytes < length left) × (most_bytes < length bytes)) → Fault left x
-    go (inl h) = subst (λ (xs : List ℕ). Fault xs x) h.0 w
-    go (inr h) = subst (Fault left) (one-fault bytes smf.TooLarge x (inl (too-large bytes h.1)) w) (inl (too-large left h.0))
+    pub file-dumped : {W : Type 0} (HasTaken : W → List ℕ → Type 0) (old new : W) → Took HasTaken old (dump_of f) new → IsDumped HasLeft HasTaken before after old new
+    file-dumped HasTaken old new k = record { read = read; gave = all.gave; ended = file-ended; bounded = file-bounded read f file; f = f; file = file; took = k }
 
--- ---- what the tool answers
+    pub file-stops : {W : Type 0} (HasTaken : W → List ℕ → Type 0) (old new : W) → Stops HasTaken old (dump_of f) new → StopsInFile HasLeft HasTaken before after old new
+    file-stops HasTaken old new k = record { read = read; gave = all.gave; ended = file-ended; f = f; file = file; stopped = k }
 
-pub told : (bytes : List ℕ) (x : SmfFault) (r : ToolFault) → r ≡ tool_fault x → (x ≢ smf.OutOfMemory → Fault bytes x) → TellsFault bytes r
-told bytes x r e h =
-    subst (TellsFault bytes) (sym e) (go x h)
-  where
-    go : (x : SmfFault) → (x ≢ smf.OutOfMemory → Fault bytes x) → TellsFault bytes (tool_fault x)
-    go smf.OutOfMemory h = tt
-    go x h = h (λ same. let bad : ⊥ = cc in bad)
+    -- printing tells no fault of a file
+    pub file-told : (r : Result (Unit {0}) ToolFault) → IfErr r IsOutput → IfErr r (TellsFault HasLeft before after)
+    file-told (Ok done) only = tt
+    file-told (Err e) (inl memory) = subst (TellsFault HasLeft before after) (sym memory) tt
+    file-told (Err e) (inr write) =
+        let accepted : IsAccepted HasLeft before after = record { read = read; all = all; f = f; file = file } in
+        subst (TellsFault HasLeft before after) (sym write) accepted
 
-pub refused : (bytes : List ℕ) (y x : SmfFault) (r : ToolFault) → r ≡ tool_fault y → (y ≢ smf.OutOfMemory → Fault bytes y) → Fault bytes x → IsRefusedBy (Err r) x
-refused bytes y x r e h k =
-    subst (λ (r : ToolFault). IsRefusedBy (Err r) x) (sym e) (go y h)
-  where
-    go : (y : SmfFault) → (y ≢ smf.OutOfMemory → Fault bytes y) → IsRefusedBy (Err (tool_fault y)) x
-    go smf.OutOfMemory h = inr (inr refl)
-    go y h = inl (ap (λ (z : SmfFault). Err (tool.Smf z)) (one-fault bytes y x (h (λ same. let bad : ⊥ = cc in bad)) k))
+  -- ---- where they are none
+
+  pub fault-told : (x : SmfFault) (r : ToolFault) → r ≡ tool_fault x → (x ≢ smf.OutOfMemory → Fault read x) → TellsFault HasLeft before after r
+  fault-told x r e h = subst (TellsFault HasLeft before after) (sym e) (go x h)
+    where
+      go : (x : SmfFault) → (x ≢ smf.OutOfMemory → Fault read x) → TellsFault HasLeft before after (tool_fault x)
+      go smf.OutOfMemory h = tt
+      go x h = record { read = read; all = all; fault = h (λ same. let bad : ⊥ = cc in bad) }

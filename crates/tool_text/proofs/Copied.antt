@@ -1,7 +1,8 @@
 -- A stream that is read and written back in pieces.
-use Rattle.std.proofs.Common.{◌≡◌, ℕ, ◌+◌, ◌<◌, ◌++◌, ◌∙◌, false, List, [], ◌∷◌, length, take, get_or, Option, None, refl, sym, ap, subst, append_assoc, append-nil}
+use Rattle.std.proofs.Common.{◌≡◌, ℕ, ◌+◌, ◌<◌, ◌++◌, ◌∙◌, false, List, [], ◌∷◌, length, take, get_or, Option, None, refl, sym, ap, subst, append_assoc}
 use Rattle.std.specs.Prelude.{codes}
 use Rattle.std.proofs.lemmas.List.{take_more}
+use Rattle.byte_io.specs.Moved.{Took}
 use Rattle.midi_wire.specs.Parsing.{Parsing}
 use Rattle.midi_wire.specs.Readings.{reading, rest}
 use Rattle.midi_wire.specs.Writings.{written, written_after, status_after, status_after_all, status_in_force}
@@ -9,9 +10,10 @@ use Rattle.midi_wire.proofs.Settled.{reads-in-two, rests-in-two}
 use Rattle.midi_wire.proofs.WrittenInTwo.{writes-in-two, status_after_all-snoc}
 use Rattle.text_forms.specs.Hex.{spaced, hex_line}
 use Rattle.tool_text.specs.Gathered.{Goes, Stops}
-use Rattle.tool_text.specs.Stream.{message_lines, StopsShort}
+use Rattle.tool_text.specs.Stream.{message_lines, IsRendered, StopsShort}
 use Rattle.tool_text.specs.Wire.{written_line, wire_ending, wire_text, IsCopied}
-use Rattle.tool_text.proofs.Passed.{stops_behind}
+use Rattle.tool_text.proofs.Passed.{rendered_behind, stops_behind}
+use Rattle.tool_text.proofs.Pieces.{goes-none}
 
 -- ---- messages written one by one
 
@@ -58,19 +60,16 @@ one_more_copied parsing parsing' status status' back back' read piece c p s b =
 -- ---- the last line
 
 -- the line is begun
-pub line_begun : (written old none text : List ℕ) → none ≡ [] → text ≡ none ++ codes "written" → Goes old old text (spaced written ++ 10 ∷ []) (old ++ written_line written)
-line_begun written old none text e h = record {
-  gained = [];
-  now = sym (append-nil old);
-  whole =
-      ap (λ xs. old ++ xs ++ (spaced written ++ 10 ∷ [])) (h ∙ ap (λ xs. xs ++ codes "written") e)
-      ∙ append_assoc old (codes "written") (spaced written ++ 10 ∷ [])
-      ∙ ap (λ xs. old ++ xs) (sym (append_assoc (codes "written") (spaced written) (10 ∷ [])));
-}
+pub line_begun : {W : Type 0} (HasTaken : W → List ℕ → Type 0) (written : List ℕ) (old : W) (none text : List ℕ) → none ≡ [] → text ≡ none ++ codes "written" → Goes HasTaken old old text (spaced written ++ 10 ∷ []) (written_line written)
+line_begun HasTaken written old none text e h =
+    let whole : text ++ (spaced written ++ 10 ∷ []) ≡ written_line written =
+    ap (λ xs. xs ++ (spaced written ++ 10 ∷ [])) (h ∙ ap (λ xs. xs ++ codes "written") e) ∙ sym (append_assoc (codes "written") (spaced written) (10 ∷ [])) in
+    subst (Goes HasTaken old old text (spaced written ++ 10 ∷ [])) whole (goes-none HasTaken old text (spaced written ++ 10 ∷ []))
 
 -- it stands behind the lines of the messages
-pub all_copied : (bytes back old mid new : List ℕ) → back ≡ written (reading bytes) → mid ≡ old ++ message_lines hex_line bytes → new ≡ mid ++ written_line back → new ≡ old ++ wire_text bytes
-all_copied bytes back old mid new b e k = k ∙ ap (λ xs. mid ++ written_line xs) b ∙ ap (λ xs. xs ++ wire_ending bytes) e ∙ append_assoc old (message_lines hex_line bytes) (wire_ending bytes)
+module _ {R W : Type 0} (HasLeft : R → List ℕ → Type 0) (HasTaken : W → List ℕ → Type 0) (before after : R) (old mid new : W) (back : List ℕ) (i : IsRendered HasLeft HasTaken (message_lines hex_line) before after old mid) (b : back ≡ written (reading i.read)) where
+  pub all_copied : Took HasTaken mid (written_line back) new → IsRendered HasLeft HasTaken wire_text before after old new
+  all_copied k = rendered_behind HasLeft HasTaken (message_lines hex_line) wire_ending before after old mid new i (subst (λ (xs : List ℕ). Took HasTaken mid (written_line xs) new) b k)
 
-pub copied_short : (bytes back old mid new : List ℕ) → back ≡ written (reading bytes) → mid ≡ old ++ message_lines hex_line bytes → Stops mid new (mid ++ written_line back) → StopsShort wire_text bytes old new
-copied_short bytes back old mid new b e s = stops_behind (message_lines hex_line) wire_ending bytes old mid new e (subst (λ (xs : List ℕ). Stops mid new (mid ++ written_line xs)) b s)
+  pub copied_short : Stops HasTaken mid (written_line back) new → StopsShort HasLeft HasTaken wire_text before after old new
+  copied_short s = stops_behind HasLeft HasTaken (message_lines hex_line) wire_ending before after old mid new i (subst (λ (xs : List ℕ). Stops HasTaken mid (written_line xs) new) b s)

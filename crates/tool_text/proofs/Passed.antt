@@ -1,81 +1,149 @@
 -- A stream that is read in pieces and printed as it comes.
-use Rattle.std.proofs.Common.{◌≡◌, ℕ, ◌+◌, ◌<◌, ◌++◌, ◌∙◌, Bool, true, List, [], ◌∷◌, length, refl, sym, ap, subst, arith, append_assoc, append-nil}
+use Rattle.std.proofs.Common.{◌≡◌, ℕ, ◌+◌, ◌-◌, ◌≤◌, ◌++◌, ◌∙◌, List, [], length, take, refl, sym, ap, subst, arith, append_assoc, append-nil, length-append}
 use Rattle.std.specs.List.{flat_map}
+use Rattle.std.proofs.lemmas.List.{length-take, length-take-le, take-append-le}
 use Rattle.std.proofs.lemmas.List.Concat.{flat_map-append}
+use Rattle.byte_io.specs.Moved.{Gave, GaveSome, Took}
+use Rattle.byte_io.proofs.Moved.{gave_none, gave_more, read_nothing, took_none, took_more}
 use Rattle.midi_wire.specs.Readings.{reading, rest}
 use Rattle.midi_wire.proofs.Settled.{reads-in-two}
 use Rattle.smf_grammar.specs.Chunks.{most_bytes}
 use Rattle.tool_text.specs.Gathered.{Stops}
-use Rattle.tool_text.specs.Stream.{message_lines, StopsShort}
-use Rattle.tool_text.proofs.Pieces.{stops-split}
+use Rattle.tool_text.specs.Stream.{message_lines, IsRendered, IsPassed, StopsShort, GaveTooMany}
 
--- These bytes were taken, and the lines for them were written: `tells` says whether the source tells its bytes, `told` whether the sink does.
-pub record Passed (taken : List ℕ → Type 0) (lines : List ℕ → List ℕ) (tells : Bool) (first left : List ℕ) (told : Bool) (old new : List ℕ) (room : ℕ) : Type 0 where
+-- The reads gave these bytes, a printer was fed them, and the lines for them were written.
+pub record Passed {R W : Type 0} (HasLeft : R → List ℕ → Type 0) (HasTaken : W → List ℕ → Type 0) (WasFed : List ℕ → Type 0) (lines : List ℕ → List ℕ) (first now : R) (old new : W) (room : ℕ) : Type 0 where
   pub read : List ℕ
-  pub has : taken read
-  pub split : tells ≡ true → first ≡ read ++ left
+  pub fed : WasFed read
+  pub gave : Gave HasLeft first read now
   pub counted : length read + room ≡ most_bytes
-  pub written : told ≡ true → new ≡ old ++ lines read
+  pub written : Took HasTaken old (lines read) new
 
--- ---- where it ends
+-- what a read gave, found at the beginning of the whole buffer
+read_here : {R : Type 0} (HasLeft : R → List ℕ → Type 0) (s t : R) (window behind : List ℕ) (n : ℕ) → n ≤ length window → Gave HasLeft s (take n window) t → Gave HasLeft s (take n (window ++ behind)) t
+read_here HasLeft s t window behind n h g = subst (λ (xs : List ℕ). Gave HasLeft s xs t) (sym (take-append-le n window behind h)) g
 
-module _ (taken : List ℕ → Type 0) (lines : List ℕ → List ℕ) (tells : Bool) (first left : List ℕ) (told : Bool) (old new : List ℕ) (room : ℕ) (p : Passed taken lines tells first left told old new room) where
-  all_read : tells ≡ true → left ≡ [] → p.read ≡ first
-  all_read x e = sym (p.split x ∙ ap (λ xs. p.read ++ xs) e ∙ append-nil p.read)
+length_here : (window behind : List ℕ) (n : ℕ) → n ≤ length window → length (take n (window ++ behind)) ≡ n
+length_here window behind n h = ap length (take-append-le n window behind h) ∙ length-take-le n window h
 
-  pub all_taken : tells ≡ true → left ≡ [] → taken first
-  all_taken x e = subst taken (all_read x e) p.has
+module _ {R W : Type 0} (HasLeft : R → List ℕ → Type 0) (HasTaken : W → List ℕ → Type 0) where
+  module _ (WasFed : List ℕ → Type 0) (lines : List ℕ → List ℕ) (first now after : R) (old new : W) (room : ℕ) (p : Passed HasLeft HasTaken WasFed lines first now old new room) where
+    -- ---- where it goes on
 
-  pub all_passed : tells ≡ true → told ≡ true → left ≡ [] → new ≡ old ++ lines first
-  all_passed x y e = p.written y ∙ ap (λ xs. old ++ lines xs) (all_read x e)
+    pub passed_more : (WasFed' : List ℕ → Type 0) (new' : W) (window behind added : List ℕ) (n : ℕ) → ((read : List ℕ) → WasFed read → WasFed' (read ++ take n (window ++ behind))) →
+        ((read : List ℕ) → WasFed read → lines (read ++ take n (window ++ behind)) ≡ lines read ++ added) → n ≤ length window → n ≤ room → Gave HasLeft now (take n window) after → Took HasTaken new added new' →
+        Passed HasLeft HasTaken WasFed' lines first after old new' (room - n)
+    passed_more WasFed' new' window behind added n f t h few g k =
+        let piece : List ℕ = take n (window ++ behind) in
+        record {
+          read = p.read ++ piece;
+          fed = f p.read p.fed;
+          gave = gave_more HasLeft first now after p.read piece p.gave (read_here HasLeft now after window behind n h g);
+          counted = omega (arith, length-append p.read piece, length_here window behind n h, p.counted);
+          written = subst (λ (xs : List ℕ). Took HasTaken old xs new') (sym (t p.read p.fed)) (took_more HasTaken old new new' (lines p.read) added p.written k);
+        }
 
-  -- ---- where it stops
+    -- ---- where it ends
 
-  pub stops : tells ≡ true → told ≡ true → StopsShort lines first old new
-  stops x y = record { read = p.read; unread = left; split = p.split x; written = lines p.read; missing = []; now = p.written y; front = sym (append-nil (lines p.read)) }
+    pub all_passed : (buffer : List ℕ) (n : ℕ) → Gave HasLeft now (take n buffer) after → n ≡ 0 → HasLeft after [] → IsPassed HasLeft HasTaken WasFed lines first after old new
+    all_passed buffer n g z none = record {
+      rendered = record {
+        read = p.read;
+        gave = read_nothing HasLeft first now after p.read buffer n p.gave g z;
+        ended = none;
+        bounded = omega (arith, p.counted);
+        took = p.written;
+      };
+      fed = p.fed;
+    }
 
-  pub stops_within : (left' new' piece added : List ℕ) → ((read : List ℕ) → taken read → lines (read ++ piece) ≡ lines read ++ added) → (tells ≡ true → left ≡ piece ++ left') → Stops new new' (new ++ added) → tells ≡ true → told ≡ true → StopsShort lines first old new'
-  stops_within left' new' piece added t l s x y = record {
-    read = p.read ++ piece;
-    unread = left';
-    split = p.split x ∙ ap (λ xs. p.read ++ xs) (l x) ∙ sym (append_assoc p.read piece left');
-    written = lines p.read ++ s.gained;
-    missing = s.missing;
-    now = s.now ∙ ap (λ xs. xs ++ s.gained) (p.written y) ∙ append_assoc old (lines p.read) s.gained;
-    front = t p.read p.has ∙ ap (λ xs. lines p.read ++ xs) (stops-split new new' added s) ∙ sym (append_assoc (lines p.read) s.gained s.missing);
+    -- ---- where it stops
+
+    pub stops : (last : List ℕ) → Gave HasLeft now last after → StopsShort HasLeft HasTaken lines first after old new
+    stops last g = record {
+      read = p.read;
+      last = last;
+      gave = gave_more HasLeft first now after p.read last p.gave g;
+      written = lines p.read;
+      missing = [];
+      took = p.written;
+      front = sym (append-nil (lines p.read));
+    }
+
+    pub stops_within : (new' : W) (window behind added : List ℕ) (n : ℕ) → ((read : List ℕ) → WasFed read → lines (read ++ take n (window ++ behind)) ≡ lines read ++ added) → n ≤ length window → Gave HasLeft now (take n window) after →
+        Stops HasTaken new added new' → StopsShort HasLeft HasTaken lines first after old new'
+    stops_within new' window behind added n t h g s =
+        let piece : List ℕ = take n (window ++ behind) in
+        record {
+          read = p.read ++ piece;
+          last = [];
+          gave = subst (λ (xs : List ℕ). Gave HasLeft first xs after) (sym (append-nil (p.read ++ piece))) (gave_more HasLeft first now after p.read piece p.gave (read_here HasLeft now after window behind n h g));
+          written = lines p.read ++ s.gained;
+          missing = s.missing;
+          took = took_more HasTaken old new new' (lines p.read) s.gained p.written s.took;
+          front = t p.read p.fed ∙ ap (λ (xs : List ℕ). lines p.read ++ xs) s.whole ∙ sym (append_assoc (lines p.read) s.gained s.missing);
+        }
+
+    -- ---- how many bytes came
+
+    pub gave_few : (buffer : List ℕ) (n : ℕ) → Gave HasLeft now (take n buffer) after → n ≤ room + 1 → GaveSome HasLeft (most_bytes + 1) first after
+    gave_few buffer n g few = record {
+      given = p.read ++ take n buffer;
+      gave = gave_more HasLeft first now after p.read (take n buffer) p.gave g;
+      within = omega (arith, length-append p.read (take n buffer), length-take n buffer, p.counted);
+    }
+
+    pub gave_too_many : (buffer : List ℕ) (n : ℕ) → Gave HasLeft now (take n buffer) after → n ≤ length buffer → n ≡ room + 1 → GaveTooMany HasLeft first after
+    gave_too_many buffer n g here many = record {
+      given = p.read ++ take n buffer;
+      gave = gave_more HasLeft first now after p.read (take n buffer) p.gave g;
+      more = omega (arith, length-append p.read (take n buffer), length-take-le n buffer here, p.counted);
+    }
+
+  -- ---- what stands behind the lines
+
+  -- more was to be written there
+  pub stops_before : (lines ending : List ℕ → List ℕ) (before after : R) (old new : W) → StopsShort HasLeft HasTaken lines before after old new → StopsShort HasLeft HasTaken (λ read. lines read ++ ending read) before after old new
+  stops_before lines ending before after old new s = record {
+    read = s.read;
+    last = s.last;
+    gave = s.gave;
+    written = s.written;
+    missing = s.missing ++ ending s.read;
+    took = s.took;
+    front = ap (λ (xs : List ℕ). xs ++ ending s.read) s.front ∙ append_assoc s.written s.missing (ending s.read);
   }
 
--- more was to be written behind the lines
-pub stops_before : (lines ending : List ℕ → List ℕ) (bytes old new : List ℕ) → StopsShort lines bytes old new → StopsShort (λ read. lines read ++ ending read) bytes old new
-stops_before lines ending bytes old new s = record {
-  read = s.read;
-  unread = s.unread;
-  split = s.split;
-  written = s.written;
-  missing = s.missing ++ ending s.read;
-  now = s.now;
-  front = ap (λ xs. xs ++ ending s.read) s.front ∙ append_assoc s.written s.missing (ending s.read);
-}
+  -- it is written
+  pub rendered_behind : (lines ending : List ℕ → List ℕ) (before after : R) (old mid new : W) (i : IsRendered HasLeft HasTaken lines before after old mid) → Took HasTaken mid (ending i.read) new → IsRendered HasLeft HasTaken (λ read. lines read ++ ending read) before after old new
+  rendered_behind lines ending before after old mid new i k =
+      record { read = i.read; gave = i.gave; ended = i.ended; bounded = i.bounded; took = took_more HasTaken old mid new (lines i.read) (ending i.read) i.took k }
 
--- all was read, and a front of what stands behind the lines was written
-pub stops_behind : (lines ending : List ℕ → List ℕ) (bytes old mid new : List ℕ) → mid ≡ old ++ lines bytes → Stops mid new (mid ++ ending bytes) → StopsShort (λ read. lines read ++ ending read) bytes old new
-stops_behind lines ending bytes old mid new e s = record {
-  read = bytes;
-  unread = [];
-  split = sym (append-nil bytes);
-  written = lines bytes ++ s.gained;
-  missing = s.missing;
-  now = s.now ∙ ap (λ xs. xs ++ s.gained) e ∙ append_assoc old (lines bytes) s.gained;
-  front = ap (λ xs. lines bytes ++ xs) (stops-split mid new (ending bytes) s) ∙ sym (append_assoc (lines bytes) s.gained s.missing);
-}
+  -- a part of it is written
+  pub stops_behind : (lines ending : List ℕ → List ℕ) (before after : R) (old mid new : W) (i : IsRendered HasLeft HasTaken lines before after old mid) → Stops HasTaken mid (ending i.read) new → StopsShort HasLeft HasTaken (λ read. lines read ++ ending read) before after old new
+  stops_behind lines ending before after old mid new i s = record {
+    read = i.read;
+    last = [];
+    gave = subst (λ (xs : List ℕ). Gave HasLeft before xs after) (sym (append-nil i.read)) i.gave;
+    written = lines i.read ++ s.gained;
+    missing = s.missing;
+    took = took_more HasTaken old mid new (lines i.read) s.gained i.took s.took;
+    front = ap (λ (xs : List ℕ). lines i.read ++ xs) s.whole ∙ sym (append_assoc (lines i.read) s.gained s.missing);
+  }
 
--- nothing was taken and nothing written
-pub stops_at_once : (text : List ℕ → List ℕ) (first old : List ℕ) → StopsShort text first old old
-stops_at_once text first old = record { read = []; unread = first; split = refl; written = []; missing = text []; now = sym (append-nil old); front = refl }
+  -- nothing was read and nothing written
+  pub stops_at_once : (text : List ℕ → List ℕ) (s : R) (old : W) → StopsShort HasLeft HasTaken text s s old old
+  stops_at_once text s old = record { read = []; last = []; gave = gave_none HasLeft s [] refl; written = []; missing = text []; took = took_none HasTaken old; front = refl }
 
--- a text by another name
-pub stops_same : (text text' : List ℕ → List ℕ) (bytes old new : List ℕ) → ((read : List ℕ) → text' read ≡ text read) → StopsShort text bytes old new → StopsShort text' bytes old new
-stops_same text text' bytes old new same s = record { read = s.read; unread = s.unread; split = s.split; written = s.written; missing = s.missing; now = s.now; front = same s.read ∙ s.front }
+  -- ---- a text by another name
+
+  pub rendered_same : (text text' : List ℕ → List ℕ) (before after : R) (old new : W) → ((read : List ℕ) → text' read ≡ text read) → IsRendered HasLeft HasTaken text before after old new → IsRendered HasLeft HasTaken text' before after old new
+  rendered_same text text' before after old new same i =
+      record { read = i.read; gave = i.gave; ended = i.ended; bounded = i.bounded; took = subst (λ (xs : List ℕ). Took HasTaken old xs new) (sym (same i.read)) i.took }
+
+  pub stops_same : (text text' : List ℕ → List ℕ) (before after : R) (old new : W) → ((read : List ℕ) → text' read ≡ text read) → StopsShort HasLeft HasTaken text before after old new → StopsShort HasLeft HasTaken text' before after old new
+  stops_same text text' before after old new same s =
+      record { read = s.read; last = s.last; gave = s.gave; written = s.written; missing = s.missing; took = s.took; front = same s.read ∙ s.front }
 
 -- ---- the lines of a piece
 
@@ -85,9 +153,3 @@ lines_more line read piece stream text added s e a =
     ap (flat_map line) (reads-in-two read piece)
     ∙ flat_map-append line (reading read) (reading (rest read ++ piece))
     ∙ ap (λ xs. message_lines line read ++ xs) (sym (a ∙ ap (λ xs. xs ++ message_lines line (stream ++ piece)) e ∙ ap (λ r. message_lines line (r ++ piece)) s))
-
--- ---- what a device answers
-
-pub nothing_left : (l : List ℕ) (w n : ℕ) → (0 < length l → 0 < w → 0 < n) → 0 < w → n ≡ 0 → l ≡ []
-nothing_left [] w n f hw e = refl
-nothing_left (x ∷ l) w n f hw e = let p : 0 < n = f (omega arith) hw in absurd (omega arith)

@@ -1,10 +1,12 @@
 -- What a Standard MIDI File says, as text.
-use Rattle.std.specs.Prelude.{◌≡◌, ℕ, List, [], ◌∷◌, ◌++◌, length, codes, ◌⊎◌, Result, Err}
+use Rattle.std.specs.Prelude.{◌+◌, ◌≤◌, ℕ, List, [], ◌∷◌, ◌++◌, length, codes, ◌⊎◌}
 use Rattle.std.specs.List.{flat_map}
 use Rattle.std.specs.Fmt.{decimal}
 use Rattle.tempo_clock.specs.declared.entry.TempoEntry.{TempoEntry}
 use Rattle.smf_grammar.specs.declared.event.Event.{Event}
 use Rattle.smf_grammar.specs.declared.fault.SmfFault.{SmfFault}
+use Rattle.byte_io.specs.Moved.{Gave, GaveAll, Took}
+use Rattle.smf_grammar.specs.Chunks.{most_bytes}
 use Rattle.smf_grammar.specs.Files.{MidiFile, IsFile, Fault}
 use Rattle.smf_grammar.specs.Contents.{entries_of, events_of, skipped_of}
 use Rattle.tool_text.specs.declared.fault.ToolFault.{ToolFault}
@@ -40,26 +42,52 @@ dump_of f =
 
 -- ---- what a sink took
 
--- the sink gained what the file of these bytes says
-pub record IsDumped (bytes old new : List ℕ) : Type 0 where
+-- A source was read to its end, what it gave is a file, and a sink took what the file says.
+pub record IsDumped {R W : Type 0} (HasLeft : R → List ℕ → Type 0) (HasTaken : W → List ℕ → Type 0)
+    (before after : R) (old new : W) : Type 0 where
+  pub read : List ℕ
+  pub gave : Gave HasLeft before read after
+  pub ended : HasLeft after []
+  pub bounded : length read ≤ most_bytes
   pub f : MidiFile
-  pub file : IsFile bytes f
-  pub taken : new ≡ old ++ dump_of f
+  pub file : IsFile read f
+  pub took : Took HasTaken old (dump_of f) new
 
--- a sink took nothing; or the bytes are a file, and it took a front of what that says
-abbrev pub StopsWithin : List ℕ → List ℕ → List ℕ → Type 0
-StopsWithin bytes old new =
-    (new ≡ old) ⊎ ((f : MidiFile) × IsFile bytes f × Stops old new (old ++ dump_of f))
+-- A source was read to its end, what it gave is a file, and a sink took the first part of what the file says.
+pub record StopsInFile {R W : Type 0} (HasLeft : R → List ℕ → Type 0) (HasTaken : W → List ℕ → Type 0)
+    (before after : R) (old new : W) : Type 0 where
+  pub read : List ℕ
+  pub gave : Gave HasLeft before read after
+  pub ended : HasLeft after []
+  pub f : MidiFile
+  pub file : IsFile read f
+  pub stopped : Stops HasTaken old (dump_of f) new
+
+-- a sink took nothing, or a part of what a file says
+abbrev pub StopsWithin : {R W : Type 0} →
+    (R → List ℕ → Type 0) → (W → List ℕ → Type 0) → R → R → W → W → Type 0
+StopsWithin HasLeft HasTaken before after old new =
+    Took HasTaken old [] new ⊎ StopsInFile HasLeft HasTaken before after old new
 
 -- ---- what a fault says
 
--- a fault of a file is that of the bytes
-abbrev pub TellsFault : List ℕ → ToolFault → Type 0
-TellsFault bytes (Smf x) = Fault bytes x
-TellsFault bytes OutOfMemory = Unit {0}
-TellsFault bytes Read = Unit {0}
-TellsFault bytes Write = Unit {0}
+-- What the reads gave, to the end or one byte more than a file may have, has this fault.
+pub record HasFault {R : Type 0} (HasLeft : R → List ℕ → Type 0) (before after : R)
+    (x : SmfFault) : Type 0 where
+  pub read : List ℕ
+  pub all : GaveAll HasLeft (most_bytes + 1) before read after
+  pub fault : Fault read x
 
--- the answer where the bytes have a fault: this fault, unless a read failed or a growth was refused
-abbrev pub IsRefusedBy : Result (Unit {0}) ToolFault → SmfFault → Type 0
-IsRefusedBy r x = (r ≡ Err (Smf x)) ⊎ ((r ≡ Err Read) ⊎ (r ≡ Err OutOfMemory))
+-- What the reads gave to the end is a file.
+pub record IsAccepted {R : Type 0} (HasLeft : R → List ℕ → Type 0) (before after : R) : Type 0 where
+  pub read : List ℕ
+  pub all : GaveAll HasLeft (most_bytes + 1) before read after
+  pub f : MidiFile
+  pub file : IsFile read f
+
+-- A fault of a file is that of the bytes, and a write fails only where the bytes are a file.
+abbrev pub TellsFault : {R : Type 0} → (R → List ℕ → Type 0) → R → R → ToolFault → Type 0
+TellsFault HasLeft before after (Smf x) = HasFault HasLeft before after x
+TellsFault HasLeft before after Write = IsAccepted HasLeft before after
+TellsFault HasLeft before after OutOfMemory = Unit {0}
+TellsFault HasLeft before after Read = Unit {0}

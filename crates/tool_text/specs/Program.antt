@@ -13,7 +13,7 @@ use Rattle.tool_text.specs.declared.choice.Stream.TheVariants.{Standard, Path}
 use Rattle.tool_text.specs.declared.fault.ToolFault.{ToolFault}
 use Rattle.tool_text.specs.declared.fault.ToolFault.TheVariants as tool
 use Rattle.tool_text.specs.declared.program_fault.ProgramFault.{ProgramFault}
-use Rattle.tool_text.specs.declared.program_fault.ProgramFault.TheVariants.{NotUtf8, NoSubcommand, NotAMoment, NotAPort, NotAScript, TwoScripts, CannotRead, CannotWrite, OutOfMemory, CannotRecord, Smf}
+use Rattle.tool_text.specs.declared.program_fault.ProgramFault.TheVariants.{NotUtf8, NoSubcommand, NotAMoment, NotAPort, NotAScript, TwoScripts, OutIsRead, CannotRead, CannotWrite, OutOfMemory, CannotRecord, Smf}
 
 -- ---- the choice
 
@@ -54,6 +54,8 @@ program_fault_text (NotAScript word) =
     escaped word.now ++ codes " names no script of a client 128 to 191; see midiseq --help"
 program_fault_text (TwoScripts client) =
     codes "client " ++ decimal client ++ codes " has two scripts; see midiseq --help"
+program_fault_text (OutIsRead path) =
+    escaped path.now ++ codes " is a file that the session reads; see midiseq --help"
 program_fault_text (CannotRead path) = codes "cannot read " ++ escaped path.now
 program_fault_text (CannotWrite path) = codes "cannot write " ++ escaped path.now
 program_fault_text OutOfMemory = codes "out of memory"
@@ -79,6 +81,7 @@ exit_status (NotAMoment word) = 2
 exit_status (NotAPort word) = 2
 exit_status (NotAScript word) = 2
 exit_status (TwoScripts client) = 2
+exit_status (OutIsRead path) = 2
 exit_status (CannotRead path) = 1
 exit_status (CannotWrite path) = 1
 exit_status OutOfMemory = 1

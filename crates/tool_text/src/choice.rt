@@ -1,13 +1,12 @@
 //! What the program is asked to do.
 
-ghost use Rattle.std.specs.Prelude.{◌≡◌, ◌≢◌, ◌≤◌, ◌<◌, ◌⊎◌, [], true, false, length, Err, IfSome, IfNone, IfErr, OnOk, OnErr, IsErrOf};
-ghost use Rattle.smf_grammar.specs.declared.fault.SmfFault.{SmfFault};
+ghost use Rattle.std.specs.Prelude.{◌≡◌, ◌≢◌, ◌+◌, ◌⊎◌, true, false, Err, IfSome, IfNone, IfErr, OnOk, OnErr, IsErrOf};
+ghost use Rattle.byte_io.specs.Moved.{GaveSome};
 ghost use Rattle.smf_grammar.specs.declared.fault.SmfFault.TheVariants as smf;
 ghost use Rattle.smf_grammar.specs.Chunks.{most_bytes};
-ghost use Rattle.smf_grammar.specs.Files.{Fault};
 ghost use Rattle.tool_text.specs.declared.choice.Tool.{Tool};
-ghost use Rattle.tool_text.specs.Dump.{IsRefusedBy};
 ghost use Rattle.tool_text.specs.Program.{tool_name, stream_name, IsNamedBy};
+ghost use Rattle.tool_text.specs.Stream.{GaveTooMany};
 ghost use Rattle.tool_text.specs.Tools.{IsPrinted, IsCutShort, MayTell};
 
 use crate::dump::dump_text;
@@ -63,7 +62,7 @@ impl Tool {
 
     /// Prints what the tool makes of the bytes that `input` gives, as `thru_text`, `wire_text` and `dump_text` do.
     ///
-    /// At a fault the sink has taken a front of the text.
+    /// At a fault the sink has taken the first part of the text.
     pub fn print<R: Source, W: Sink>(
         self,
         alloc: Global,
@@ -72,21 +71,17 @@ impl Tool {
     ) -> Result<(), ToolFault>
         requires input_sound { R.failed input.old ≡ false }
         requires out_sound { W.failed out.old ≡ false }
-        ensures text { R.tells input.old ≡ true → W.tells out.old ≡ true
-            → OnOk result (IsPrinted self (R.left input.old) (W.taken out.old) (W.taken out.new)) }
-        ensures all { R.tells input.old ≡ true → OnOk result (R.left input.new ≡ []) }
-        ensures bounded { R.tells input.old ≡ true
-            → OnOk result (length (R.left input.old) ≤ most_bytes) }
-        ensures short { R.tells input.old ≡ true → W.tells out.old ≡ true
-            → OnErr result (IsCutShort self (R.left input.old) (W.taken out.old) (W.taken out.new)) }
+        ensures text { OnOk result (IsPrinted R.HasLeft W.HasTaken self
+            input.old input.new out.old out.new) }
+        ensures short { OnErr result (IsCutShort R.HasLeft W.HasTaken self
+            input.old input.new out.old out.new) }
+        ensures bounded { GaveSome R.HasLeft (most_bytes + 1) input.old input.new }
 
         // A fault of a file is that of the bytes, and a file that has one is never dumped.
-        ensures told { R.tells input.old ≡ true → IfErr result (MayTell self (R.left input.old)) }
-        ensures refused { R.tells input.old ≡ true → self ≡ Tool.Dump
-            → (x : SmfFault) → Fault (R.left input.old) x → IsRefusedBy result x }
+        ensures told { IfErr result (MayTell R.HasLeft self input.old input.new) }
         ensures memory { result ≢ Err (ToolFault.Smf smf.OutOfMemory) }
         ensures read { IsErrOf result ToolFault.Read → (R.failed input.new ≡ true)
-            ⊎ (R.tells input.old ≡ true → most_bytes < length (R.left input.old)) }
+            ⊎ GaveTooMany R.HasLeft input.old input.new }
         ensures unread { IsErrOf result ToolFault.OutOfMemory → R.failed input.new ≡ false }
         ensures write { IsErrOf result ToolFault.Write
             → (W.failed out.new ≡ true) ⊎ (W.takes_some out.old ≡ false) }

@@ -1,14 +1,13 @@
 //! What a Standard MIDI File says.
 
-ghost use Rattle.std.specs.Prelude.{◌≡◌, ◌≢◌, ◌≤◌, ◌++◌, ◌⊎◌, [], true, false, length, Err, IfErr, OnOk, OnErr, IsErrOf};
+ghost use Rattle.std.specs.Prelude.{◌≡◌, ◌≢◌, ◌+◌, ◌++◌, ◌⊎◌, [], true, false, Err, IfErr, OnOk, OnErr, IsErrOf};
 ghost use Rattle.std.specs.List.{flat_map};
-ghost use Rattle.smf_grammar.specs.declared.fault.SmfFault.{SmfFault};
+ghost use Rattle.byte_io.specs.Moved.{GaveSome, Took};
 ghost use Rattle.smf_grammar.specs.declared.fault.SmfFault.TheVariants as smf;
 ghost use Rattle.smf_grammar.specs.Chunks.{most_bytes};
-ghost use Rattle.smf_grammar.specs.Files.{Fault};
 ghost use Rattle.tool_text.specs.Faults.{IsOutput};
 ghost use Rattle.tool_text.specs.Gathered.{Goes, Stops};
-ghost use Rattle.tool_text.specs.Dump.{head_line, tempo_line, event_line, skipped_line, dump_of, IsDumped, StopsWithin, TellsFault, IsRefusedBy};
+ghost use Rattle.tool_text.specs.Dump.{head_line, tempo_line, event_line, skipped_line, dump_of, IsDumped, StopsWithin, TellsFault};
 
 use crate::fault::ToolFault;
 use crate::limits::MOST;
@@ -22,8 +21,8 @@ use text_forms::{push_decimal, push_spaced_line};
 /// Prints what the Standard MIDI File that `input` gives says: a line on its header, one for each tempo entry, one for
 /// each event by tick, track and place, and how many events are skipped.
 ///
-/// Nothing is written before the whole file was read and accepted; at a later fault the sink has taken a front of the
-/// text. A file of more than 16,777,216 bytes is not read to its end.
+/// Nothing is written before the whole file was read and accepted; at a later fault the sink has taken the first
+/// part of the text. A file of more than 16,777,216 bytes is not read to its end.
 pub fn dump_text<R: Source, W: Sink>(
     alloc: Global,
     input: &mut R,
@@ -32,19 +31,15 @@ pub fn dump_text<R: Source, W: Sink>(
     requires input_sound { R.failed input.old ≡ false }
     requires out_sound { W.failed out.old ≡ false }
 
-    ensures text { R.tells input.old ≡ true → W.tells out.old ≡ true
-        → OnOk result (IsDumped (R.left input.old) (W.taken out.old) (W.taken out.new)) }
-    ensures all { R.tells input.old ≡ true → OnOk result (R.left input.new ≡ []) }
-    ensures bounded { R.tells input.old ≡ true
-        → OnOk result (length (R.left input.old) ≤ most_bytes) }
-    ensures short { R.tells input.old ≡ true → W.tells out.old ≡ true
-        → OnErr result (StopsWithin (R.left input.old) (W.taken out.old) (W.taken out.new)) }
+    ensures text { OnOk result (IsDumped R.HasLeft W.HasTaken
+        input.old input.new out.old out.new) }
+    ensures short { OnErr result (StopsWithin R.HasLeft W.HasTaken
+        input.old input.new out.old out.new) }
+    ensures bounded { GaveSome R.HasLeft (most_bytes + 1) input.old input.new }
 
-    // `Smf` tells the fault of the bytes, and is the answer wherever they have one, unless a read
-    // failed or a growth was refused.
-    ensures told { R.tells input.old ≡ true → IfErr result (TellsFault (R.left input.old)) }
-    ensures refused { R.tells input.old ≡ true → (x : SmfFault) → Fault (R.left input.old) x
-        → IsRefusedBy result x }
+    // `Smf` tells the fault of what was read, and is the answer wherever that has one, unless a read failed or a growth
+    // was refused.
+    ensures told { IfErr result (TellsFault R.HasLeft input.old input.new) }
     ensures memory { result ≢ Err (ToolFault.Smf smf.OutOfMemory) }
     ensures read { IsErrOf result ToolFault.Read → R.failed input.new ≡ true }
     ensures unread { IsErrOf result ToolFault.OutOfMemory → R.failed input.new ≡ false }
@@ -71,11 +66,8 @@ pub fn dump_text<R: Source, W: Sink>(
 /// Prints a file.
 fn print_file<W: Sink>(alloc: Global, file: &SmfFile<'_>, out: &mut W) -> Result<(), ToolFault>
     requires { W.failed out.old ≡ false }
-    ensures text { W.tells out.old ≡ true
-        → OnOk result (W.taken out.new ≡ W.taken out.old ++ dump_of file.now) }
-    ensures short { W.tells out.old ≡ true
-        → OnErr result (Stops (W.taken out.old) (W.taken out.new)
-        (W.taken out.old ++ dump_of file.now)) }
+    ensures text { OnOk result (Took W.HasTaken out.old (dump_of file.now) out.new) }
+    ensures short { OnErr result (Stops W.HasTaken out.old (dump_of file.now) out.new) }
     ensures write { IsErrOf result ToolFault.Write
         → (W.failed out.new ≡ true) ⊎ (W.takes_some out.old ≡ false) }
     ensures unwritten { IsErrOf result ToolFault.OutOfMemory → W.failed out.new ≡ false }
@@ -145,13 +137,10 @@ fn print_tempos<W: Sink>(
     out: &mut W,
 ) -> Result<(), ToolFault>
     requires { W.failed out.old ≡ false }
-    ensures sent { W.tells out.old ≡ true
-        → OnOk result (Goes (W.taken out.old) (W.taken out.new) text.new.items []
-        (W.taken out.old ++ text.old.items ++ flat_map tempo_line entries.now)) }
-    ensures short { W.tells out.old ≡ true
-        → OnErr result (Stops (W.taken out.old) (W.taken out.new)
-        (W.taken out.old ++ text.old.items ++ flat_map tempo_line entries.now)) }
-    ensures telling { W.tells out.new ≡ W.tells out.old }
+    ensures sent { OnOk result (Goes W.HasTaken out.old out.new text.new.items []
+        (text.old.items ++ flat_map tempo_line entries.now)) }
+    ensures short { OnErr result (Stops W.HasTaken out.old
+        (text.old.items ++ flat_map tempo_line entries.now) out.new) }
     ensures unmarked { OnOk result (W.failed out.new ≡ false) }
     ensures eager { W.takes_some out.new ≡ W.takes_some out.old }
     ensures write { IsErrOf result ToolFault.Write
@@ -174,13 +163,10 @@ fn print_events<W: Sink>(
     out: &mut W,
 ) -> Result<(), ToolFault>
     requires { W.failed out.old ≡ false }
-    ensures sent { W.tells out.old ≡ true
-        → OnOk result (Goes (W.taken out.old) (W.taken out.new) text.new.items []
-        (W.taken out.old ++ text.old.items ++ flat_map event_line cursor.old)) }
-    ensures short { W.tells out.old ≡ true
-        → OnErr result (Stops (W.taken out.old) (W.taken out.new)
-        (W.taken out.old ++ text.old.items ++ flat_map event_line cursor.old)) }
-    ensures telling { W.tells out.new ≡ W.tells out.old }
+    ensures sent { OnOk result (Goes W.HasTaken out.old out.new text.new.items []
+        (text.old.items ++ flat_map event_line cursor.old)) }
+    ensures short { OnErr result (Stops W.HasTaken out.old
+        (text.old.items ++ flat_map event_line cursor.old) out.new) }
     ensures unmarked { OnOk result (W.failed out.new ≡ false) }
     ensures eager { W.takes_some out.new ≡ W.takes_some out.old }
     ensures write { IsErrOf result ToolFault.Write

@@ -1,10 +1,10 @@
 //! Text that is printed as it comes, and text that is gathered and printed piece by piece.
 
-ghost use Rattle.std.specs.Prelude.{◌≡◌, ◌≤◌, ◌<◌, ◌++◌, ◌⊎◌, ℕ, List, [], true, false, length, IfErr, OnOk, OnErr, IsErrOf};
-ghost use Rattle.byte_io.specs.Moved.{GainsBytes};
+ghost use Rattle.std.specs.Prelude.{◌≡◌, ◌<◌, ◌+◌, ◌++◌, ◌⊎◌, ℕ, List, [], true, false, length, IfErr, OnOk, OnErr, IsErrOf};
+ghost use Rattle.byte_io.specs.Moved.{GaveSome, Took, TookPart};
 ghost use Rattle.smf_grammar.specs.Chunks.{most_bytes};
 ghost use Rattle.tool_text.specs.Gathered.{Goes, Stops};
-ghost use Rattle.tool_text.specs.Stream.{HasRoom, StopsShort};
+ghost use Rattle.tool_text.specs.Stream.{HasRoom, IsPassed, StopsShort, GaveTooMany};
 ghost use Rattle.tool_text.specs.Faults.{IsOfStream, IsOutput};
 
 use crate::fault::ToolFault;
@@ -19,8 +19,8 @@ const PIECE: usize = 65_536;
 pub(crate) trait Printer {
     ghost use Rattle.std.specs.Prelude.{ℕ, List};
 
-    /// These bytes were taken, and no others.
-    ghost HasTaken: { Self → List ℕ → Type 0 };
+    /// It was fed these bytes, and no others.
+    ghost WasFed: { Self → List ℕ → Type 0 };
 
     /// The lines for a stream.
     ghost lines: { List ℕ → List ℕ };
@@ -28,42 +28,38 @@ pub(crate) trait Printer {
     /// Takes the next piece of the stream, and adds the lines that it makes whole to an empty text.
     fn take(&mut self, piece: &[u8], text: &mut Vec<u8>) -> Result<(), ToolFault>
         requires some { 0 < length piece.now }
-        requires room { HasRoom (HasTaken self.old) piece.now }
+        requires room { HasRoom (WasFed self.old) piece.now }
         requires empty { text.old.items ≡ [] }
-        ensures taken { (read : List ℕ) → HasTaken self.old read
-            → OnOk result (HasTaken self.new (read ++ piece.now)) }
-        ensures text { (read : List ℕ) → HasTaken self.old read
+        ensures fed { (read : List ℕ) → WasFed self.old read
+            → OnOk result (WasFed self.new (read ++ piece.now)) }
+        ensures text { (read : List ℕ) → WasFed self.old read
             → OnOk result (lines (read ++ piece.now) ≡ lines read ++ text.new.items) }
         ensures only { IfErr result (λ e. e ≡ ToolFault.OutOfMemory) };
 }
 
-/// Prints the lines for the stream that `input` gives, with one write for each piece that was read.
+/// Prints the lines for the stream that `input` gives, with one write for each piece that was read. Of a stream that is
+/// too long one byte is read more than it may have.
 ///
-/// At a fault the sink has taken a front of the text.
+/// At a fault the sink has taken the first part of the text.
 pub(crate) fn print_stream<R: Source, W: Sink, P: Printer>(
     alloc: Global,
     printer: &mut P,
     input: &mut R,
     out: &mut W,
 ) -> Result<(), ToolFault>
-    requires fresh { P.HasTaken printer.old [] }
+    requires fresh { P.WasFed printer.old [] }
     requires empty { P.lines [] ≡ [] }
     requires input_sound { R.failed input.old ≡ false }
     requires out_sound { W.failed out.old ≡ false }
 
-    ensures taken { R.tells input.old ≡ true
-        → OnOk result (P.HasTaken printer.new (R.left input.old)) }
-    ensures text { R.tells input.old ≡ true → W.tells out.old ≡ true
-        → OnOk result (W.taken out.new ≡ W.taken out.old ++ P.lines (R.left input.old)) }
-    ensures all { R.tells input.old ≡ true → OnOk result (R.left input.new ≡ []) }
-    ensures bounded { R.tells input.old ≡ true
-        → OnOk result (length (R.left input.old) ≤ most_bytes) }
-    ensures short { R.tells input.old ≡ true → W.tells out.old ≡ true
-        → OnErr result (StopsShort P.lines
-        (R.left input.old) (W.taken out.old) (W.taken out.new)) }
+    ensures passed { OnOk result (IsPassed R.HasLeft W.HasTaken (P.WasFed printer.new) P.lines
+        input.old input.new out.old out.new) }
+    ensures short { OnErr result (StopsShort R.HasLeft W.HasTaken P.lines
+        input.old input.new out.old out.new) }
+    ensures bounded { GaveSome R.HasLeft (most_bytes + 1) input.old input.new }
 
     ensures read { IsErrOf result ToolFault.Read → (R.failed input.new ≡ true)
-        ⊎ (R.tells input.old ≡ true → most_bytes < length (R.left input.old)) }
+        ⊎ GaveTooMany R.HasLeft input.old input.new }
     ensures unread { IsErrOf result ToolFault.OutOfMemory → R.failed input.new ≡ false }
     ensures write { IsErrOf result ToolFault.Write
         → (W.failed out.new ≡ true) ⊎ (W.takes_some out.old ≡ false) }
@@ -72,14 +68,15 @@ pub(crate) fn print_stream<R: Source, W: Sink, P: Printer>(
 
     ensures input_unmarked { OnOk result (R.failed input.new ≡ false) }
     ensures out_unmarked { OnOk result (W.failed out.new ≡ false) }
-    ensures telling { W.tells out.new ≡ W.tells out.old }
     ensures eager { W.takes_some out.new ≡ W.takes_some out.old }
 {
     let mut text = Vec::new(alloc);
     let mut chunk = [0u8; CHUNK];
     let mut room = MOST;
     'pieces: loop {
-        let n = match input.read(&mut chunk) {
+        // one byte more than may come, to tell that there is one
+        let window = CHUNK.min(room + 1);
+        let n = match input.read(&mut chunk[..window]) {
             Ok(n) => n,
             Err(_) => return Err(ToolFault::Read),
         };
@@ -98,11 +95,8 @@ pub(crate) fn print_stream<R: Source, W: Sink, P: Printer>(
 /// Writes a text.
 pub fn send<W: Sink>(out: &mut W, text: &[u8]) -> Result<(), ToolFault>
     requires { W.failed out.old ≡ false }
-    ensures written { W.tells out.old ≡ true
-        → OnOk result (W.taken out.new ≡ W.taken out.old ++ text.now) }
-    ensures part { W.tells out.old ≡ true
-        → OnErr result (GainsBytes (W.taken out.old) (W.taken out.new) text.now) }
-    ensures telling { W.tells out.new ≡ W.tells out.old }
+    ensures written { OnOk result (Took W.HasTaken out.old text.now out.new) }
+    ensures part { OnErr result (TookPart W.HasTaken out.old text.now out.new) }
     ensures eager { W.takes_some out.new ≡ W.takes_some out.old }
     ensures unmarked { OnOk result (W.failed out.new ≡ false) }
     ensures write { OnErr result ((W.failed out.new ≡ true) ⊎ (W.takes_some out.old ≡ false)) }
@@ -118,13 +112,9 @@ pub fn send<W: Sink>(out: &mut W, text: &[u8]) -> Result<(), ToolFault>
 #[inline(always)]
 pub(crate) fn spill<W: Sink>(text: &mut Vec<u8>, out: &mut W) -> Result<(), ToolFault>
     requires { W.failed out.old ≡ false }
-    ensures sent { W.tells out.old ≡ true
-        → OnOk result (Goes (W.taken out.old) (W.taken out.new) text.new.items []
-        (W.taken out.old ++ text.old.items)) }
-    ensures short { W.tells out.old ≡ true
-        → OnErr result (Stops (W.taken out.old) (W.taken out.new)
-        (W.taken out.old ++ text.old.items)) }
-    ensures telling { W.tells out.new ≡ W.tells out.old }
+    ensures sent { OnOk result
+        (Goes W.HasTaken out.old out.new text.new.items [] text.old.items) }
+    ensures short { OnErr result (Stops W.HasTaken out.old text.old.items out.new) }
     ensures unmarked { OnOk result (W.failed out.new ≡ false) }
     ensures eager { W.takes_some out.new ≡ W.takes_some out.old }
     ensures write { IsErrOf result ToolFault.Write
@@ -141,13 +131,9 @@ pub(crate) fn spill<W: Sink>(text: &mut Vec<u8>, out: &mut W) -> Result<(), Tool
 /// Writes the text that was gathered.
 pub(crate) fn flush<W: Sink>(text: &mut Vec<u8>, out: &mut W) -> Result<(), ToolFault>
     requires { W.failed out.old ≡ false }
-    ensures sent { W.tells out.old ≡ true
-        → OnOk result (W.taken out.new ≡ W.taken out.old ++ text.old.items) }
+    ensures sent { OnOk result (Took W.HasTaken out.old text.old.items out.new) }
     ensures empty { OnOk result (text.new.items ≡ []) }
-    ensures short { W.tells out.old ≡ true
-        → OnErr result (Stops (W.taken out.old) (W.taken out.new)
-        (W.taken out.old ++ text.old.items)) }
-    ensures telling { W.tells out.new ≡ W.tells out.old }
+    ensures short { OnErr result (Stops W.HasTaken out.old text.old.items out.new) }
     ensures unmarked { OnOk result (W.failed out.new ≡ false) }
     ensures eager { W.takes_some out.new ≡ W.takes_some out.old }
     ensures write { IsErrOf result ToolFault.Write

@@ -25,6 +25,8 @@ pub enum ProgramFault<'a> {
     NotAScript(&'a str),
     /// The client has two scripts.
     TwoScripts(u8),
+    /// What is to be written is a file that the session reads.
+    OutIsRead(&'a str),
     CannotRead(&'a str),
     CannotWrite(&'a str),
     OutOfMemory,
@@ -69,7 +71,8 @@ impl<'a> ProgramFault<'a> {
             | ProgramFault::NotAMoment(_)
             | ProgramFault::NotAPort(_)
             | ProgramFault::NotAScript(_)
-            | ProgramFault::TwoScripts(_) => 2,
+            | ProgramFault::TwoScripts(_)
+            | ProgramFault::OutIsRead(_) => 2,
             ProgramFault::CannotRead(_)
             | ProgramFault::CannotWrite(_)
             | ProgramFault::OutOfMemory
@@ -109,6 +112,13 @@ impl fmt::Display for ProgramFault<'_> {
             }
             ProgramFault::TwoScripts(client) => {
                 write!(f, "client {client} has two scripts; see midiseq --help")
+            }
+            ProgramFault::OutIsRead(path) => {
+                let path = Escaped(path);
+                write!(
+                    f,
+                    "{path} is a file that the session reads; see midiseq --help"
+                )
             }
             ProgramFault::CannotRead(path) => {
                 let path = Escaped(path);

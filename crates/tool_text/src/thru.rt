@@ -1,14 +1,15 @@
 //! A stream passed from one client of a sequencer to another.
 
-ghost use Rattle.std.specs.Prelude.{◌≡◌, ◌≤◌, ◌<◌, ◌+◌, ◌*◌, ◌++◌, ◌⊎◌, ◌^◌, ℕ, List, [], true, false, length, IfOk, IfErr, OnOk, OnErr, IsErrOf};
+ghost use Rattle.std.specs.Prelude.{◌≡◌, ◌≤◌, ◌<◌, ◌+◌, ◌*◌, ◌++◌, ◌⊎◌, ◌^◌, [], true, false, length, IfOk, IfErr, OnOk, OnErr, IsErrOf};
 ghost use Rattle.std.specs.List.{flat_map};
 ghost use Rattle.midi_wire.specs.Readings.{rest};
+ghost use Rattle.byte_io.specs.Moved.{GaveSome};
 ghost use Rattle.smf_grammar.specs.Chunks.{most_bytes};
 ghost use Rattle.std.specs.FinMap as map;
 ghost use Rattle.std.specs.Int.RustNames.{bit_or};
 ghost use Rattle.seq_state.specs.Step.{port_addr, step};
 ghost use Rattle.tool_text.specs.Faults.{IsOfStream};
-ghost use Rattle.tool_text.specs.Stream.{message_lines, HasRoom, StopsShort};
+ghost use Rattle.tool_text.specs.Stream.{message_lines, IsRendered, StopsShort, GaveTooMany};
 ghost use Rattle.tool_text.specs.Thru.{passage_line, thru_line, thru_text, fed_stream, input_at_start, engine_at_start, engine_joined};
 ghost use Rattle.tool_text.specs.Thru.{most_piece, after_input, IsPassing, IsFed};
 
@@ -32,7 +33,7 @@ const MOST_PIECE: usize = 1000;
 /// Passes the MIDI stream that `input` gives from the first of two clients of a sequencer to the second, and prints
 /// each message that comes there: its moment, the port that it came to, and its bytes.
 ///
-/// At a fault the sink has taken a front of the text.
+/// At a fault the sink has taken the first part of the text.
 pub fn thru_text<R: Source, W: Sink>(
     alloc: Global,
     input: &mut R,
@@ -41,19 +42,16 @@ pub fn thru_text<R: Source, W: Sink>(
     requires input_sound { R.failed input.old ≡ false }
     requires out_sound { W.failed out.old ≡ false }
 
-    ensures text { R.tells input.old ≡ true → W.tells out.old ≡ true
-        → OnOk result (W.taken out.new ≡ W.taken out.old ++ thru_text (R.left input.old)) }
-    ensures all { R.tells input.old ≡ true → OnOk result (R.left input.new ≡ []) }
-    ensures bounded { R.tells input.old ≡ true
-        → OnOk result (length (R.left input.old) ≤ most_bytes) }
-    ensures short { R.tells input.old ≡ true → W.tells out.old ≡ true
-        → OnErr result (StopsShort thru_text
-        (R.left input.old) (W.taken out.old) (W.taken out.new)) }
+    ensures text { OnOk result (IsRendered R.HasLeft W.HasTaken thru_text
+        input.old input.new out.old out.new) }
+    ensures short { OnErr result (StopsShort R.HasLeft W.HasTaken thru_text
+        input.old input.new out.old out.new) }
+    ensures bounded { GaveSome R.HasLeft (most_bytes + 1) input.old input.new }
 
     // `Read` comes where a read failed or there were too many bytes, `Write` where the sink failed or is one that may
     // take no byte, and want of memory is told only where neither device failed.
     ensures read { IsErrOf result ToolFault.Read → (R.failed input.new ≡ true)
-        ⊎ (R.tells input.old ≡ true → most_bytes < length (R.left input.old)) }
+        ⊎ GaveTooMany R.HasLeft input.old input.new }
     ensures unread { IsErrOf result ToolFault.OutOfMemory → R.failed input.new ≡ false }
     ensures write { IsErrOf result ToolFault.Write
         → (W.failed out.new ≡ true) ⊎ (W.takes_some out.old ≡ false) }
@@ -89,7 +87,7 @@ impl<'b, A: Agenda> Printer for Passage<'b, A> {
     ghost use Rattle.tool_text.specs.Stream.{message_lines};
     ghost use Rattle.tool_text.specs.Thru.{thru_line, IsFed};
 
-    ghost HasTaken = { λ p read. IsFed p.engine read };
+    ghost WasFed = { λ p read. IsFed p.engine read };
 
     ghost lines = { message_lines thru_line };
 

@@ -1,14 +1,15 @@
 //! A stream read and written back.
 
-ghost use Rattle.std.specs.Prelude.{◌≡◌, ◌≤◌, ◌<◌, ◌++◌, ◌⊎◌, ℕ, List, [], None, true, false, length, IfErr, OnOk, OnErr, IsErrOf};
+ghost use Rattle.std.specs.Prelude.{◌≡◌, ◌+◌, ◌++◌, ◌⊎◌, [], true, false, IfErr, OnOk, OnErr, IsErrOf};
 ghost use Rattle.std.specs.List.{flat_map};
 ghost use Rattle.midi_wire.specs.Readings.{reading, rest};
 ghost use Rattle.midi_wire.specs.Writings.{written_after, status_after_all};
+ghost use Rattle.byte_io.specs.Moved.{GaveSome, Took};
 ghost use Rattle.smf_grammar.specs.Chunks.{most_bytes};
 ghost use Rattle.text_forms.specs.Hex.{spaced, hex_line};
 ghost use Rattle.tool_text.specs.Faults.{IsOfStream, IsOutput};
 ghost use Rattle.tool_text.specs.Gathered.{Goes, Stops};
-ghost use Rattle.tool_text.specs.Stream.{message_lines, HasRoom, StopsShort};
+ghost use Rattle.tool_text.specs.Stream.{message_lines, IsRendered, StopsShort, GaveTooMany};
 ghost use Rattle.tool_text.specs.Wire.{written_line, wire_text, IsCopied};
 
 use crate::fault::ToolFault;
@@ -25,8 +26,8 @@ const PART: usize = 4096;
 /// Prints each message of the MIDI stream that `input` gives on a line, and then the bytes that they are all written as
 /// in one stream, with running status (MIDI 1.0 Detailed Specification, "Running Status").
 ///
-/// At a fault the sink has taken a front of the text. What it holds in memory grows only with the bytes of the last
-/// line, which are turned into text piece by piece.
+/// At a fault the sink has taken the first part of the text. What it holds in memory grows only with the bytes of the
+/// last line, which are turned into text piece by piece.
 pub fn wire_text<R: Source, W: Sink>(
     alloc: Global,
     input: &mut R,
@@ -35,19 +36,16 @@ pub fn wire_text<R: Source, W: Sink>(
     requires input_sound { R.failed input.old ≡ false }
     requires out_sound { W.failed out.old ≡ false }
 
-    ensures text { R.tells input.old ≡ true → W.tells out.old ≡ true
-        → OnOk result (W.taken out.new ≡ W.taken out.old ++ wire_text (R.left input.old)) }
-    ensures all { R.tells input.old ≡ true → OnOk result (R.left input.new ≡ []) }
-    ensures bounded { R.tells input.old ≡ true
-        → OnOk result (length (R.left input.old) ≤ most_bytes) }
-    ensures short { R.tells input.old ≡ true → W.tells out.old ≡ true
-        → OnErr result (StopsShort wire_text
-        (R.left input.old) (W.taken out.old) (W.taken out.new)) }
+    ensures text { OnOk result (IsRendered R.HasLeft W.HasTaken wire_text
+        input.old input.new out.old out.new) }
+    ensures short { OnErr result (StopsShort R.HasLeft W.HasTaken wire_text
+        input.old input.new out.old out.new) }
+    ensures bounded { GaveSome R.HasLeft (most_bytes + 1) input.old input.new }
 
     // `Read` comes where a read failed or there were too many bytes, `Write` where the sink failed or is one that may
     // take no byte, and want of memory is told only where neither device failed.
     ensures read { IsErrOf result ToolFault.Read → (R.failed input.new ≡ true)
-        ⊎ (R.tells input.old ≡ true → most_bytes < length (R.left input.old)) }
+        ⊎ GaveTooMany R.HasLeft input.old input.new }
     ensures unread { IsErrOf result ToolFault.OutOfMemory → R.failed input.new ≡ false }
     ensures write { IsErrOf result ToolFault.Write
         → (W.failed out.new ≡ true) ⊎ (W.takes_some out.old ≡ false) }
@@ -112,7 +110,7 @@ impl Printer for Copier {
     ghost use Rattle.text_forms.specs.Hex.{hex_line};
     ghost use Rattle.tool_text.specs.Wire.{IsCopied};
 
-    ghost HasTaken = { λ c read. IsCopied c.parser c.writer c.written.items read };
+    ghost WasFed = { λ c read. IsCopied c.parser c.writer c.written.items read };
 
     ghost lines = { message_lines hex_line };
 
@@ -156,11 +154,8 @@ fn write_on(
 /// Prints the last line.
 fn print_written<W: Sink>(alloc: Global, written: &[u8], out: &mut W) -> Result<(), ToolFault>
     requires { W.failed out.old ≡ false }
-    ensures text { W.tells out.old ≡ true
-        → OnOk result (W.taken out.new ≡ W.taken out.old ++ written_line written.now) }
-    ensures short { W.tells out.old ≡ true
-        → OnErr result (Stops (W.taken out.old) (W.taken out.new)
-        (W.taken out.old ++ written_line written.now)) }
+    ensures text { OnOk result (Took W.HasTaken out.old (written_line written.now) out.new) }
+    ensures short { OnErr result (Stops W.HasTaken out.old (written_line written.now) out.new) }
     ensures write { IsErrOf result ToolFault.Write
         → (W.failed out.new ≡ true) ⊎ (W.takes_some out.old ≡ false) }
     ensures unwritten { IsErrOf result ToolFault.OutOfMemory → W.failed out.new ≡ false }
@@ -176,13 +171,10 @@ fn print_written<W: Sink>(alloc: Global, written: &[u8], out: &mut W) -> Result<
 /// Prints bytes in hexadecimal after a text that was gathered.
 fn print_spaced<W: Sink>(bytes: &[u8], text: &mut Vec<u8>, out: &mut W) -> Result<(), ToolFault>
     requires { W.failed out.old ≡ false }
-    ensures sent { W.tells out.old ≡ true
-        → OnOk result (Goes (W.taken out.old) (W.taken out.new) text.new.items []
-        (W.taken out.old ++ text.old.items ++ spaced bytes.now)) }
-    ensures short { W.tells out.old ≡ true
-        → OnErr result (Stops (W.taken out.old) (W.taken out.new)
-        (W.taken out.old ++ text.old.items ++ spaced bytes.now)) }
-    ensures telling { W.tells out.new ≡ W.tells out.old }
+    ensures sent { OnOk result (Goes W.HasTaken out.old out.new text.new.items []
+        (text.old.items ++ spaced bytes.now)) }
+    ensures short { OnErr result (Stops W.HasTaken out.old
+        (text.old.items ++ spaced bytes.now) out.new) }
     ensures unmarked { OnOk result (W.failed out.new ≡ false) }
     ensures eager { W.takes_some out.new ≡ W.takes_some out.old }
     ensures write { IsErrOf result ToolFault.Write

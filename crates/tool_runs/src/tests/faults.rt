@@ -58,6 +58,11 @@ fn tells_of_sessions(rt: HostRuntime) -> Result<(), Fail> {
             "client 128 has two scripts; see midiseq --help",
             2,
         ),
+        (
+            ProgramFault::OutIsRead("song.mid"),
+            "song.mid is a file that the session reads; see midiseq --help",
+            2,
+        ),
         (ProgramFault::CannotRecord, "cannot record", 1),
     ];
     check_faults(&rt, rt.alloc(), &faults)

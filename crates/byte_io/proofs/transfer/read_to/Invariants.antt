@@ -1,13 +1,13 @@
--- The bytes read so far, and those that the source has left, are those that it had.
-use Rattle.std.proofs.Common.{◌≡◌, ◌≤◌, ◌-◌, ◌++◌, length, true, false}
+-- The bytes so far are those that the reads gave.
+use Rattle.std.proofs.Common.{◌≡◌, ◌≤◌, ◌-◌, length, false}
+use Rattle.byte_io.specs.Moved.{Gave}
 use Rattle.byte_io.proofs.transfer.read_to.Given as goal
 
 abbrev pub invariant-loop-chunk : goal.invariant-loop-chunk
 invariant-loop-chunk g l = record {
   within : length l.all.items ≤ l.most;
   sound : g.R.Source.failed l.input ≡ false;
-  telling : g.R.Source.tells l.input ≡ g.R.Source.tells l.fn.input;
-  split : g.R.Source.tells l.fn.input ≡ true → g.R.Source.left l.fn.input ≡ l.all.items ++ g.R.Source.left l.input;
+  gave : Gave g.R.Source.HasLeft l.fn.input l.all.items l.input;
   space : length l.chunk ≡ 8192;
 }
 

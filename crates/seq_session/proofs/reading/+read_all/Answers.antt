@@ -1,7 +1,7 @@
 use Rattle.std.proofs.Common.{rules, ◌≡◌, false, is_some, IfSome, subst}
 use Rattle.seq_session.specs.Rising.{AreRising}
-use Rattle.seq_session.specs.Devices.{clients, AreSound, AllTell, reader_blamed}
-use Rattle.seq_session.proofs.Blamed.{first_told, rest_told, told_more, unread_more}
+use Rattle.seq_session.specs.Devices.{clients, AreSound, reader_blamed}
+use Rattle.seq_session.proofs.Blamed.{first_told, rest_told}
 use Rattle.seq_session.proofs.reading.+read_all.Goals as goal
 
 pub returns-in_err-read_one-clause-marks : goal.returns-in_err-read_one-clause-marks
@@ -20,22 +20,9 @@ returns-in_err-push-clause-marks g t c =
     first_told g.R.Source.failed c.in-Some.first.now c.read_one.new.source (reader_blamed c.from_residual-in_err-push.result) c.in-Some.more.now c.read_one.ensures.client mark blamed
     (subst (λ xs. AreRising (clients xs)) parts c.requires.rising) (subst (AreSound g.R.Source.failed) parts c.requires.sound)
 
-pub returns-clause-told : goal.returns-clause-told
-returns-clause-told g t c all =
-    let parts = c.in-Some.ensures.cases.0 in
-    let tell = subst (AllTell g.R.Source.tells) parts all in
-    told_more g.R.Source.left c.read_all.result c.args.scripts.now.items c.push.new.self.items c.read_all.new.scripts.items c.in_ok-read_one.field-0 c.in-Some.first.now c.in-Some.more.now c.args.sources.now parts
-    c.in_ok-push.ensures.items (c.in_ok-read_one.ensures.told tell.0) (c.read_all.ensures.told tell.1)
-
 pub returns-clause-marks : goal.returns-clause-marks
 returns-clause-marks g t c =
     let parts = c.in-Some.ensures.cases.0 in
     let mark : g.R.Source.failed c.read_one.new.source.reader ≡ false = search rules in
     rest_told g.R.Source.failed c.in-Some.first.now c.read_one.new.source (reader_blamed c.read_all.result) c.in-Some.more.now _ c.read_one.ensures.client mark c.read_all.ensures.blamed
     (subst (λ xs. AreRising (clients xs)) parts c.requires.rising) c.read_all.ensures.marks
-
-pub returns-clause-rest : goal.returns-clause-rest
-returns-clause-rest g t c all =
-    let parts = c.in-Some.ensures.cases.0 in
-    let tell = subst (AllTell g.R.Source.tells) parts all in
-    unread_more g.R.Source.left c.read_all.result c.in-Some.first.now c.read_one.new.source c.in-Some.more.now _ c.args.sources.now parts (c.in_ok-read_one.ensures.rest tell.0) (c.read_all.ensures.rest tell.1)

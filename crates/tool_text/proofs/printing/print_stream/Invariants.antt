@@ -7,12 +7,10 @@ abbrev pub invariant-pieces : goal.invariant-pieces
 invariant-pieces g l = record {
   input_sound : g.R.Source.failed l.input ≡ false;
   out_sound : g.W.Sink.failed l.out ≡ false;
-  input_telling : g.R.Source.tells l.input ≡ g.R.Source.tells l.fn.input;
-  out_telling : g.W.Sink.tells l.out ≡ g.W.Sink.tells l.fn.out;
   eager : g.W.Sink.takes_some l.out ≡ g.W.Sink.takes_some l.fn.out;
   space : length l.chunk ≡ 4096;
   empty : l.text.items ≡ [];
-  passed : Passed (g.P.Printer.HasTaken l.printer) g.P.Printer.lines (g.R.Source.tells l.fn.input) (g.R.Source.left l.fn.input) (g.R.Source.left l.input) (g.W.Sink.tells l.fn.out) (g.W.Sink.taken l.fn.out) (g.W.Sink.taken l.out) l.room;
+  passed : Passed g.R.Source.HasLeft g.W.Sink.HasTaken (g.P.Printer.WasFed l.printer) g.P.Printer.lines l.fn.input l.input l.fn.out l.out l.room;
 }
 
 abbrev pub decreases-pieces : goal.decreases-pieces

@@ -1,5 +1,5 @@
 use Rattle.std.proofs.Common.{◌≡◌, ◌++◌}
-use Rattle.std.specs.Prelude.{true, false}
+use Rattle.std.specs.Prelude.{false}
 use Rattle.std.specs.Slice.Iter.{chunks_rest, chunks_size}
 use Rattle.text_forms.specs.Hex.{spaced}
 use Rattle.tool_text.specs.Gathered.{Goes}
@@ -10,8 +10,7 @@ invariant-loop-part g l = record {
   can_next : (goal.iterator-loop-part g).can_next l.part-iterator;
   finite : (goal.iterator-loop-part g).is_finite l.part-iterator;
   size : chunks_size l.part-iterator ≡ 4096;
-  goes : g.W.Sink.tells l.initial.out ≡ true → Goes (g.W.Sink.taken l.initial.out) (g.W.Sink.taken l.out) l.text.items (spaced (chunks_rest l.part-iterator)) (g.W.Sink.taken l.initial.out ++ l.initial.text.items ++ spaced l.fn.bytes);
-  telling : g.W.Sink.tells l.out ≡ g.W.Sink.tells l.initial.out;
+  goes : Goes g.W.Sink.HasTaken l.initial.out l.out l.text.items (spaced (chunks_rest l.part-iterator)) (l.initial.text.items ++ spaced l.fn.bytes);
   unmarked : g.W.Sink.failed l.out ≡ false;
   eager : g.W.Sink.takes_some l.out ≡ g.W.Sink.takes_some l.initial.out;
 }

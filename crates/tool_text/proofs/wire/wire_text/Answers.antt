@@ -13,14 +13,15 @@ pub print_stream-requires-clause-empty : goal.print_stream-requires-clause-empty
 print_stream-requires-clause-empty g c = no_lines hex_line
 
 pub returns-in_err-print_stream-clause-short : goal.returns-in_err-print_stream-clause-short
-returns-in_err-print_stream-clause-short g c = λ t u. on_err c.from_residual.result (stops_before (message_lines hex_line) wire_ending _ _ _ (c.in_err-print_stream.ensures.short t u))
+returns-in_err-print_stream-clause-short g c =
+    on_err c.from_residual.result (stops_before g.R.Source.HasLeft g.W.Sink.HasTaken (message_lines hex_line) wire_ending _ _ _ _ c.in_err-print_stream.ensures.short)
 
 pub returns-clause-text : goal.returns-clause-text
-returns-clause-text g c = λ t u. on_ok_weaker c.print_written.result
-    (λ k. all_copied _ _ _ _ _ (c.as_slice.ensures.value ∙ (c.in_ok-print_stream.ensures.taken t).written_back) (c.in_ok-print_stream.ensures.text t u) k)
-    (c.print_written.ensures.text (c.print_stream.ensures.telling ∙ u))
+returns-clause-text g c =
+    let passed = c.in_ok-print_stream.ensures.passed in
+    on_ok_weaker c.print_written.result (λ k. all_copied g.R.Source.HasLeft g.W.Sink.HasTaken _ _ _ _ _ _ passed.rendered (c.as_slice.ensures.value ∙ passed.fed.written_back) k) c.print_written.ensures.text
 
 pub returns-clause-short : goal.returns-clause-short
-returns-clause-short g c = λ t u. on_err_weaker c.print_written.result
-    (λ k. copied_short _ _ _ _ _ (c.as_slice.ensures.value ∙ (c.in_ok-print_stream.ensures.taken t).written_back) (c.in_ok-print_stream.ensures.text t u) k)
-    (c.print_written.ensures.short (c.print_stream.ensures.telling ∙ u))
+returns-clause-short g c =
+    let passed = c.in_ok-print_stream.ensures.passed in
+    on_err_weaker c.print_written.result (λ k. copied_short g.R.Source.HasLeft g.W.Sink.HasTaken _ _ _ _ _ _ passed.rendered (c.as_slice.ensures.value ∙ passed.fed.written_back) k) c.print_written.ensures.short

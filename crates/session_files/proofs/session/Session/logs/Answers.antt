@@ -2,6 +2,7 @@ use Rattle.std.proofs.Common.{◌≡◌, ◌+◌, false, [], ◌∷◌, length, 
 use Rattle.std.proofs.lemmas.List.{length-append}
 use Rattle.byte_io.specs.declared.mem_sink.MemSink.{MemSink}
 use Rattle.seq_session.specs.Devices.{AreOpen}
+use Rattle.session_files.specs.Sessions.{AreEmpty}
 use Rattle.session_files.proofs.Opened.{all-more}
 use Rattle.session_files.proofs.session.Session.logs.Goals as goal
 
@@ -9,6 +10,7 @@ pub loop-script-init : goal.loop-script-init
 loop-script-init c = record {
   as_many = ap length c.new-logs.ensures.items;
   unbroken = subst (AreOpen {W = MemSink} (λ s. s.broken)) (sym c.new-logs.ensures.items) tt;
+  empty = subst AreEmpty (sym c.new-logs.ensures.items) tt;
 }
 
 pub loop-script-preserved : goal.loop-script-preserved
@@ -16,6 +18,8 @@ loop-script-preserved c = record {
   as_many = ap length c.in_ok-push.ensures.items ∙ length-append c.loop-script.logs.items (c.in_ok-new.field-0 ∷ []) ∙ ap (λ n. n + 1) c.loop-script.invariant.as_many;
   unbroken = subst (AreOpen {W = MemSink} (λ s. s.broken)) (sym c.in_ok-push.ensures.items)
       (all-more (λ s. s.broken ≡ false) c.loop-script.logs.items c.in_ok-new.field-0 c.loop-script.invariant.unbroken (ap (λ s. s.broken) c.in_ok-new.ensures.value));
+  empty = subst AreEmpty (sym c.in_ok-push.ensures.items)
+      (all-more (λ s. s.taken ≡ []) c.loop-script.logs.items c.in_ok-new.field-0 c.loop-script.invariant.empty (ap (λ s. s.taken) c.in_ok-new.ensures.value));
 }
 
 pub returns-clause-as_many : goal.returns-clause-as_many
@@ -25,3 +29,6 @@ returns-clause-as_many c =
 
 pub returns-clause-open : goal.returns-clause-open
 returns-clause-open c = c.loop-script.invariant.unbroken
+
+pub returns-clause-empty : goal.returns-clause-empty
+returns-clause-empty c = c.loop-script.invariant.empty

@@ -1,22 +1,29 @@
-use Rattle.std.proofs.Common.{◌≡◌, false, refl, sym, ap, ◌∙◌, subst}
-use Rattle.byte_io.specs.declared.std_source.StdSource.{StdSource}
+use Rattle.std.proofs.Common.{◌≡◌, false, refl, sym, ap, ◌∙◌, subst, []}
 use Rattle.seq_session.specs.Devices.{clients, AreSound}
+use Rattle.session_files.specs.Opened.{AreSourcesOf}
 use Rattle.session_files.specs.Sessions.{owners}
+use Rattle.session_files.proofs.Files.{sources_next}
 use Rattle.session_files.proofs.Opened.{all-more, take-all, clients-next}
 use Rattle.session_files.proofs.session.Session.open.Goals as goal
 
 pub loop-script-init : goal.loop-script-init
 loop-script-init g c = record {
+  opened = subst (AreSourcesOf g.S.FileStore.IsOpened []) (sym c.new-sources.ensures.items) tt;
   clients = ap clients c.new-sources.ensures.items;
-  sound = subst (AreSound {R = StdSource g.row.R-File.Denot} (λ s. s.broken)) (sym c.new-sources.ensures.items) tt;
+  sound = subst (AreSound g.S.Reader.Source.failed) (sym c.new-sources.ensures.items) tt;
 }
 
 pub loop-script-preserved : goal.loop-script-preserved
 loop-script-preserved g c = record {
+  opened = sources_next g.S.FileStore.IsOpened c.deref-script-items.result.now c.loop-script.script-index c.script-item.result c.loop-script.sources.items _ _ c.loop-script-test.true c.script-item.is c.in_ok-push.ensures.items c.loop-script.invariant.opened refl c.in-Ok.ensures.opened;
   clients = clients-next c.deref-script-items.result.now c.loop-script.script-index c.script-item.result c.script-item.is c.loop-script-test.true _ _ _ c.in_ok-push.ensures.items refl c.loop-script.invariant.clients;
-  sound = subst (AreSound {R = StdSource g.row.R-File.Denot} (λ s. s.broken)) (sym c.in_ok-push.ensures.items)
-      (all-more (λ s. s.reader.broken ≡ false) c.loop-script.sources.items _ c.loop-script.invariant.sound (ap (λ r. r.broken) c.new.ensures));
+  sound = subst (AreSound g.S.Reader.Source.failed) (sym c.in_ok-push.ensures.items)
+      (all-more (λ s. g.S.Reader.Source.failed s.reader ≡ false) c.loop-script.sources.items _ c.loop-script.invariant.sound c.in-Ok.ensures.sound);
 }
+
+pub returns-clause-opened : goal.returns-clause-opened
+returns-clause-opened g c =
+    subst (λ words. AreSourcesOf g.S.FileStore.IsOpened words c.loop-script.sources.items) (take-all _ _ c.loop-script.auto.script-index-end c.loop-script-test.false ∙ c.deref-script-items.ensures.value) c.loop-script.invariant.opened
 
 pub returns-clause-clients : goal.returns-clause-clients
 returns-clause-clients g c =

@@ -5,8 +5,8 @@ use Rattle.tool_text.proofs.OnTheWay.{fed_more}
 use Rattle.tool_text.proofs.Passed.{lines_more}
 use Rattle.tool_text.proofs.thru.PassagePrinter.take.Goals as goal
 
-pub returns-clause-taken : goal.returns-clause-taken
-returns-clause-taken g c = λ read f.
+pub returns-clause-fed : goal.returns-clause-fed
+returns-clause-fed g c = λ read f.
     on_ok-three c.pass_on.result (λ p s n. fed_more _ _ read c.args.piece.now f p s n) c.pass_on.ensures.passing c.pass_on.ensures.stream c.pass_on.ensures.counted
 
 pub returns-clause-text : goal.returns-clause-text

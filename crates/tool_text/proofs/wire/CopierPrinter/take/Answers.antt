@@ -7,8 +7,8 @@ use Rattle.tool_text.proofs.Copied.{one_more_copied}
 use Rattle.tool_text.proofs.Passed.{lines_more}
 use Rattle.tool_text.proofs.wire.CopierPrinter.take.Goals as goal
 
-pub returns-clause-taken : goal.returns-clause-taken
-returns-clause-taken c = λ read f.
+pub returns-clause-fed : goal.returns-clause-fed
+returns-clause-fed c = λ read f.
     on_ok-three c.copy.result (λ p s b. one_more_copied _ _ _ _ _ _ read c.args.piece.now f p s b) c.copy.ensures.parser c.copy.ensures.writer c.copy.ensures.written
 
 pub returns-clause-text : goal.returns-clause-text

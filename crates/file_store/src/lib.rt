@@ -1,0 +1,13 @@
+//! Files by their paths: listed, opened, and written so that what stood there stays until the new file is whole.
+//!
+//! `FileStore` is what a program asks of a system's files. `SystemFiles` asks it of the system that the program runs on.
+#![tactic(auto)]
+
+mod draft;
+mod store;
+mod system;
+
+pub use byte_io::DeviceFault;
+pub use draft::Draft;
+pub use store::FileStore;
+pub use system::SystemFiles;

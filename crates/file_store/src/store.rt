@@ -1,0 +1,66 @@
+//! What a program asks of a system's files.
+
+ghost use Rattle.std.specs.Prelude.{◌≡◌, true, false, map, string_bytes, IfOk, OnOk, OnErr};
+
+use byte_io::{DeviceFault, Sink, Source};
+use std::alloc::Global;
+
+/// Files that are listed, opened and written by their paths.
+///
+/// No contract can say what a file holds. What it can say is of which file a reader or a writer is: nothing but these
+/// calls tells that, so what is proved over every store holds of the calls that were made.
+pub trait FileStore {
+    ghost use Rattle.std.specs.Prelude.{ℕ, List};
+
+    type Reader: Source + Drop;
+
+    type Writer: Sink + Drop;
+
+    /// The reader was opened at this path, and nothing was read of it.
+    ghost IsOpened: { List ℕ → Self.Reader → Type 0 };
+
+    /// No file could be opened at this path.
+    ghost CannotOpen: { List ℕ → Type 0 };
+
+    /// The folder at this path has entries with these names, and others whose names are no text.
+    ghost HasNames: { List ℕ → List (List ℕ) → Type 0 };
+
+    /// The writer begins a file for this path, and nothing was written to it.
+    ghost IsBegun: { List ℕ → Self.Writer → Type 0 };
+
+    /// At this path stands what the writer wrote.
+    ghost IsStored: { List ℕ → Self.Writer → Type 0 };
+
+    /// These paths lead to one file.
+    ghost AreOne: { List ℕ → List ℕ → Type 0 };
+
+    /// These paths lead to different files, or one of them to none.
+    ghost AreApart: { List ℕ → List ℕ → Type 0 };
+
+    /// Opens the file at a path.
+    fn open(&self, path: &str) -> Result<Self::Reader, DeviceFault>
+        ensures opened { IfOk result (λ r. IsOpened path.now r) }
+        ensures refused { OnErr result (CannotOpen path.now) }
+        ensures sound { IfOk result (λ r. Self.Reader.failed r ≡ false) };
+
+    /// The names in a folder, but for those that are not UTF-8.
+    fn names(&self, alloc: Global, folder: &str) -> Result<Vec<String>, DeviceFault>
+        ensures { IfOk result (λ names. HasNames folder.now (map string_bytes names.items)) };
+
+    /// Begins a file for a path. What stands there stays until the file is stored.
+    fn begin(&self, alloc: Global, path: &str) -> Result<Self::Writer, DeviceFault>
+        ensures begun { IfOk result (λ w. IsBegun path.now w) }
+        ensures sound { IfOk result (λ w. Self.Writer.failed w ≡ false) };
+
+    /// Puts a file that was written at its path, in place of what stood there.
+    fn store(&self, path: &str, written: Self::Writer) -> Result<(), DeviceFault>
+        ensures { OnOk result (IsStored path.now written) };
+
+    /// Lets a file go that was begun. What stands at its path stays.
+    fn discard(&self, begun: Self::Writer);
+
+    /// Whether two paths lead to one file, also by links.
+    fn is_one(&self, path: &str, other: &str) -> bool
+        ensures one { result ≡ true → AreOne path.now other.now }
+        ensures apart { result ≡ false → AreApart path.now other.now };
+}

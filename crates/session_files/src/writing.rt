@@ -1,0 +1,36 @@
+//! A file that is written whole, or not at all.
+
+ghost use Rattle.std.specs.Prelude.{◌≡◌, ◌⊎◌, IfErr, OnOk};
+ghost use Rattle.session_files.specs.Recorded.{IsWritten};
+
+use byte_io::{DeviceFault, write_all};
+use file_store::FileStore;
+use std::alloc::Global;
+use tool_text::ProgramFault;
+
+/// Writes a file. What stands at the path stays until the new file is whole, and on a fault stays.
+pub fn write_file<'a, S: FileStore>(
+    alloc: Global,
+    store: &S,
+    path: &'a str,
+    bytes: &[u8],
+) -> Result<(), ProgramFault<'a>>
+    ensures written { OnOk result
+        (IsWritten S.IsBegun S.Writer.HasTaken S.IsStored path.now bytes.now) }
+    ensures fault { IfErr result (λ e.
+        (e ≡ ProgramFault.CannotWrite path.entry) ⊎ (e ≡ ProgramFault.OutOfMemory)) }
+{
+    let mut file = match store.begin(alloc, path) {
+        Ok(file) => file,
+        Err(DeviceFault::OutOfMemory) => return Err(ProgramFault::OutOfMemory),
+        Err(DeviceFault::Broken) => return Err(ProgramFault::CannotWrite(path)),
+    };
+    if write_all(&mut file, bytes).is_err() {
+        store.discard(file);
+        return Err(ProgramFault::CannotWrite(path));
+    }
+    match store.store(path, file) {
+        Ok(()) => Ok(()),
+        Err(_) => Err(ProgramFault::CannotWrite(path)),
+    }
+}
