@@ -24,16 +24,16 @@ demo: build
 	@examples/studio/demo $(PROGRAM)
 
 # The gate: every proof from nothing, the edits that must fail, the tests, and the stored run; and when each crate was done.
-# Then every command that the pages show, with the program that the gate has built.
+# Then, with the program that the gate has built, every command that the pages show, and runs whose calls are refused or that are hostile.
 test:
-	set -o pipefail; rt ci 2>&1 | test/gate-times
-	test/docs crates/midiseq/out/midiseq
+	@test/whole
 
 # For daily work: every crate as it stands and its tests, then the tests of the built program; no edits.
 check: build
 	rt all test
 	test/docs $(PROGRAM)
 	test/refused-calls $(PROGRAM)
+	test/refused-memory
 	test/hostile --program $(PROGRAM)
 
 # Builds, and compares every command that the pages show with what it prints.

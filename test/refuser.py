@@ -97,6 +97,7 @@ class Refuser:
         return texts[1:]
 
 
-def points(count):
-    """What REFUSE says to refuse each of so many calls, alone and with all that follow."""
-    return [(point, f"{point}{more}") for point in range(1, count + 1) for more in ("", "..")]
+def points(count, every=1):
+    """What REFUSE says to refuse each of so many calls, alone and with all that follow; or every so many'th, and the last."""
+    told = [point for point in range(1, count + 1) if point % every == 1 % every or point == count]
+    return [(point, f"{point}{more}") for point in told for more in ("", "..")]

@@ -59,8 +59,9 @@ impl<R: Files + AllocGlobal + Clone + Drop> SystemFiles<R> {
     ) -> Result<Draft<R::File>, DeviceFault>
         ensures { IfOk result (λ d. d.sink.broken ≡ false) }
     {
-        let Ok(target) = fs::canonicalize(&self.rt, path) else {
-            return Err(DeviceFault::Broken);
+        let target = match fs::canonicalize(&self.rt, path) {
+            Ok(target) => target,
+            Err(error) => return Err(fault_of(error.kind())),
         };
         let Some(target) = target.to_str() else {
             return Err(DeviceFault::Broken);
@@ -178,7 +179,7 @@ fn push_name(names: &mut Vec<String>, name: String) -> Result<(), DeviceFault> {
     }
 }
 
-/// Why a folder could not be listed.
+/// Why a folder could not be listed, or a path not followed.
 fn fault_of(kind: ErrorKind) -> DeviceFault {
     match kind {
         ErrorKind::OutOfMemory => DeviceFault::OutOfMemory,

@@ -109,7 +109,9 @@ The scripts are run as by `midiseq run`, and what came to port N of CLIENT is
 written to FILE: a Standard MIDI File of format 0 with 480 ticks per quarter
 note of half a second, without system common and real time messages, or with
 --raw the messages as one MIDI stream. A port at which nothing arrived gives a
-file without messages. FILE is made or written over when all else is done.
+file without messages. FILE is made or replaced when all else is done; until
+the new one is whole, what was there stays. It can be none of the scripts and
+none of the files of D that scripts may play.
 `cannot record` is told where more than 268,435,455 ticks lie between two
 messages, or the file would have more than 16,777,216 bytes.
 

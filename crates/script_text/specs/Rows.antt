@@ -178,7 +178,8 @@ hostile_text =
     ++ codes "2 connect 128:p0 131:p0\n99 close\n3 connect 131:p0 131:f0"
 
 -- Each reason comes before those after it: what can't be read is never late, and what is past the
--- end neither. Remarks and lines without words are no lines of the reading, and keep their number.
+-- end neither. Remarks and lines without words are no lines of the reading, and keep their number;
+-- nothing but # begins a remark, and only at the beginning of a line.
 abbrev pub remarks_text : List ℕ
 remarks_text =
     codes "# a remark\n\n \t\r\n7 close\r\n5 close close\n5 close\n 8 pools\n"
@@ -204,3 +205,9 @@ pub record ScriptForms : Type 0 where
             ∷ skipped 11 Unreadable ∷ [];
       }
   pub empty : script 128 [] 8 [] ≡ record { client = 128; inputs = []; skips = [] }
+  pub semicolon : script 128 [] 8 (codes "; a remark\n7 pools ; another\n7 pools\n") ≡
+      record {
+        client = 128;
+        inputs = input_at 3 7 128 PoolStatus ∷ [];
+        skips = skipped 1 Unreadable ∷ skipped 2 Unreadable ∷ [];
+      }

@@ -1,5 +1,6 @@
 -- Sessions worked out: scripts as text, and the logs that they have.
 use Rattle.std.specs.Prelude.{◌≡◌, ℕ, List, [], ◌∷◌, ◌++◌, codes}
+use Rattle.std.specs.List.{flat_map}
 use Rattle.seq_state.specs.declared.log.LogEntry.{LogEntry}
 use Rattle.seq_state.specs.declared.log.LogEntry.TheVariants.{Delivered, Replied}
 use Rattle.seq_state.specs.declared.log.Reply.TheVariants.{Done, Messages, Refused}
@@ -7,7 +8,7 @@ use Rattle.script_text.specs.declared.reading.SkipReason.TheVariants.{TooLong}
 use Rattle.script_text.specs.Rows.{hostile_text}
 use Rattle.seq_session.specs.declared.source.Script.{Script}
 use Rattle.seq_session.specs.Merging.{lines_of}
-use Rattle.seq_session.specs.Logs.{log_text}
+use Rattle.seq_session.specs.Logs.{outcome, log_text}
 use Rattle.seq_session.specs.Sessions.{Folder, read, session}
 use Rattle.seq_session.specs.Blank.{blanked}
 
@@ -69,6 +70,22 @@ pub record OtherLogs : Type 0 where
   }) [] [] ≡ codes "skip 0 too-long\n"
   pub no_place : log_text (record { client = 128; inputs = []; skips = [] }) (7 ∷ [])
       (Replied 0 3 128 Done ∷ Replied 1 4 128 Done ∷ []) ≡ codes "3 line 7 ok\n"
+
+-- ---- refusals
+
+-- each refusal with its number and its name
+pub record RefusalTexts : Type 0 where
+  pub first : flat_map (λ n. outcome (Refused n)) (1 ∷ 2 ∷ 3 ∷ 4 ∷ 5 ∷ 6 ∷ 7 ∷ 8 ∷ []) ≡
+      codes " refused 1 NotOpen refused 2 AlreadyOpen refused 3 BadName refused 4 BadSize"
+      ++ codes " refused 5 BadRule refused 6 NodeExists refused 7 NoNode refused 8 NoSender"
+  pub second : flat_map (λ n. outcome (Refused n)) (9 ∷ 10 ∷ 11 ∷ 12 ∷ 13 ∷ 14 ∷ 15 ∷ 16 ∷ []) ≡
+      codes " refused 9 NoDest refused 10 NotPermitted refused 11 AlreadyConnected"
+      ++ codes " refused 12 NotConnected refused 13 SourcesFull refused 14 Cycle"
+      ++ codes " refused 15 QueueExists refused 16 NotYours"
+  pub third : flat_map (λ n. outcome (Refused n)) (17 ∷ 18 ∷ 19 ∷ 20 ∷ 21 ∷ 22 ∷ 23 ∷ 24 ∷ []) ≡
+      codes " refused 17 NoQueue refused 18 QueueRunning refused 19 QueueStopped"
+      ++ codes " refused 20 NoFile refused 21 DivisionDiffers refused 22 BadTempo"
+      ++ codes " refused 23 BadTime refused 24 OutFull"
 
 -- ---- blanking
 

@@ -120,4 +120,5 @@ returns-clause-scripts c = record {
   hostile = refl;
   remarks = refl;
   empty = refl;
+  semicolon = refl;
 }

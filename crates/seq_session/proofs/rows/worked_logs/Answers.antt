@@ -17,6 +17,10 @@ pub returns-clause-others : goal.returns-clause-others
 unfolding digits
 returns-clause-others c = record { too_long = refl; no_place = refl }
 
+pub returns-clause-refusals : goal.returns-clause-refusals
+unfolding digits
+returns-clause-refusals c = record { first = refl; second = refl; third = refl }
+
 pub returns-clause-blanked : goal.returns-clause-blanked
 unfolding digits
 returns-clause-blanked c = record { log = refl; twice = refl; none = refl; empty = refl }
