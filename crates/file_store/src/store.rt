@@ -1,6 +1,6 @@
 //! What a program asks of a system's files.
 
-ghost use Rattle.std.specs.Prelude.{◌≡◌, true, false, map, string_bytes, IfOk, OnOk, OnErr};
+ghost use Rattle.std.specs.Prelude.{◌≡◌, true, false, map, string_bytes, IfOk, OnOk, OnErr, IsErrOf};
 
 use byte_io::{DeviceFault, Sink, Source};
 use std::alloc::Global;
@@ -21,6 +21,9 @@ pub trait FileStore {
 
     /// No file could be opened at this path.
     ghost CannotOpen: { List ℕ → Type 0 };
+
+    /// No folder could be listed at this path.
+    ghost CannotList: { List ℕ → Type 0 };
 
     /// The folder at this path has entries with these names, and others whose names are no text.
     ghost HasNames: { List ℕ → List (List ℕ) → Type 0 };
@@ -45,7 +48,9 @@ pub trait FileStore {
 
     /// The names in a folder, but for those that are not UTF-8.
     fn names(&self, alloc: Global, folder: &str) -> Result<Vec<String>, DeviceFault>
-        ensures { IfOk result (λ names. HasNames folder.now (map string_bytes names.items)) };
+        ensures listed { IfOk result (λ names.
+            HasNames folder.now (map string_bytes names.items)) }
+        ensures refused { IsErrOf result DeviceFault.Broken → CannotList folder.now };
 
     /// Begins a file for a path. What stands there stays until the file is stored.
     fn begin(&self, alloc: Global, path: &str) -> Result<Self::Writer, DeviceFault>

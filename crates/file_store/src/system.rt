@@ -96,6 +96,8 @@ impl<R: Files + AllocGlobal + Clone + Drop> FileStore for SystemFiles<R> {
 
     ghost CannotOpen = { λ _. Unit {0} };
 
+    ghost CannotList = { λ _. Unit {0} };
+
     ghost HasNames = { λ _ _. Unit {0} };
 
     ghost IsBegun = { λ _ _. Unit {0} };

@@ -1,19 +1,22 @@
 //! The subcommands that run scripts.
 
-ghost use Rattle.std.specs.Prelude.{◌≡◌, false, IfOk};
+ghost use Rattle.std.specs.Prelude.{◌≡◌, false, IfOk, OnOk};
+ghost use Rattle.clap.specs.Matches.{found_of};
+ghost use Rattle.midiseq.specs.Given.{IsGiven, RunsAsGiven, RecordsAsGiven};
 ghost use Rattle.seq_session.specs.Rising.{AreRising};
 ghost use Rattle.session_files.specs.Sessions.{owners};
 
 use byte_io::Sink;
 use clap::ArgMatches;
 use file_store::FileStore;
-use session_files::{Folder, Recording, Session, named, print_session, record_session};
+use session_files::{Recording, Session};
 use session_tools::port_named;
 use std::alloc::Global;
 use tool_text::ProgramFault;
 
 /// The session that the words of `run` and `record` say alike.
 fn session_of<'a>(alloc: Global, found: &ArgMatches<'a>) -> Result<Session<'a>, ProgramFault<'a>>
+    ensures given { IfOk result (IsGiven (found_of found.now)) }
     ensures rising { IfOk result (λ s. AreRising (owners s.scripts.items)) }
 {
     let until = found.get_str("until").unwrap_or("");
@@ -29,13 +32,12 @@ pub(crate) fn run<'a, S: FileStore, W: Sink>(
     out: &mut W,
 ) -> Result<(), ProgramFault<'a>>
     requires { W.failed out.old ≡ false }
+    ensures { OnOk result (RunsAsGiven S.IsOpened S.Reader.HasLeft S.CannotOpen S.Reader.failed
+        S.HasNames W.HasTaken (found_of found.now) out.old out.new) }
 {
-    let alloc = rt.alloc();
-    let session = session_of(alloc, found)?;
-    let folder = Folder::read(alloc, store, session.dir)?;
-    let opened = folder.open(rt)?;
+    let session = session_of(rt.alloc(), found)?;
     let listed = found.get_flag("list");
-    print_session(alloc, store, &session, &named(&opened), listed, out)
+    session_files::run(rt, store, &session, listed, out)
 }
 
 /// Runs the scripts, and writes what came to a port to a file, once all else is done.
@@ -43,9 +45,11 @@ pub(crate) fn record<'a, S: FileStore>(
     rt: &(impl Eprint + AllocGlobal),
     store: &S,
     found: &ArgMatches<'a>,
-) -> Result<(), ProgramFault<'a>> {
-    let alloc = rt.alloc();
-    let session = session_of(alloc, found)?;
+) -> Result<(), ProgramFault<'a>>
+    ensures { OnOk result (RecordsAsGiven S.IsOpened S.Reader.HasLeft S.CannotOpen S.Reader.failed
+        S.HasNames S.IsBegun S.Writer.HasTaken S.IsStored (found_of found.now)) }
+{
+    let session = session_of(rt.alloc(), found)?;
     let word = found.get_str("port").unwrap_or("");
     let Some(port) = port_named(word) else {
         return Err(ProgramFault::NotAPort(word));
@@ -55,7 +59,5 @@ pub(crate) fn record<'a, S: FileStore>(
         raw: found.get_flag("raw"),
         path: found.get_str("out").unwrap_or(""),
     };
-    let folder = Folder::read(alloc, store, session.dir)?;
-    let opened = folder.open(rt)?;
-    record_session(alloc, store, &session, &folder, &named(&opened), &recording)
+    session_files::record(rt, store, &session, &recording)
 }

@@ -118,6 +118,12 @@ each_condition = record {
       in_studio 0 130 (QueueStatus (a_queue 128 0)) refusal.NotOpen (simp finds);
   queue_status_not_yours =
       in_studio 0 129 (QueueStatus (a_queue 128 0)) refusal.NotYours (simp finds);
+  queue_status_not_yours_running =
+      in_studio 0 129 (QueueStatus (a_queue 128 1)) refusal.NotYours (simp finds);
+  queue_status_not_yours_missing =
+      in_studio 0 129 (QueueStatus (a_queue 128 7)) refusal.NotYours (simp finds);
+  queue_status_not_yours_nobodys =
+      in_studio 0 129 (QueueStatus (a_queue 130 0)) refusal.NotYours (simp finds);
   queue_status_no_queue =
       in_studio 0 128 (QueueStatus (a_queue 128 7)) refusal.NoQueue (simp finds);
   share_not_open = in_studio 0 130 (Share (a_queue 128 0)) refusal.NotOpen (simp finds);

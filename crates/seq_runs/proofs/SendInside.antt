@@ -10,7 +10,7 @@ use Rattle.seq_state.specs.Heard.{port_at, port_bytes}
 use Rattle.seq_state.specs.State.{Client, State, start}
 use Rattle.seq_state.specs.Table.{command_row}
 use Rattle.seq_state.specs.Step.{Stepped, plain}
-use Rattle.seq_runs.specs.Rows.{a_note, a_delivery, an_arrival, send_inside_message, SendInside}
+use Rattle.seq_runs.specs.Rows.{a_note, a_delivery, an_arrival, send_inside_message, SendInside, RunningStatus}
 use Rattle.seq_runs.proofs.Traces.{Trace, ends, thus, log_of, trace-log}
 use Rattle.seq_runs.proofs.CommandSteps.{holding, pooled, filled, still, sends, feeds}
 use Rattle.seq_runs.proofs.Beginnings.{nothing-pending, sender, ready, sender_steps, becomes-sender, with_fed, listening, listener_steps, listens}
@@ -75,3 +75,8 @@ written_bytes = refl
 pub send_inside : SendInside
 send_inside =
     record { log = logged; bytes = ap (port_bytes (port_at 129 0)) logged ∙ written_bytes }
+
+-- two notes with one status, at a port
+pub running_status : RunningStatus
+unfolding begins kind_of_status
+running_status = refl

@@ -5,7 +5,8 @@ use Rattle.std.specs.FinMap
 use Rattle.tempo_clock.proofs.Moments.{moment-held}
 use Rattle.midi_wire.specs.Kinds.{kind_of_status}
 use Rattle.midi_wire.specs.Messages.{begins}
-use Rattle.seq_state.specs.declared.input.Command.TheVariants.{Open, CreatePort, CreateQueue, CreateQueueFrom, DeleteQueue, Start, Stop, Continue, Tempo, QueueStatus, Share, Schedule, Play, Send, DropOutput, Receive, PoolStatus}
+use Rattle.patch_graph.specs.Edges.{most_sources}
+use Rattle.seq_state.specs.declared.input.Command.TheVariants.{Open, CreatePort, Connect, CreateQueue, CreateQueueFrom, DeleteQueue, Start, Stop, Continue, Tempo, QueueStatus, Share, Schedule, Play, Send, DropOutput, Receive, PoolStatus}
 use Rattle.seq_state.specs.declared.input.DueAt.TheVariants as due_at
 use Rattle.seq_state.specs.declared.input.Input.{Input}
 use Rattle.seq_state.specs.declared.log.Reply.{Reply}
@@ -15,9 +16,9 @@ use Rattle.seq_state.specs.declared.refusal.Refusal.TheVariants as refusal
 use Rattle.seq_state.specs.Refusals.{number_of}
 use Rattle.seq_state.specs.State.{State}
 use Rattle.seq_state.specs.Table.{command_row}
-use Rattle.seq_state.specs.Step.{settle, Stepped, unless, refusal_of, effect_of, step}
+use Rattle.seq_state.specs.Step.{settle, Stepped, unless, refusal_of, effect_of, step, port_addr, filter_addr}
 use Rattle.seq_runs.specs.Rows.{an_input, caps_by_bits, a_queue, a_note, an_arrival}
-use Rattle.seq_runs.specs.Steps.{hall, both_waiting, files, EachStep}
+use Rattle.seq_runs.specs.Steps.{hall, guarded, nearly_full, both_waiting, files, joins, EachStep}
 use Rattle.seq_runs.proofs.Worked.{settled_to, command-step, refused-step, settle-sorted, settle-still, tick-at_first, ways, paths-ways, finds}
 
 -- where nothing is due, and no refusal stands
@@ -43,7 +44,7 @@ still : settle hall 5 ≡ settled_to hall []
 still = settle-still hall 5 refl
 
 pub each_step : EachStep
-unfolding command_row ways begins kind_of_status
+unfolding command_row most_sources ways begins kind_of_status
 each_step = record {
   two_filters =
       let i : Input = an_input 5 128 (Send 0 (a_note 60)) in
@@ -90,7 +91,24 @@ each_step = record {
       let i : Input = an_input 0 128 DropOutput in
       ap (λ a. a.state.pending) (taken both_waiting i held (simp finds));
   shared_twice = replies hall (an_input 5 128 (Share (a_queue 128 0))) still Done (simp finds) refl;
+  status_of_private =
+      refuses hall (an_input 5 130 (QueueStatus (a_queue 128 1))) still refusal.NotYours (simp finds);
+  status_of_private_by_listener =
+      refuses hall (an_input 5 129 (QueueStatus (a_queue 128 1))) still refusal.NotYours (simp finds);
+  shared_still = shown;
   made_private = made;
+  third_to_open =
+      replies hall (an_input 5 130 (Connect (port_addr 128 0) (port_addr 129 1))) still Done (simp finds)
+      refl;
+  third_to_kept =
+      refuses guarded (an_input 5 130 joins) (settle-still guarded 5 refl) refusal.NotPermitted
+      (simp finds);
+  target_to_kept =
+      replies guarded (an_input 5 129 joins) (settle-still guarded 5 refl) Done (simp finds) refl;
+  source_to_kept =
+      replies guarded (an_input 5 128 joins) (settle-still guarded 5 refl) Done (simp finds) refl;
+  last_source = replies nearly_full last (settle-still nearly_full 5 refl) Done (simp finds) refl;
+  one_source_more = too_many;
   least_sizes = replies hall (an_input 5 131 (Open (codes "d") 1 1)) still Done (simp finds) refl;
   greatest_sizes =
       replies hall (an_input 5 131 (Open (codes "d") 2000 2000)) still Done (simp finds) refl;
@@ -122,6 +140,35 @@ each_step = record {
 
     asks : Input
     asks = an_input 5 130 (QueueStatus (a_queue 128 3))
+
+    shares : Input
+    shares = an_input 5 128 (Share (a_queue 128 0))
+
+    v : State
+    v = (effect_of files hall 5 128 shares.command).state
+
+    looks : Input
+    looks = an_input 5 130 (QueueStatus (a_queue 128 0))
+
+    shown : (step files (step files hall shares).state looks).reply ≡ Queue false 0 0
+    shown =
+        ap (λ (a : Stepped). (step files a.state looks).reply) (taken hall shares still (simp finds))
+        ∙ replies v looks (settle-still v 5 refl) (Queue false 0 0) (simp finds) (simp (finds, tick-at_first))
+
+    last : Input
+    last = an_input 5 129 joins
+
+    w : State
+    w = (effect_of files nearly_full 5 129 joins).state
+
+    more : Input
+    more = an_input 5 129 (Connect (filter_addr 128 0) (port_addr 129 0))
+
+    too_many : (step files (step files nearly_full last).state more).reply ≡ Refused 13
+    too_many =
+        ap (λ (a : Stepped). (step files a.state more).reply)
+        (taken nearly_full last (settle-still nearly_full 5 refl) (simp finds))
+        ∙ refuses w more (settle-still w 5 refl) refusal.SourcesFull (simp finds)
 
     made : (step files (step files hall i).state asks).reply ≡ Refused 16
     made =

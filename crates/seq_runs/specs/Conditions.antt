@@ -73,6 +73,13 @@ pub record EachCondition : Type 0 where
   pub tempo_bad_tempo_of_frames : IsRefused studio (an_input 0 128 (Tempo (a_queue 128 2) 500000)) refusal.BadTempo
   pub queue_status_not_open : IsRefused studio (an_input 0 130 (QueueStatus (a_queue 128 0))) refusal.NotOpen
   pub queue_status_not_yours : IsRefused studio (an_input 0 129 (QueueStatus (a_queue 128 0))) refusal.NotYours
+  -- whether it runs, is missing, or is of a client that isn't open
+  pub queue_status_not_yours_running :
+      IsRefused studio (an_input 0 129 (QueueStatus (a_queue 128 1))) refusal.NotYours
+  pub queue_status_not_yours_missing :
+      IsRefused studio (an_input 0 129 (QueueStatus (a_queue 128 7))) refusal.NotYours
+  pub queue_status_not_yours_nobodys :
+      IsRefused studio (an_input 0 129 (QueueStatus (a_queue 130 0))) refusal.NotYours
   pub queue_status_no_queue : IsRefused studio (an_input 0 128 (QueueStatus (a_queue 128 7))) refusal.NoQueue
   pub share_not_open : IsRefused studio (an_input 0 130 (Share (a_queue 128 0))) refusal.NotOpen
   pub share_not_yours : IsRefused studio (an_input 0 129 (Share (a_queue 128 0))) refusal.NotYours

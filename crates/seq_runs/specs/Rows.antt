@@ -396,6 +396,16 @@ pub record SendInside : Type 0 where
       ∷ Replied 7 5 128 (Messages 1) ∷ []
   pub bytes : port_bytes (port_at 129 0) (plain [] send_inside_message 10) ≡ 0xB0 ∷ 0x07 ∷ 0x7F ∷ 0x90 ∷ 0x3C ∷ 0x40 ∷ []
 
+-- What comes to a port is one stream: a note on with the status of the one before it is written
+-- without that status, whatever the log has between them.
+abbrev pub RunningStatus : Type 0
+RunningStatus =
+    port_bytes (port_at 129 0)
+    (Delivered (a_delivery 5 129 0 (a_note 0x3C)) ∷ Replied 0 5 128 Done
+    ∷ Delivered (a_delivery 6 129 1 (0xB0 ∷ 0x07 ∷ 0x7F ∷ []))
+    ∷ Delivered (a_delivery 7 129 0 (a_note 0x3D)) ∷ []) ≡
+    0x90 ∷ 0x3C ∷ 0x40 ∷ 0x3D ∷ 0x40 ∷ []
+
 -- A client with something waiting and something lost closes and opens again: it finds nothing waiting, nothing lost, and no
 -- subscription.
 abbrev pub opened_again : List Input

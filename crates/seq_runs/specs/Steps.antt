@@ -1,21 +1,22 @@
 -- What single commands do in a state that is given.
-use Rattle.std.specs.Prelude.{◌≡◌, ◌-◌, ◌^◌, ℕ, pos, false, List, [], ◌∷◌, Some, codes}
+use Rattle.std.specs.Prelude.{◌≡◌, ◌-◌, ◌^◌, ℕ, pos, false, List, [], ◌∷◌, drop, Some, codes}
 use Rattle.std.specs.FinMap
 use Rattle.tempo_clock.specs.declared.due.Due.TheVariants.{Nanos}
 use Rattle.route_filter.specs.Worked.{moved_by}
 use Rattle.patch_graph.specs.Edges.{edge}
-use Rattle.seq_state.specs.declared.input.Command.TheVariants.{Open, CreatePort, CreateQueue, CreateQueueFrom, DeleteQueue, Start, Stop, Continue, Tempo, QueueStatus, Share, Schedule, Play, Send, DropOutput, Receive, PoolStatus}
+use Rattle.seq_state.specs.declared.input.Command.{Command}
+use Rattle.seq_state.specs.declared.input.Command.TheVariants.{Open, CreatePort, Connect, CreateQueue, CreateQueueFrom, DeleteQueue, Start, Stop, Continue, Tempo, QueueStatus, Share, Schedule, Play, Send, DropOutput, Receive, PoolStatus}
 use Rattle.seq_state.specs.declared.input.DueAt.TheVariants as due_at
 use Rattle.seq_state.specs.declared.input.Input.{Input}
 use Rattle.seq_state.specs.declared.log.Delivery.{Delivery}
 use Rattle.seq_state.specs.declared.log.Reply.{Reply}
 use Rattle.seq_state.specs.declared.log.Reply.TheVariants.{Done, Queue, Received, Pools, Refused}
 use Rattle.seq_state.specs.Files.{File}
-use Rattle.seq_state.specs.State.{FilterInfo, Client, ClientPool, Pending, State}
+use Rattle.seq_state.specs.State.{PortInfo, FilterInfo, Client, ClientPool, Pending, State}
 use Rattle.seq_state.specs.Own.{held_queue, one_tempo, public}
 use Rattle.seq_state.specs.Step.{step, port_addr, filter_addr}
 use Rattle.seq_runs.specs.Rows.{an_input, caps_by_bits, a_queue, a_note, a_delivery, an_arrival, song}
-use Rattle.seq_runs.specs.Examples.{out_port, in_port}
+use Rattle.seq_runs.specs.Examples.{out_port, in_port, crowd}
 
 -- ---- the state
 
@@ -80,6 +81,24 @@ hall =
       pending = [];
     }
 
+-- a port that others may write to, with NO_EXPORT
+abbrev pub kept_port : PortInfo
+kept_port = record { name = codes "in"; caps = caps_by_bits 194; fed = [] }
+
+-- the listener has that port alone, and nothing is joined
+abbrev pub guarded : State
+guarded =
+    record hall {
+      clients =
+          FinMap.insert hall.clients 129
+          (record listener { ports = FinMap.insert FinMap.empty 0 kept_port });
+      edges = [];
+    }
+
+-- a node with thirty-one sources: one of those that the listener of the crowd hears isn't joined
+abbrev pub nearly_full : State
+nearly_full = record crowd { edges = drop 1 crowd.edges }
+
 -- an event of the guest's, and one of the host's, on the host's first queue
 abbrev pub pending_event : ℕ → Pending
 pending_event client =
@@ -102,6 +121,13 @@ Replies s i reply = (step files s i).reply ≡ reply
 
 abbrev pub Delivers : State → Input → List Delivery → Type 0
 Delivers s i ds = (step files s i).delivered ≡ ds
+
+abbrev pub after : State → Input → State
+after s i = (step files s i).state
+
+-- a port of 128 is joined to one of 129
+abbrev pub joins : Command
+joins = Connect (port_addr 128 0) (port_addr 129 0)
 
 -- ---- the steps
 
@@ -133,11 +159,30 @@ pub record EachStep : Type 0 where
   -- DropOutput drops the actor's and no other's, on whoever's queue
   pub dropped_by_guest : (step files both_waiting (an_input 0 130 DropOutput)).state.pending ≡ pending_event 128 ∷ []
   pub dropped_by_host : (step files both_waiting (an_input 0 128 DropOutput)).state.pending ≡ pending_event 130 ∷ []
-  -- a queue may be shared twice
+  -- nobody but its owner is told of a private queue
+  pub status_of_private : Replies hall (an_input 5 130 (QueueStatus (a_queue 128 1))) (Refused 16)
+  pub status_of_private_by_listener :
+      Replies hall (an_input 5 129 (QueueStatus (a_queue 128 1))) (Refused 16)
+  -- a queue may be shared twice, and is shared then as before
   pub shared_twice : Replies hall (an_input 5 128 (Share (a_queue 128 0))) Done
+  pub shared_still :
+      Replies (after hall (an_input 5 128 (Share (a_queue 128 0))))
+      (an_input 5 130 (QueueStatus (a_queue 128 0))) (Queue false 0 0)
   -- a queue that is made from a file is private
   pub made_private :
       Replies (step files hall (an_input 5 128 (CreateQueueFrom 3 0))).state (an_input 5 130 (QueueStatus (a_queue 128 3))) (Refused 16)
+  -- who owns neither node joins two that others may subscribe to, but not where the target alone
+  -- has NO_EXPORT: there who owns either node does
+  pub third_to_open :
+      Replies hall (an_input 5 130 (Connect (port_addr 128 0) (port_addr 129 1))) Done
+  pub third_to_kept : Replies guarded (an_input 5 130 joins) (Refused 10)
+  pub target_to_kept : Replies guarded (an_input 5 129 joins) Done
+  pub source_to_kept : Replies guarded (an_input 5 128 joins) Done
+  -- a node has a thirty-second source, and no thirty-third
+  pub last_source : Replies nearly_full (an_input 5 129 joins) Done
+  pub one_source_more :
+      Replies (after nearly_full (an_input 5 129 joins))
+      (an_input 5 129 (Connect (filter_addr 128 0) (port_addr 129 0))) (Refused 13)
   -- the least and the greatest of each range are taken
   pub least_sizes : Replies hall (an_input 5 131 (Open (codes "d") 1 1)) Done
   pub greatest_sizes : Replies hall (an_input 5 131 (Open (codes "d") 2000 2000)) Done

@@ -4,7 +4,7 @@
 ghost use Rattle.seq_runs.specs.Conditions.{EachCondition};
 ghost use Rattle.seq_runs.specs.Examples.{EachRefusal, LostStays};
 ghost use Rattle.seq_runs.specs.Steps.{EachStep};
-ghost use Rattle.seq_runs.specs.Rows.{Circles, SendInside, OpenedAgain, NoisyStranger, EqualMoments, CopiesByEdgeAge, InputOverflow, OutputFull, ThirdClients, DeletedPort, SharedQueue, PlaysFile, DroppedOutput, ChangedFilter, QueueClock, ClosedClient, CountedFrames, RestartedQueue};
+ghost use Rattle.seq_runs.specs.Rows.{Circles, SendInside, RunningStatus, OpenedAgain, NoisyStranger, EqualMoments, CopiesByEdgeAge, InputOverflow, OutputFull, ThirdClients, DeletedPort, SharedQueue, PlaysFile, DroppedOutput, ChangedFilter, QueueClock, ClosedClient, CountedFrames, RestartedQueue};
 
 /// Two clients each schedule a note for 100, the one with the greater number first. At equal moments the events come in
 /// the order of their commands, and with their own moment, not by client number nor with the moment of the settling
@@ -112,7 +112,8 @@ pub fn each_condition()
 {}
 
 /// Single commands in a state that is given: filters in the order of a path, arrivals at another port than the first,
-/// what may be done to another's shared queue, whose events count and go, and the least and the greatest of each range.
+/// what may be done to another's shared queue, whose events count and go, a queue shared twice, who may join a target
+/// with NO_EXPORT, the last source that a node may have, and the least and the greatest of each range.
 pub fn each_step()
     ensures { EachStep }
 {}
@@ -127,6 +128,11 @@ pub fn noisy_stranger()
 /// come between. The bytes at the port that hears both are those of the two messages in the order in which they came.
 pub fn send_inside_message()
     ensures { SendInside }
+{}
+
+/// Two notes come to a port with the same status: the bytes at the port have it once, whatever the log has between.
+pub fn running_status()
+    ensures { RunningStatus }
 {}
 
 /// A client that closes and opens again finds nothing waiting, nothing lost, and no subscription.

@@ -2,3 +2,4 @@ pub mod Files
 pub mod Opened
 pub mod Printed
 pub mod Rising
+pub mod Said

@@ -3,4 +3,5 @@ pub mod Opened
 pub mod Printed
 pub mod Recorded
 pub mod Sessions
+pub mod Subcommands
 pub mod Tasks

@@ -7,6 +7,8 @@ use Rattle.seq_session.specs.declared.source.Script.{Script}
 use Rattle.seq_session.specs.declared.source.ScriptSource.{ScriptSource}
 use Rattle.session_tools.specs.declared.words.ScriptWord.{ScriptWord}
 use Rattle.session_tools.specs.Folder.{AreMidiFiles}
+use Rattle.tool_text.specs.declared.program_fault.ProgramFault.{ProgramFault}
+use Rattle.tool_text.specs.declared.program_fault.ProgramFault.TheVariants.{OutOfMemory, CannotRead}
 
 -- Each source is of the client that a word names, and was opened at the path that it names.
 abbrev pub AreSourcesOf : {R : Type 0} → (List ℕ → R → Type 0) → List ScriptWord → List (ScriptSource R) → Type 0
@@ -14,6 +16,18 @@ AreSourcesOf IsOpened (w ∷ words) (s ∷ sources) =
     (s.client ≡ w.client) × IsOpened w.path.now s.reader × AreSourcesOf IsOpened words sources
 AreSourcesOf IsOpened [] [] = Unit {0}
 AreSourcesOf IsOpened _ _ = ⊥
+
+-- The fault is that of a file that could not be opened, or of memory.
+abbrev pub IsOfOpening : (List ℕ → Type 0) → ProgramFault → Type 0
+IsOfOpening CannotOpen (CannotRead path) = CannotOpen path.now
+IsOfOpening CannotOpen OutOfMemory = Unit {0}
+IsOfOpening CannotOpen _ = ⊥
+
+-- The fault is that of a folder that could not be listed, or of memory.
+abbrev pub IsOfListing : (List ℕ → Type 0) → ProgramFault → Type 0
+IsOfListing CannotList (CannotRead path) = CannotList path.now
+IsOfListing CannotList OutOfMemory = Unit {0}
+IsOfListing CannotList _ = ⊥
 
 -- a file in a folder
 abbrev pub path_in : List ℕ → List ℕ → List ℕ

@@ -1,10 +1,10 @@
 //! The files of a folder, for a run to play.
 
-ghost use Rattle.std.specs.Prelude.{◌≡◌, ◌≤◌, ◌+◌, length, take, map, string_bytes, IfOk};
+ghost use Rattle.std.specs.Prelude.{◌≡◌, ◌≤◌, ◌+◌, length, take, map, string_bytes, IfOk, IfErr};
 ghost use Rattle.std.specs.Option.{option_map};
 ghost use Rattle.script_text.specs.declared.script.TheConstants.{MOST_FILES};
 ghost use Rattle.session_tools.specs.Folder.{bytes_read, seen_files, AreOpened};
-ghost use Rattle.session_files.specs.Opened.{path_in, IsContent, IsFolder};
+ghost use Rattle.session_files.specs.Opened.{path_in, IsContent, IsFolder, IsOfListing};
 ghost use Rattle.smf_grammar.specs.Played.{played};
 
 use byte_io::{DeviceFault, Source, read_to};
@@ -38,6 +38,7 @@ impl Folder {
         ensures read { IfOk result (λ f. IsFolder S.IsOpened S.Reader.HasLeft S.CannotOpen
             S.Reader.failed S.HasNames (option_map (λ d. d.now) dir.entry)
             (map string_bytes f.names.items) (map bytes_read f.contents.items)) }
+        ensures fault { IfErr result (IsOfListing S.CannotList) }
     {
         let mut contents = Vec::new(alloc);
         let Some(dir) = dir else {
@@ -62,6 +63,7 @@ impl Folder {
             (map bytes_read self.now.contents.items) (seen_files o)) }
         ensures as_many { IfOk result (λ o. length o.names.items ≡ length o.files.items) }
         ensures few { IfOk result (λ o. length o.names.items ≤ MOST_FILES) }
+        ensures fault { IfErr result (λ e. e ≡ ProgramFault.OutOfMemory) }
     {
         let (taken, rest) = taken_files(self.names.as_slice());
         let opened = open_files(rt.alloc(), taken, self.contents.as_slice())?;
@@ -86,7 +88,8 @@ fn names_in<'a, S: FileStore>(
     store: &S,
     dir: &'a str,
 ) -> Result<Vec<String>, ProgramFault<'a>>
-    ensures { IfOk result (λ names. S.HasNames dir.now (map string_bytes names.items)) }
+    ensures listed { IfOk result (λ names. S.HasNames dir.now (map string_bytes names.items)) }
+    ensures fault { IfErr result (IsOfListing S.CannotList) }
 {
     match store.names(alloc, dir) {
         Ok(names) => Ok(names),
@@ -109,8 +112,9 @@ fn content_of<S: FileStore>(
     dir: &str,
     name: &str,
 ) -> Result<Option<Vec<u8>>, ProgramFault<'static>>
-    ensures { IfOk result (λ content. IsContent S.IsOpened S.Reader.HasLeft S.CannotOpen
+    ensures read { IfOk result (λ content. IsContent S.IsOpened S.Reader.HasLeft S.CannotOpen
         S.Reader.failed (path_in dir.now name.now) (bytes_read content)) }
+    ensures fault { IfErr result (λ e. e ≡ ProgramFault.OutOfMemory) }
 {
     let path = path_in(alloc, dir, name)?;
     let Ok(mut source) = store.open(path.as_str()) else {

@@ -10,6 +10,7 @@ mod folder;
 mod printing;
 mod recording;
 mod session;
+mod subcommands;
 mod task;
 mod writing;
 
@@ -17,5 +18,6 @@ pub use folder::{Folder, named};
 pub use printing::print_session;
 pub use recording::{Recording, record_session, recorded};
 pub use session::Session;
+pub use subcommands::{record, run};
 pub use task::perform;
 pub use writing::write_file;

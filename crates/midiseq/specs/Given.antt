@@ -1,0 +1,47 @@
+-- What the command line gives the subcommands that run scripts.
+use Rattle.std.specs.Prelude.{◌≡◌, ℕ, Bool, true, false, List, [], Option, Some, None, map, codes, unwrap_or}
+use Rattle.std.specs.Option.{option_map}
+use Rattle.clap.specs.declared.parser.matches.Found.{Found}
+use Rattle.clap.specs.Matches.{first_value, matched_of, one_text, raw_values}
+use Rattle.script_text.specs.Numbers as says
+use Rattle.session_tools.specs.Words.{port_named, scripts_named, scripts_seen}
+use Rattle.session_files.specs.declared.recording.Recording.{Recording}
+use Rattle.session_files.specs.declared.session.Session.{Session}
+use Rattle.session_files.specs.Subcommands.{IsRunPrinted, IsRunRecorded}
+
+-- the first value of an option, and no text where it has none
+abbrev pub text_of : Found → List ℕ → List ℕ
+text_of found id = unwrap_or (first_value found id) []
+
+-- the session ends at the moment of --until, and has the folder of --dir and the scripts of the other words
+pub record IsGiven (found : Found) (session : Session) : Type 0 where
+  pub until : Some session.until ≡ says.u64 (text_of found (codes "until"))
+  pub dir : option_map (λ d. d.now) session.dir ≡ first_value found (codes "dir")
+  pub scripts : Some (scripts_seen session.scripts.items)
+      ≡ scripts_named (unwrap_or (option_map raw_values (matched_of found (codes "CLIENT=PATH"))) [])
+
+-- whether a flag is given
+pub record IsFlag (found : Found) (id : List ℕ) (given : Bool) : Type 0 where
+  pub absent : one_text found id ≡ None → given ≡ false
+  pub present : one_text found id ≡ Some (codes "true") → given ≡ true
+
+module _ {R W : Type 0} (IsOpened : List ℕ → R → Type 0) (HasLeft : R → List ℕ → Type 0) (CannotOpen : List ℕ → Type 0)
+    (failed : R → Bool) (HasNames : List ℕ → List (List ℕ) → Type 0) where
+  -- The session of these words was printed, with the listing where --list is given.
+  pub record RunsAsGiven (HasTaken : W → List ℕ → Type 0) (found : Found) (old new : W) : Type 0 where
+    pub session : Session
+    pub given : IsGiven found session
+    pub listed : Bool
+    pub flag : IsFlag found (codes "list") listed
+    pub printed : IsRunPrinted IsOpened HasLeft CannotOpen failed HasNames HasTaken session listed old new
+
+  -- The session of these words was recorded: the port of --port, as --raw says, to the file of --out.
+  pub record RecordsAsGiven (IsBegun : List ℕ → W → Type 0) (HasTaken : W → List ℕ → Type 0)
+      (IsStored : List ℕ → W → Type 0) (found : Found) : Type 0 where
+    pub session : Session
+    pub given : IsGiven found session
+    pub recording : Recording
+    pub port : Some recording.port ≡ port_named (text_of found (codes "port"))
+    pub flag : IsFlag found (codes "raw") recording.raw
+    pub path : recording.path.now ≡ text_of found (codes "out")
+    pub recorded : IsRunRecorded IsOpened HasLeft CannotOpen failed HasNames IsBegun HasTaken IsStored session recording
