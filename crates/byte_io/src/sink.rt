@@ -9,8 +9,8 @@ use crate::fault::DeviceFault;
 pub trait Sink {
     ghost use Rattle.std.specs.Prelude.{ℕ, List, Bool};
 
-    /// It has taken these bytes. A device over memory says so of just one list; of a file or a terminal it is known only
-    /// what each write has added.
+    /// It has taken these bytes. A device over memory says so of just one list; of a file or a terminal it is known
+    /// only what each write has added.
     ghost HasTaken: { Self → List ℕ → Type 0 };
 
     /// Whether it has failed.

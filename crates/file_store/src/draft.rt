@@ -6,8 +6,8 @@ ghost use Rattle.byte_io.specs.Std.{HasWritten};
 use byte_io::{DeviceFault, Sink, StdSink};
 use std::io::Write;
 
-/// A file that is written. Until it is whole it has a path of its own, beside the one that it is for; what is no regular
-/// file, as a terminal or a pipe, is written where it stands.
+/// A file that is written. Until it is whole it has a path of its own, beside the one that it is for; what is no
+/// regular file, as a terminal or a pipe, is written where it stands.
 #[derive(Drop)]
 pub struct Draft<W: Write + Drop> {
     pub(crate) sink: StdSink<W>,

@@ -1,8 +1,8 @@
-//! What the program does with files: sessions whose scripts, Standard MIDI Files and recordings are files, and tools whose
-//! stream is one.
+//! What the program does with files: sessions whose scripts, Standard MIDI Files and recordings are files, and tools
+//! whose stream is one.
 //!
-//! `print_session` is what `midiseq run` does, `record_session` what `midiseq record` does, and `perform` what the tools do, over
-//! every store of files: from the files that the words name to the text that is printed, or to the file that is written.
+//! `run` is what `midiseq run` does, `record` what `midiseq record` does, and `perform` what the tools do, over every
+//! store of files: from the files that the words name to the text that is printed, or to the file that is written.
 #![tactic(auto)]
 
 mod apart;

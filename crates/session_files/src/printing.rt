@@ -14,8 +14,8 @@ use session_tools::print_logs;
 use std::alloc::Global;
 use tool_text::{ProgramFault, STANDARD, ToolFault};
 
-/// Runs the scripts of a session, and prints each client's log and, where `listed` says so, who is there at the end. Before
-/// all is read and run nothing is printed.
+/// Runs the scripts of a session, and prints each client's log and, where `listed` says so, who is there at the end.
+/// Before all is read and run nothing is printed.
 pub fn print_session<'a, S: FileStore, W: Sink>(
     alloc: Global,
     store: &S,
