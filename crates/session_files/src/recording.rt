@@ -34,7 +34,7 @@ pub struct Recording<'a> {
 }
 
 /// Runs the scripts of a session, and writes what came to a port to a file: with `raw` as one MIDI stream, and else as
-/// a Standard MIDI File. What stands at the path stays until all else is done, and it is no file that the session reads.
+/// a Standard MIDI File. What stands at the path stays until all else is done; it is no file that the session reads.
 pub fn record_session<'a, S: FileStore>(
     alloc: Global,
     store: &S,
