@@ -1,3 +1,4 @@
+pub mod Faults
 pub mod Memory
 pub mod Moved
 pub mod Std

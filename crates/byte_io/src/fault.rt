@@ -2,16 +2,15 @@
 
 use memory::OutOfMemory;
 use std::alloc::AllocError;
+use std::fmt;
 use thiserror::Error;
 
 /// Why a device moved no byte.
 #[derive(Clone, Copy, Debug, Drop, PartialEq, Eq, Error)]
 pub enum DeviceFault {
     /// The device failed, in this call or an earlier one.
-    #[error("the device is broken")]
     Broken,
     /// A growth was refused.
-    #[error("out of memory")]
     OutOfMemory,
 }
 
@@ -19,11 +18,37 @@ pub enum DeviceFault {
 #[derive(Clone, Copy, Debug, Drop, PartialEq, Eq, Error)]
 pub enum WriteFault {
     /// The device failed, and is marked.
-    #[error("{0}")]
     Device(DeviceFault),
     /// The device took no byte where there were some, and is not marked.
-    #[error("the device took no byte")]
     TookNothing,
+}
+
+impl fmt::Display for DeviceFault {
+    ghost use Rattle.std.specs.Prelude.{Some};
+    ghost use Rattle.byte_io.specs.Faults.{device_fault_text};
+
+    ghost output = { λ x. Some (device_fault_text x) };
+
+    fn fmt<W: fmt::Write>(&self, f: &mut fmt::Formatter<W>) -> fmt::Result {
+        f.write_str(match self {
+            DeviceFault::Broken => "the device is broken",
+            DeviceFault::OutOfMemory => "out of memory",
+        })
+    }
+}
+
+impl fmt::Display for WriteFault {
+    ghost use Rattle.std.specs.Prelude.{Some};
+    ghost use Rattle.byte_io.specs.Faults.{write_fault_text};
+
+    ghost output = { λ x. Some (write_fault_text x) };
+
+    fn fmt<W: fmt::Write>(&self, f: &mut fmt::Formatter<W>) -> fmt::Result {
+        match self {
+            WriteFault::Device(device) => write!(f, "{device}"),
+            WriteFault::TookNothing => f.write_str("the device took no byte"),
+        }
+    }
 }
 
 impl From<AllocError> for DeviceFault {

@@ -3,5 +3,4 @@
 mod devices;
 mod files;
 mod tempo;
-mod texts;
 mod wire;

@@ -23,10 +23,3 @@ fn items_are_equal_by_their_elements(rt: HostRuntime) -> Result<(), Fail> {
     assert!(rt; one != other);
     Ok(())
 }
-
-#[test]
-fn a_refused_growth_has_its_words(rt: HostRuntime) -> Result<(), Fail> {
-    let text = OutOfMemory.to_string(rt.alloc())?;
-    assert!(rt; text.as_str() == "out of memory");
-    Ok(())
-}

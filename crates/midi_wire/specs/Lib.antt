@@ -5,3 +5,4 @@ pub mod Laws
 pub mod Rows
 pub mod Parsing
 pub mod Kinds
+pub mod Faults

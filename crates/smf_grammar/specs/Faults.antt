@@ -1,6 +1,12 @@
--- The number, the name and the place of each fault of a file.
+-- The number, the name and the place of each fault of a file, and the texts of all faults.
 use Rattle.std.specs.Prelude.{ℕ, List, [], ◌++◌, Option, Some, None, codes}
 use Rattle.std.specs.Fmt.{decimal}
+use Rattle.smf_grammar.specs.declared.fault.QuantityFault.{QuantityFault}
+use Rattle.smf_grammar.specs.declared.fault.QuantityFault.TheVariants as quantity_fault
+use Rattle.smf_grammar.specs.declared.fault.PairFault.{PairFault}
+use Rattle.smf_grammar.specs.declared.fault.PairFault.TheVariants as pair_fault
+use Rattle.smf_grammar.specs.declared.fault.ChunkFault.{ChunkFault}
+use Rattle.smf_grammar.specs.declared.fault.ChunkFault.TheVariants as chunk_fault
 use Rattle.smf_grammar.specs.declared.fault.SmfFault.{SmfFault}
 use Rattle.smf_grammar.specs.declared.fault.SmfFault.TheVariants.{NotMidi, ShortHeader, UnknownFormat, Format2, BadTrackCount, ZeroDivision, SmpteDivision, DropFrame, TrackMissing, Truncated, LongQuantity, NoStatus, BadStatus, BadData, NoEndOfTrack, TooLarge, OutOfMemory}
 
@@ -59,3 +65,24 @@ place_text (Some place) = codes " " ++ decimal place
 -- a fault as it is printed
 abbrev pub fault_text : SmfFault → List ℕ
 fault_text x = decimal (fault_number x) ++ codes " " ++ fault_name x ++ place_text (fault_place x)
+
+-- ---- what is wrong with an item
+
+-- why no quantity stands first, as it is printed
+abbrev pub quantity_fault_text : QuantityFault → List ℕ
+quantity_fault_text quantity_fault.Short = codes "the quantity is cut"
+quantity_fault_text quantity_fault.Long = codes "the quantity has more than four bytes"
+
+-- why no pair stands first, as it is printed
+abbrev pub pair_fault_text : PairFault → List ℕ
+pair_fault_text pair_fault.NoPair = codes "no end of track"
+pair_fault_text pair_fault.Truncated = codes "the event is cut"
+pair_fault_text pair_fault.LongQuantity = codes "a quantity has more than four bytes"
+pair_fault_text pair_fault.NoStatus = codes "no running status"
+pair_fault_text pair_fault.BadStatus = codes "no status of a file"
+pair_fault_text pair_fault.BadData = codes "no data byte"
+
+-- why no chunk stands first, as it is printed
+abbrev pub chunk_fault_text : ChunkFault → List ℕ
+chunk_fault_text chunk_fault.Missing = codes "no chunk"
+chunk_fault_text chunk_fault.Cut = codes "the chunk is cut"

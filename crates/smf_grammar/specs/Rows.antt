@@ -119,6 +119,17 @@ pub record FramedFile : Type 0 where
   pub dropped : Refuses (framed 227 40) DropFrame
   pub other : Refuses (framed 224 40) SmpteDivision
 
+-- a header of seven bytes, of which the last says nothing
+abbrev pub long_header : List ℕ
+long_header =
+    77 ∷ 84 ∷ 104 ∷ 100 ∷ 0 ∷ 0 ∷ 0 ∷ 7 ∷ 0 ∷ 0 ∷ 0 ∷ 1 ∷ 1 ∷ 224 ∷ 170 ∷ []
+    ++ track_of_length 19 note_track
+
+pub record LongHeader : Type 0 where
+  pub whole : Says long_header 0 1 480 (tempo_entry 0 500000 ∷ []) (at 0 (144 ∷ 60 ∷ 64 ∷ [])
+      ∷ at 480 (144 ∷ 60 ∷ 0 ∷ []) ∷ []) 0
+  pub cut : Refuses (take 14 long_header) ShortHeader
+
 -- exclusive data: a whole message, one with a status inside, and an escape
 abbrev pub exclusives : List ℕ
 exclusives =
@@ -134,6 +145,20 @@ status_gone =
 pub record ExclusiveFiles : Type 0 where
   pub whole : Says exclusives 0 1 480 (tempo_entry 0 500000 ∷ []) (at 0 (240 ∷ 125 ∷ 1 ∷ 247 ∷ []) ∷ []) 2
   pub gone : Refuses status_gone (NoStatus 30)
+
+-- meta events: a name, a tempo of four bytes and another name, each some ticks after the one before;
+-- the end has a byte, and behind it there is a note
+abbrev pub metas : ℕ → ℕ → List ℕ
+metas high low =
+    header high low ++ track_of_length 36 (0 ∷ 255 ∷ 3 ∷ 1 ∷ 65 ∷ 10 ∷ 255 ∷ 81 ∷ 4 ∷ 3 ∷ 208 ∷ 144 ∷ 0
+    ∷ 20 ∷ 255 ∷ 3 ∷ 2 ∷ 66 ∷ 67 ∷ 30 ∷ 144 ∷ 60 ∷ 64 ∷ 40 ∷ 255 ∷ 47 ∷ 1 ∷ 0 ∷ 0 ∷ 144 ∷ 62 ∷ 64 ∷ 0 ∷ 255
+    ∷ 47 ∷ 0 ∷ [])
+
+-- names are passed over and not counted; the tempo sets none, and is counted where tempo counts; the
+-- first end is the end
+pub record MetaFiles : Type 0 where
+  pub by_quarters : Says (metas 1 224) 0 1 480 (tempo_entry 0 500000 ∷ []) (at 60 (144 ∷ 60 ∷ 64 ∷ []) ∷ []) 1
+  pub by_frames : Says (metas 231 40) 0 1 59176 [] (at 60 (144 ∷ 60 ∷ 64 ∷ []) ∷ []) 0
 
 -- one note on, as it is written
 pub record WrittenFile : Type 0 where

@@ -3,51 +3,86 @@
 ghost use Rattle.std.specs.Prelude.{◌≡◌};
 
 use std::fmt;
-use std::fmt::Write;
 use thiserror::Error;
 
 /// Why no quantity stands first.
 #[derive(Clone, Copy, Debug, Drop, PartialEq, Eq, Error)]
 pub enum QuantityFault {
     /// The bytes end before a byte with bit 7 clear.
-    #[error("the quantity is cut")]
     Short,
     /// Four bytes have bit 7 set.
-    #[error("the quantity has more than four bytes")]
     Long,
+}
+
+impl fmt::Display for QuantityFault {
+    ghost use Rattle.std.specs.Prelude.{Some};
+    ghost use Rattle.smf_grammar.specs.Faults.{quantity_fault_text};
+
+    ghost output = { λ x. Some (quantity_fault_text x) };
+
+    fn fmt<W: fmt::Write>(&self, f: &mut fmt::Formatter<W>) -> fmt::Result {
+        f.write_str(match self {
+            QuantityFault::Short => "the quantity is cut",
+            QuantityFault::Long => "the quantity has more than four bytes",
+        })
+    }
 }
 
 /// Why no pair of a delta time and an event stands first in what is left of a track.
 #[derive(Clone, Copy, Debug, Drop, PartialEq, Eq, Error)]
 pub enum PairFault {
     /// Nothing is left, and no event ended the track.
-    #[error("no end of track")]
     NoPair,
     /// The content ends inside the pair.
-    #[error("the event is cut")]
     Truncated,
-    #[error("a quantity has more than four bytes")]
     LongQuantity,
     /// A data byte, and no running status.
-    #[error("no running status")]
     NoStatus,
     /// F1 to F6 or F8 to FE in the place of a status.
-    #[error("no status of a file")]
     BadStatus,
     /// A status in the place of a data byte.
-    #[error("no data byte")]
     BadData,
+}
+
+impl fmt::Display for PairFault {
+    ghost use Rattle.std.specs.Prelude.{Some};
+    ghost use Rattle.smf_grammar.specs.Faults.{pair_fault_text};
+
+    ghost output = { λ x. Some (pair_fault_text x) };
+
+    fn fmt<W: fmt::Write>(&self, f: &mut fmt::Formatter<W>) -> fmt::Result {
+        f.write_str(match self {
+            PairFault::NoPair => "no end of track",
+            PairFault::Truncated => "the event is cut",
+            PairFault::LongQuantity => "a quantity has more than four bytes",
+            PairFault::NoStatus => "no running status",
+            PairFault::BadStatus => "no status of a file",
+            PairFault::BadData => "no data byte",
+        })
+    }
 }
 
 /// Why no chunk stands first in what is left of a file.
 #[derive(Clone, Copy, Debug, Drop, PartialEq, Eq, Error)]
 pub enum ChunkFault {
     /// Fewer than eight bytes are left.
-    #[error("no chunk")]
     Missing,
     /// Its content is longer than what is left.
-    #[error("the chunk is cut")]
     Cut,
+}
+
+impl fmt::Display for ChunkFault {
+    ghost use Rattle.std.specs.Prelude.{Some};
+    ghost use Rattle.smf_grammar.specs.Faults.{chunk_fault_text};
+
+    ghost output = { λ x. Some (chunk_fault_text x) };
+
+    fn fmt<W: fmt::Write>(&self, f: &mut fmt::Formatter<W>) -> fmt::Result {
+        f.write_str(match self {
+            ChunkFault::Missing => "no chunk",
+            ChunkFault::Cut => "the chunk is cut",
+        })
+    }
 }
 
 /// Why bytes are no Standard MIDI File that can be read. Printed, it is its number and its name, then its place or

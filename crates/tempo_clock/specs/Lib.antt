@@ -6,3 +6,4 @@ pub mod Clocks
 pub mod Laws
 pub mod Worked
 pub mod Codes
+pub mod Faults

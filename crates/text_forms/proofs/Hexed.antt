@@ -1,5 +1,5 @@
 -- Bytes in hexadecimal: their table, and many of them at a time.
-use Rattle.std.proofs.Common.{◌≡◌, ◌≢◌, ◌<◌, ◌≤◌, ℕ, ◌+◌, ◌*◌, ◌/◌, ◌%◌, List, [], ◌∷◌, ◌++◌, length, get_or, set, take, ap, ◌∙◌, sym, append_assoc, arith}
+use Rattle.std.proofs.Common.{◌≡◌, ◌≢◌, ◌<◌, ◌≤◌, ℕ, ◌+◌, ◌*◌, ◌/◌, ◌%◌, List, [], ◌∷◌, ◌++◌, length, get_or, set, take, ap, ◌∙◌, sym, append_assoc, length-append, arith}
 use Rattle.std.proofs.Math.ListN.{length-set}
 use Rattle.std.proofs.Math.Seq.{take-append-add}
 use Rattle.std.proofs.lemmas.List.{length-take-le, take-take, take_more, take_more_set, get_or-set_other}
@@ -46,6 +46,18 @@ module _ (d : List ℕ) (i s t : ℕ) (spaces : (k : ℕ) → 3 * k < length d �
 
   pub spelled_more : (xs : List ℕ) → i < length xs → s ∷ t ∷ [] ≡ in_hex (get_or xs i 0 ∷ []) → take (3 * i) d ≡ spaced (take i xs) → take (3 * (i + 1)) two ≡ spaced (take (i + 1) xs)
   spelled_more xs h e was = three_more ∙ ap (λ ys. ys ++ 32 ∷ s ∷ t ∷ []) was ∙ ap (λ ys. spaced (take i xs) ++ 32 ∷ ys) e ∙ sym (spaced_more xs i h)
+
+-- ---- bytes that are spelled group by group
+
+-- a text with one more group is no longer than it will be with all bytes
+pub one_more_group : (old text group left rest bytes : List ℕ) → left ≡ group ++ rest → text ++ spaced left ≡ old ++ spaced bytes
+    → length text + length (spaced group) ≤ length old + length (spaced bytes)
+one_more_group old text group left rest bytes split is =
+    let parts : length (spaced left) ≡ length (spaced group) + length (spaced rest) =
+    ap (λ xs. length (spaced xs)) split ∙ simp (flat_map-append, length-append) in
+    let whole : length text + length (spaced left) ≡ length old + length (spaced bytes) =
+    sym (length-append text (spaced left)) ∙ ap length is ∙ length-append old (spaced bytes) in
+    omega (arith, parts, whole)
 
 -- ---- bytes that are spelled over others, of which each covers the end of the line before it
 

@@ -1,6 +1,6 @@
 //! Bytes in hexadecimal.
 
-ghost use Rattle.std.specs.Prelude.{◌≡◌, ◌≤◌, ◌<◌, ◌+◌, ◌*◌, ◌^◌, ℕ, [], ◌∷◌, ◌++◌, length, vec_len, take, slice_index, OnOk};
+ghost use Rattle.std.specs.Prelude.{◌≡◌, ◌≤◌, ◌<◌, ◌+◌, ◌*◌, ◌^◌, ℕ, [], ◌∷◌, ◌++◌, length, vec_len, vec_capacity, take, slice_index, OnOk, OnErr};
 ghost use Rattle.text_forms.specs.Hex.{digit, spaced, in_hex, hex_line};
 
 use memory::OutOfMemory;
@@ -31,7 +31,10 @@ const GROUP: usize = 64;
 // Apart, so that its buffer is no burden to the lines of few bytes below.
 #[inline(never)]
 pub fn push_spaced(text: &mut Vec<u8>, bytes: &[u8]) -> Result<(), OutOfMemory>
-    ensures { OnOk result (text.new.items ≡ text.old.items ++ spaced bytes.now) }
+    ensures ok { OnOk result (text.new.items ≡ text.old.items ++ spaced bytes.now) }
+    ensures full { OnErr result
+        (vec_capacity text.old < vec_len text.old + length (spaced bytes.now)) }
+    ensures capacity { vec_capacity text.old ≤ vec_capacity text.new }
 {
     let mut digits = [b' '; 3 * GROUP];
     for group in bytes.chunks(GROUP) {
@@ -62,7 +65,10 @@ fn spell(bytes: &[u8], digits: &mut [u8])
 // no register has to be saved; and it stands inline, where the number of bytes is mostly known.
 #[inline(always)]
 pub fn push_spaced_line(text: &mut Vec<u8>, bytes: &[u8]) -> Result<(), OutOfMemory>
-    ensures { OnOk result (text.new.items ≡ text.old.items ++ spaced bytes.now ++ 10 ∷ []) }
+    ensures ok { OnOk result (text.new.items ≡ text.old.items ++ spaced bytes.now ++ 10 ∷ []) }
+    ensures full { OnErr result
+        (vec_capacity text.old < vec_len text.old + length (spaced bytes.now ++ 10 ∷ [])) }
+    ensures capacity { vec_capacity text.old ≤ vec_capacity text.new }
 {
     if text.capacity() - text.len() >= 10 {
         match bytes {
@@ -87,7 +93,10 @@ pub fn push_spaced_line(text: &mut Vec<u8>, bytes: &[u8]) -> Result<(), OutOfMem
 /// The same for any number of bytes.
 #[inline(never)]
 fn push_any_spaced_line(text: &mut Vec<u8>, bytes: &[u8]) -> Result<(), OutOfMemory>
-    ensures { OnOk result (text.new.items ≡ text.old.items ++ spaced bytes.now ++ 10 ∷ []) }
+    ensures ok { OnOk result (text.new.items ≡ text.old.items ++ spaced bytes.now ++ 10 ∷ []) }
+    ensures full { OnErr result
+        (vec_capacity text.old < vec_len text.old + length (spaced bytes.now ++ 10 ∷ [])) }
+    ensures capacity { vec_capacity text.old ≤ vec_capacity text.new }
 {
     push_spaced(text, bytes)?;
     text.push(b'\n')?;
@@ -97,7 +106,10 @@ fn push_any_spaced_line(text: &mut Vec<u8>, bytes: &[u8]) -> Result<(), OutOfMem
 /// Adds a line of two upper-case digits for each byte, with one space between, as `90 3C 40`. After an error the text
 /// ends within it.
 pub fn push_hex_line(text: &mut Vec<u8>, bytes: &[u8]) -> Result<(), OutOfMemory>
-    ensures { OnOk result (text.new.items ≡ text.old.items ++ hex_line bytes.now) }
+    ensures ok { OnOk result (text.new.items ≡ text.old.items ++ hex_line bytes.now) }
+    ensures full { OnErr result
+        (vec_capacity text.old < vec_len text.old + length (hex_line bytes.now)) }
+    ensures capacity { vec_capacity text.old ≤ vec_capacity text.new }
 {
     if text.capacity() - text.len() >= 9 {
         match bytes {
@@ -128,7 +140,10 @@ pub fn push_hex_line(text: &mut Vec<u8>, bytes: &[u8]) -> Result<(), OutOfMemory
 /// The same for any number of bytes.
 #[inline(never)]
 fn push_any_hex_line(text: &mut Vec<u8>, bytes: &[u8]) -> Result<(), OutOfMemory>
-    ensures { OnOk result (text.new.items ≡ text.old.items ++ hex_line bytes.now) }
+    ensures ok { OnOk result (text.new.items ≡ text.old.items ++ hex_line bytes.now) }
+    ensures full { OnErr result
+        (vec_capacity text.old < vec_len text.old + length (hex_line bytes.now)) }
+    ensures capacity { vec_capacity text.old ≤ vec_capacity text.new }
 {
     if let [first, more @ ..] = bytes {
         text.extend_from_slice(&pair(*first))?;

@@ -1,6 +1,5 @@
 ghost use Rattle.std.specs.Prelude.{◌≡◌, IfOk, false};
 
-use super::texts::check_text;
 use byte_io::{
     DeviceFault, MemSink, MemSource, OutOfMemory, Sink, Source, StdSink, StdSource, WriteFault,
     read_to, write_all,
@@ -157,28 +156,4 @@ fn passes_on_an_error_of_std(rt: HostRuntime) {
     assert!(rt; out.flush() == Err(DeviceFault::Broken));
     assert!(rt; out.has_failed());
     assert!(rt; out.write(b"four") == Err(DeviceFault::Broken));
-}
-
-const DEVICE_FAULTS: &[(DeviceFault, &'static str)] = &[
-    (DeviceFault::Broken, "the device is broken"),
-    (DeviceFault::OutOfMemory, "out of memory"),
-];
-
-const WRITE_FAULTS: &[(WriteFault, &'static str)] = &[
-    (
-        WriteFault::Device(DeviceFault::OutOfMemory),
-        "out of memory",
-    ),
-    (WriteFault::TookNothing, "the device took no byte"),
-];
-
-#[test]
-fn shows_each_fault(rt: HostRuntime) -> Result<(), Fail> {
-    for (fault, text) in DEVICE_FAULTS {
-        check_text(&rt, rt.alloc(), fault, text)?;
-    }
-    for (fault, text) in WRITE_FAULTS {
-        check_text(&rt, rt.alloc(), fault, text)?;
-    }
-    check_text(&rt, rt.alloc(), &OutOfMemory, "out of memory")
 }

@@ -1,12 +1,10 @@
 //! Worked files, and a written file with each kind of event.
 
-use super::texts::check_text;
 use midi_wire::{Kind, Message};
 use smf_files::{
     Cursor, Event, OutOfMemory, QuantityFault, SmfFault, SmfFile, TempoEntry, WriteFault, quantity,
     write_format0,
 };
-use smf_grammar::{ChunkFault, PairFault};
 use std::alloc::Global;
 use std::process::Abort;
 use std::test::Fail;
@@ -506,67 +504,6 @@ fn refuses_real_time(rt: HostRuntime) -> Result<(), Fail> {
     for (ppq, tempo, fault) in REFUSED {
         let refused = write_format0(rt.alloc(), *ppq, *tempo, &events).err();
         assert!(rt; refused == Some(*fault));
-    }
-    Ok(())
-}
-
-const WRITE_FAULTS: &[(WriteFault, &'static str)] = &[
-    (
-        WriteFault::BadPpq,
-        "the ticks per quarter note are out of range",
-    ),
-    (WriteFault::BadTempo, "the tempo is out of range"),
-    (
-        WriteFault::BadEvent { index: 3 },
-        "event 3 can't be written",
-    ),
-    (WriteFault::TooLarge, "the file is too large"),
-    (WriteFault::OutOfMemory, "out of memory"),
-];
-
-#[test]
-fn write_faults_print(rt: HostRuntime) -> Result<(), Fail> {
-    for (fault, text) in WRITE_FAULTS {
-        check_text(&rt, rt.alloc(), fault, text)?;
-    }
-    Ok(())
-}
-
-#[test]
-fn reading_faults_print(rt: HostRuntime) -> Result<(), Fail> {
-    let quantities = [
-        (QuantityFault::Short, "the quantity is cut"),
-        (QuantityFault::Long, "the quantity has more than four bytes"),
-    ];
-    for (fault, text) in quantities {
-        check_text(&rt, rt.alloc(), &fault, text)?;
-    }
-    let chunks = [
-        (ChunkFault::Missing, "no chunk"),
-        (ChunkFault::Cut, "the chunk is cut"),
-    ];
-    for (fault, text) in chunks {
-        check_text(&rt, rt.alloc(), &fault, text)?;
-    }
-    Ok(())
-}
-
-const PAIR_FAULTS: &[(PairFault, &'static str)] = &[
-    (PairFault::NoPair, "no end of track"),
-    (PairFault::Truncated, "the event is cut"),
-    (
-        PairFault::LongQuantity,
-        "a quantity has more than four bytes",
-    ),
-    (PairFault::NoStatus, "no running status"),
-    (PairFault::BadStatus, "no status of a file"),
-    (PairFault::BadData, "no data byte"),
-];
-
-#[test]
-fn pair_faults_print(rt: HostRuntime) -> Result<(), Fail> {
-    for (fault, text) in PAIR_FAULTS {
-        check_text(&rt, rt.alloc(), fault, text)?;
     }
     Ok(())
 }

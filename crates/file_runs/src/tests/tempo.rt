@@ -2,9 +2,7 @@
 
 ghost use Rattle.std.specs.Prelude.{◌≡◌, ◌<◌, IfOk, None};
 
-use super::texts::check_text;
 use std::process::Abort;
-use std::test::Fail;
 use tempo_clock::{Due, MapFault, QueueClock, TempoEntry, TempoMap};
 
 /// 480 ticks per quarter note, two quarter notes a second.
@@ -189,10 +187,4 @@ fn clock_of_a_queue(rt: HostRuntime) -> Result<(), MapFault> {
     run_on(&rt, &mut clock)?;
     assert_run_on(&rt, &clock);
     Ok(())
-}
-
-#[test]
-fn faults_print(rt: HostRuntime) -> Result<(), Fail> {
-    check_text(&rt, rt.alloc(), &MapFault::BadMap, "no tempo map")?;
-    check_text(&rt, rt.alloc(), &MapFault::OutOfMemory, "out of memory")
 }

@@ -2,7 +2,6 @@
 
 ghost use Rattle.std.specs.Prelude.{◌<◌};
 
-use super::texts::check_text;
 use crate::read_in_two;
 use memory::OutOfMemory;
 use midi_wire::{Kind, Message, StreamParser, StreamWriter, WireFault};
@@ -462,17 +461,4 @@ fn many_messages_in_one_piece(rt: HostRuntime) -> Result<(), Fail> {
     let mut stream = Vec::new(rt.alloc());
     let mut messages = Vec::new(rt.alloc());
     check_many(&rt, &mut stream, &mut messages)
-}
-
-const FAULTS: &[(WireFault, &'static str)] = &[
-    (WireFault::OutOfMemory, "out of memory"),
-    (WireFault::Failed, "an earlier call found no memory"),
-];
-
-#[test]
-fn faults_print(rt: HostRuntime) -> Result<(), Fail> {
-    for (fault, text) in FAULTS {
-        check_text(&rt, rt.alloc(), fault, text)?;
-    }
-    Ok(())
 }

@@ -10,7 +10,7 @@ returns-in_err-push_spaced-clause-short g c = on_err c.from_residual.result (goe
 
 pub returns-in_err-spill-clause-short : goal.returns-in_err-spill-clause-short
 returns-in_err-spill-clause-short g c = on_err c.from_residual-in_err-spill.result
-    (stops-part g.W.Sink.HasTaken _ _ _ _ _ _ _ _ _ c.in-Some.ensures.steps.1.0 c.loop-part.invariant.goes c.in_ok-push_spaced.ensures c.in_err-spill.ensures.short)
+    (stops-part g.W.Sink.HasTaken _ _ _ _ _ _ _ _ _ c.in-Some.ensures.steps.1.0 c.loop-part.invariant.goes c.in_ok-push_spaced.ensures.ok c.in_err-spill.ensures.short)
 
 pub loop-part-preserved : goal.loop-part-preserved
 loop-part-preserved g c =
@@ -20,7 +20,7 @@ loop-part-preserved g c =
       can_next = omega (arith, kept);
       finite = tt;
       size = kept;
-      goes = goes-part g.W.Sink.HasTaken _ _ _ _ _ _ _ _ _ _ c.in-Some.ensures.steps.1.0 was.goes c.in_ok-push_spaced.ensures c.in_ok-spill.ensures.sent;
+      goes = goes-part g.W.Sink.HasTaken _ _ _ _ _ _ _ _ _ _ c.in-Some.ensures.steps.1.0 was.goes c.in_ok-push_spaced.ensures.ok c.in_ok-spill.ensures.sent;
       unmarked = c.in_ok-spill.ensures.unmarked;
       eager = c.spill.ensures.eager ∙ was.eager;
     }
