@@ -1,15 +1,28 @@
 //! What a pool and a store answer in place of what was asked.
 
 use std::alloc::AllocError;
+use std::fmt;
 use thiserror::Error;
 
 /// Why a pool was not made, in the order in which it is tested.
 #[derive(Clone, Copy, Debug, Drop, PartialEq, Eq, Error)]
 pub enum PoolFault {
-    #[error("a pool's size is 1 to 2000")]
     BadSize,
-    #[error("out of memory")]
     OutOfMemory,
+}
+
+impl fmt::Display for PoolFault {
+    ghost use Rattle.std.specs.Prelude.{Some};
+    ghost use Rattle.cell_pools.specs.Faults.{pool_fault_text};
+
+    ghost output = { λ x. Some (pool_fault_text x) };
+
+    fn fmt<W: fmt::Write>(&self, f: &mut fmt::Formatter<W>) -> fmt::Result {
+        f.write_str(match self {
+            PoolFault::BadSize => "a pool's size is 1 to 2000",
+            PoolFault::OutOfMemory => "out of memory",
+        })
+    }
 }
 
 impl From<AllocError> for PoolFault {

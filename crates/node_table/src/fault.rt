@@ -1,17 +1,30 @@
 //! What a table answers in place of a client or a node.
 
 use memory::OutOfMemory;
+use std::fmt;
 use thiserror::Error;
 
 /// Why a client was not opened, in the order in which it is tested.
 #[derive(Clone, Copy, Debug, Drop, PartialEq, Eq, Error)]
 pub enum OpenFault {
-    #[error("the client is open already")]
     AlreadyOpen,
-    #[error("this is no name")]
     BadName,
-    #[error("out of memory")]
     OutOfMemory,
+}
+
+impl fmt::Display for OpenFault {
+    ghost use Rattle.std.specs.Prelude.{Some};
+    ghost use Rattle.node_table.specs.Faults.{open_fault_text};
+
+    ghost output = { λ x. Some (open_fault_text x) };
+
+    fn fmt<W: fmt::Write>(&self, f: &mut fmt::Formatter<W>) -> fmt::Result {
+        f.write_str(match self {
+            OpenFault::AlreadyOpen => "the client is open already",
+            OpenFault::BadName => "this is no name",
+            OpenFault::OutOfMemory => "out of memory",
+        })
+    }
 }
 
 impl From<OutOfMemory> for OpenFault {

@@ -6,3 +6,4 @@ pub mod Found
 pub mod Removal
 pub mod Cursor
 pub mod Codes
+pub mod Faults

@@ -9,7 +9,7 @@ use agenda_heap::{Agenda, DueKey, OutOfMemory};
 use cell_pools::CellKey;
 
 /// How many cells a driver uses.
-pub const CELLS: usize = 16;
+pub const CELLS: usize = 100;
 
 /// An agenda, and which cells are in it. A key's rank is the number of its cell, so that no two cells have one key.
 #[derive(Drop)]

@@ -7,6 +7,7 @@ use Rattle.midi_wire.specs.declared.kind.Kind.{Kind}
 use Rattle.midi_wire.specs.Messages.{IsMessage}
 use Rattle.midi_wire.specs.Writings.{status_of}
 use Rattle.midi_wire.specs.Kinds.{kind_of, kind_of_status}
+use Rattle.route_filter.specs.declared.kinds.Kinds.{Kinds}
 use Rattle.route_filter.specs.declared.rule_args.RuleArgs.{RuleArgs}
 use Rattle.route_filter.specs.Rules.{has_kind, has_channel, is_rule}
 use Rattle.route_filter.specs.Passing.{has_note, passed}
@@ -19,8 +20,8 @@ use Rattle.route_filter.proofs.Sets.{both-kinds, kinds-left}
 
 -- how the parts of the whole come from those of the one rule and the next
 pub record IsWhole (one next whole : RuleArgs) : Type 0 where
-  pub without_note : (k : Kind) → has_note k ≡ false → has_kind whole.kinds k ≡ (has_kind one.kinds k && has_kind next.kinds k)
-  pub with_note : (k : Kind) (n : ℕ) → has_note k ≡ true → (if has_kind whole.kinds k then moved whole true n else None) ≡ (if has_kind one.kinds k && has_kind next.kinds k then moved_twice one next n else None)
+  pub without_note : (k : Kind) → has_note k ≡ false → has_kind whole.kinds.0 k ≡ (has_kind one.kinds.0 k && has_kind next.kinds.0 k)
+  pub with_note : (k : Kind) (n : ℕ) → has_note k ≡ true → (if has_kind whole.kinds.0 k then moved whole true n else None) ≡ (if has_kind one.kinds.0 k && has_kind next.kinds.0 k then moved_twice one next n else None)
   pub channels : (n : ℕ) → n < 16 → has_channel whole.channels n ≡ (has_channel one.channels n && has_channel next.channels (unwrap_or one.channel n))
   pub channel : whole.channel ≡ option_or next.channel one.channel
 
@@ -51,11 +52,11 @@ unwrap-twice o None n = refl
 unwrap-twice o (Some k) n = refl
 
 module _ (one next whole : RuleArgs) (known : IsTrue (is_rule one)) (known' : IsTrue (is_rule next)) (rule : IsTrue (is_rule whole)) (is : IsWhole one next whole) where
-  same-given : (k : Kind) (c : Bool) (a : ℕ) (f : ℕ → List ℕ) (v : Bool) → has_note k ≡ v → given (has_kind whole.kinds k) c (moved whole v a) f ≡ given (has_kind one.kinds k && has_kind next.kinds k) c (option_and_then (moved next v) (moved one v a)) f
+  same-given : (k : Kind) (c : Bool) (a : ℕ) (f : ℕ → List ℕ) (v : Bool) → has_note k ≡ v → given (has_kind whole.kinds.0 k) c (moved whole v a) f ≡ given (has_kind one.kinds.0 k && has_kind next.kinds.0 k) c (option_and_then (moved next v) (moved one v a)) f
   same-given k c a f true e =
-      given-by (has_kind whole.kinds k) c (moved whole true a) f
+      given-by (has_kind whole.kinds.0 k) c (moved whole true a) f
       ∙ ap (λ (o : Option ℕ). if c then option_map f o else None) (is.with_note k a e)
-      ∙ sym (given-by (has_kind one.kinds k && has_kind next.kinds k) c (moved_twice one next a) f)
+      ∙ sym (given-by (has_kind one.kinds.0 k && has_kind next.kinds.0 k) c (moved_twice one next a) f)
   same-given k c a f false e = ap (λ (t : Bool). given t c (Some a) f) (is.without_note k e)
 
   voice : (s a b : ℕ) → 128 ≤ s → s < 240 → passed whole (voice_bytes s a b) ≡ option_and_then (passed next) (passed one (voice_bytes s a b))
@@ -73,22 +74,22 @@ module _ (one next whole : RuleArgs) (known : IsTrue (is_rule one)) (known' : Is
       ∙ ap (λ (n : ℕ). n * 16 + unwrap_or next.channel (t % 16)) (sym upper) in
       let then-next = λ (n : ℕ).
       parts-passed next t n b u known' (omega (arith, small)) (omega (arith, small)) at
-      ∙ ap (λ (j : Kind). given (has_kind next.kinds j) (has_channel next.channels (t % 16)) (moved next (has_note j) n) (λ i. voice_bytes u i b)) (kind-stays s t h l upper)
-      ∙ ap (λ (i : ℕ). given (has_kind next.kinds k) (has_channel next.channels i) (moved next v n) (λ i. voice_bytes u i b)) lower in
+      ∙ ap (λ (j : Kind). given (has_kind next.kinds.0 j) (has_channel next.channels (t % 16)) (moved next (has_note j) n) (λ i. voice_bytes u i b)) (kind-stays s t h l upper)
+      ∙ ap (λ (i : ℕ). given (has_kind next.kinds.0 k) (has_channel next.channels i) (moved next v n) (λ i. voice_bytes u i b)) lower in
       parts-passed whole s a b u rule h l refl
       ∙ same-given k (has_channel whole.channels (s % 16)) a (λ i. voice_bytes u i b) v refl
-      ∙ ap (λ (c : Bool). given (has_kind one.kinds k && has_kind next.kinds k) c (option_and_then (moved next v) (moved one v a)) (λ i. voice_bytes u i b)) (is.channels (s % 16) (omega arith))
+      ∙ ap (λ (c : Bool). given (has_kind one.kinds.0 k && has_kind next.kinds.0 k) c (option_and_then (moved next v) (moved one v a)) (λ i. voice_bytes u i b)) (is.channels (s % 16) (omega arith))
       ∙ sym (ap (option_and_then (passed next)) (parts-passed one s a b t known h l refl)
-      ∙ given-twice (passed next) (λ i. voice_bytes t i b) (λ i. voice_bytes u i b) (has_kind one.kinds k) (has_channel one.channels (s % 16)) (has_kind next.kinds k) (has_channel next.channels channel) (moved one v a) (moved next v) then-next)
+      ∙ given-twice (passed next) (λ i. voice_bytes t i b) (λ i. voice_bytes u i b) (has_kind one.kinds.0 k) (has_channel one.channels (s % 16)) (has_kind next.kinds.0 k) (has_channel next.channels channel) (moved one v a) (moved next v) then-next)
 
   system : (m : List ℕ) → 240 ≤ status_of m → passed whole m ≡ option_and_then (passed next) (passed one m)
   system m h =
       system-passed whole m h
       ∙ ap (λ (t : Bool). if t then Some m else None) (is.without_note (kind_of m) (note-system (status_of m) h))
-      ∙ go (has_kind one.kinds (kind_of m))
+      ∙ go (has_kind one.kinds.0 (kind_of m))
       ∙ ap (option_and_then (passed next)) (sym (system-passed one m h))
     where
-      go : (t : Bool) → (if t && has_kind next.kinds (kind_of m) then Some m else None) ≡ option_and_then (passed next) (if t then Some m else None)
+      go : (t : Bool) → (if t && has_kind next.kinds.0 (kind_of m) then Some m else None) ≡ option_and_then (passed next) (if t then Some m else None)
       go true = sym (system-passed next m h)
       go false = refl
 
@@ -118,19 +119,22 @@ no-note-left t u o p e f = ap (λ (v : Bool). if v then o else None) e ∙ none-
     none-found true = refl
     none-found false = refl
 
-module _ (one next : RuleArgs) (channels : ℕ) (channel : Option ℕ) (mask : (n : ℕ) → n < 16 → has_channel channels n ≡ (has_channel one.channels n && has_channel next.channels (unwrap_or one.channel n))) (given : channel ≡ option_or next.channel one.channel) where
-  pub whole-some : (low high : ℕ) (shift : ℤ) → ((n : ℕ) → raised low high shift n ≡ moved_twice one next n) → IsWhole one next (record { channels = channels; kinds = bit_and one.kinds next.kinds; low = low; high = high; shift = shift; channel = channel })
+module _ (one next : RuleArgs) (channels : ℕ) (channel : Option ℕ) (kinds : Kinds) (mask : (n : ℕ) → n < 16 → has_channel channels n ≡ (has_channel one.channels n && has_channel next.channels (unwrap_or one.channel n))) (given : channel ≡ option_or next.channel one.channel) (set : kinds.0 ≡ bit_and one.kinds.0 next.kinds.0) where
+  in-both : (k : Kind) → has_kind kinds.0 k ≡ (has_kind one.kinds.0 k && has_kind next.kinds.0 k)
+  in-both k = ap (λ (n : ℕ). has_kind n k) set ∙ both-kinds one.kinds.0 next.kinds.0 k
+
+  pub whole-some : (low high : ℕ) (shift : ℤ) → ((n : ℕ) → raised low high shift n ≡ moved_twice one next n) → IsWhole one next (record { channels = channels; kinds = kinds; low = low; high = high; shift = shift; channel = channel })
   whole-some low high shift e = record {
-    without_note = λ k v. both-kinds one.kinds next.kinds k;
-    with_note = λ k n v. same-if _ _ _ _ (both-kinds one.kinds next.kinds k) (e n);
+    without_note = λ k v. in-both k;
+    with_note = λ k n v. same-if _ _ _ _ (in-both k) (e n);
     channels = mask;
     channel = given;
   }
 
-  pub whole-none : (low high : ℕ) (shift : ℤ) → ((n : ℕ) → moved_twice one next n ≡ None) → IsWhole one next (record { channels = channels; kinds = bit_and (bit_and one.kinds next.kinds) 1016; low = low; high = high; shift = shift; channel = channel })
-  whole-none low high shift e = record {
-    without_note = λ k v. (kinds-left (bit_and one.kinds next.kinds) k).1 v ∙ both-kinds one.kinds next.kinds k;
-    with_note = λ k n v. no-note-left _ _ _ _ ((kinds-left (bit_and one.kinds next.kinds) k).0 v) (e n);
+  pub whole-none : (low high : ℕ) (shift : ℤ) (others : Kinds) → others.0 ≡ bit_and kinds.0 1016 → ((n : ℕ) → moved_twice one next n ≡ None) → IsWhole one next (record { channels = channels; kinds = others; low = low; high = high; shift = shift; channel = channel })
+  whole-none low high shift others left e = record {
+    without_note = λ k v. ap (λ (n : ℕ). has_kind n k) left ∙ (kinds-left kinds.0 k).1 v ∙ in-both k;
+    with_note = λ k n v. no-note-left _ _ _ _ (ap (λ (n : ℕ). has_kind n k) left ∙ (kinds-left kinds.0 k).0 v) (e n);
     channels = mask;
     channel = given;
   }

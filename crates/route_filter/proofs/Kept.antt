@@ -32,7 +32,7 @@ record Passed (rule : RuleArgs) (s : ℕ) (more n : List ℕ) : Type 0 where
 
 what-passed : (rule : RuleArgs) (s a : ℕ) (more n : List ℕ) → is_channel (begins s) ≡ true → a < 128 → passed rule (s ∷ a ∷ more) ≡ Some n → Passed rule s more n
 what-passed rule s a more n c l e =
-    go (has_kind rule.kinds (kind_of_status s) && has_channel rule.channels (s % 16)) (moved rule (has_note (kind_of_status s)) a) refl (sym (voice-passed rule s a more c) ∙ e)
+    go (has_kind rule.kinds.0 (kind_of_status s) && has_channel rule.channels (s % 16)) (moved rule (has_note (kind_of_status s)) a) refl (sym (voice-passed rule s a more c) ∙ e)
   where
     go : (t : Bool) (o : Option ℕ) → moved rule (has_note (kind_of_status s)) a ≡ o → (if t then option_map (λ k. redirected rule.channel (s ∷ k ∷ more)) o else None) ≡ Some n → Passed rule s more n
     go true (Some first) f g =
@@ -80,7 +80,7 @@ voice-kept rule m n p (TwoBytes s a d h l w k g) e =
 
 system-same : (rule : RuleArgs) (m n : List ℕ) → 240 ≤ status_of m → passed rule m ≡ Some n → m ≡ n
 system-same rule m n h e =
-    go (has_kind rule.kinds (kind_of m)) (sym (system-passed rule m h) ∙ e)
+    go (has_kind rule.kinds.0 (kind_of m)) (sym (system-passed rule m h) ∙ e)
   where
     go : (t : Bool) → (if t then Some m else None) ≡ Some n → m ≡ n
     go true f = cc

@@ -24,11 +24,11 @@ made_by rule t channel note m = if t && (takes_channel rule channel && takes_not
 pub no-channel : (m : List ℕ) → 240 ≤ status_of m → channel_number m ≡ None
 no-channel m h = ap (λ (t : Bool). if t then Some (status_of m % 16) else None) (message-not-channel m h)
 
-pub system-passed : (rule : RuleArgs) (m : List ℕ) → 240 ≤ status_of m → passed rule m ≡ (if has_kind rule.kinds (kind_of m) then Some m else None)
+pub system-passed : (rule : RuleArgs) (m : List ℕ) → 240 ≤ status_of m → passed rule m ≡ (if has_kind rule.kinds.0 (kind_of m) then Some m else None)
 system-passed rule m h =
-    ap (λ (c : Option ℕ). made_by rule (has_kind rule.kinds (kind_of m)) c (note_of m) m) (no-channel m h)
-    ∙ ap (λ (t : Bool). made_by rule (has_kind rule.kinds (kind_of m)) None (if t then Some (slice_index m 1) else None) m) (note-system (status_of m) h)
-    ∙ go (has_kind rule.kinds (kind_of m))
+    ap (λ (c : Option ℕ). made_by rule (has_kind rule.kinds.0 (kind_of m)) c (note_of m) m) (no-channel m h)
+    ∙ ap (λ (t : Bool). made_by rule (has_kind rule.kinds.0 (kind_of m)) None (if t then Some (slice_index m 1) else None) m) (note-system (status_of m) h)
+    ∙ go (has_kind rule.kinds.0 (kind_of m))
   where
     go : (t : Bool) → made_by rule t None None m ≡ (if t then Some m else None)
     go true = ap (λ (n : List ℕ). Some n) (stays rule.channel m (ap is_some (no-channel m h)))
@@ -51,7 +51,7 @@ voice-made rule s a more true true true =
     go true = maps-both (redirected rule.channel) (with_first (s ∷ a ∷ more)) (as_note (pos a +ℤ rule.shift))
     go false = refl
 
-pub voice-passed : (rule : RuleArgs) (s a : ℕ) (more : List ℕ) → is_channel (begins s) ≡ true → passed rule (s ∷ a ∷ more) ≡ (if has_kind rule.kinds (kind_of_status s) && has_channel rule.channels (s % 16) then option_map (λ n. redirected rule.channel (s ∷ n ∷ more)) (moved rule (has_note (kind_of_status s)) a) else None)
+pub voice-passed : (rule : RuleArgs) (s a : ℕ) (more : List ℕ) → is_channel (begins s) ≡ true → passed rule (s ∷ a ∷ more) ≡ (if has_kind rule.kinds.0 (kind_of_status s) && has_channel rule.channels (s % 16) then option_map (λ n. redirected rule.channel (s ∷ n ∷ more)) (moved rule (has_note (kind_of_status s)) a) else None)
 voice-passed rule s a more e =
-    ap (λ (t : Bool). made_by rule (has_kind rule.kinds (kind_of_status s)) (if t then Some (s % 16) else None) (note_of (s ∷ a ∷ more)) (s ∷ a ∷ more)) e
-    ∙ voice-made rule s a more (has_kind rule.kinds (kind_of_status s)) (has_channel rule.channels (s % 16)) (has_note (kind_of_status s))
+    ap (λ (t : Bool). made_by rule (has_kind rule.kinds.0 (kind_of_status s)) (if t then Some (s % 16) else None) (note_of (s ∷ a ∷ more)) (s ∷ a ∷ more)) e
+    ∙ voice-made rule s a more (has_kind rule.kinds.0 (kind_of_status s)) (has_channel rule.channels (s % 16)) (has_note (kind_of_status s))

@@ -12,7 +12,7 @@ use Rattle.route_filter.specs.Chains.{raised, moved_twice}
 
 -- what the arguments of a rule keep
 pub record Bounds (rule : RuleArgs) : Type 0 where
-  pub kinds : rule.kinds ≤ 1023
+  pub kinds : rule.kinds.0 ≤ 1023
   pub order : rule.low ≤ rule.high
   pub most : rule.high ≤ 127
   pub shift : unsigned_abs rule.shift ≤ 127
@@ -20,12 +20,12 @@ pub record Bounds (rule : RuleArgs) : Type 0 where
 
 pub bounds-of : (rule : RuleArgs) → IsTrue (is_rule rule) → Bounds rule
 bounds-of rule p =
-    let kinds = and_parts (nat_le rule.kinds 1023) (nat_le rule.low rule.high && (nat_le rule.high 127 && (nat_le (unsigned_abs rule.shift) 127 && is_channel_choice rule.channel))) p in
+    let kinds = and_parts (nat_le rule.kinds.0 1023) (nat_le rule.low rule.high && (nat_le rule.high 127 && (nat_le (unsigned_abs rule.shift) 127 && is_channel_choice rule.channel))) p in
     let order = and_parts (nat_le rule.low rule.high) (nat_le rule.high 127 && (nat_le (unsigned_abs rule.shift) 127 && is_channel_choice rule.channel)) kinds.1 in
     let most = and_parts (nat_le rule.high 127) (nat_le (unsigned_abs rule.shift) 127 && is_channel_choice rule.channel) order.1 in
     let shift = and_parts (nat_le (unsigned_abs rule.shift) 127) (is_channel_choice rule.channel) most.1 in
     record {
-      kinds = leb-true rule.kinds 1023 kinds.0;
+      kinds = leb-true rule.kinds.0 1023 kinds.0;
       order = leb-true rule.low rule.high order.0;
       most = leb-true rule.high 127 most.0;
       shift = leb-true (unsigned_abs rule.shift) 127 shift.0;

@@ -69,7 +69,7 @@ rule-channel rule p =
     (and_true (nat_le (unsigned_abs rule.shift) 127) (is_channel_choice rule.channel)
     (and_true (nat_le rule.high 127) (nat_le (unsigned_abs rule.shift) 127 && is_channel_choice rule.channel)
     (and_true (nat_le rule.low rule.high) (nat_le rule.high 127 && (nat_le (unsigned_abs rule.shift) 127 && is_channel_choice rule.channel))
-    (and_true (nat_le rule.kinds 1023) (nat_le rule.low rule.high && (nat_le rule.high 127 && (nat_le (unsigned_abs rule.shift) 127 && is_channel_choice rule.channel))) p).1).1).1).1
+    (and_true (nat_le rule.kinds.0 1023) (nat_le rule.low rule.high && (nat_le rule.high 127 && (nat_le (unsigned_abs rule.shift) 127 && is_channel_choice rule.channel))) p).1).1).1).1
 
 pub new-channel : (rule : RuleArgs) (s : ℕ) → IsTrue (is_rule rule) → unwrap_or rule.channel (s % 16) < 16
 new-channel rule s p = channel-low rule.channel (s % 16) (rule-channel rule p) (omega arith)
@@ -101,15 +101,15 @@ and-false true u m e = ap (λ (v : Bool). if v then m else None) (sym e)
 and-false false u m e = refl
 
 dropped : (rule : RuleArgs) (s a : ℕ) (more : List ℕ) → is_channel (begins s) ≡ true → has_channel rule.channels (s % 16) ≡ false → None ≡ passed rule (s ∷ a ∷ more)
-dropped rule s a more p e = and-false (has_kind rule.kinds (kind_of_status s)) (has_channel rule.channels (s % 16)) _ e ∙ sym (voice-passed rule s a more p)
+dropped rule s a more p e = and-false (has_kind rule.kinds.0 (kind_of_status s)) (has_channel rule.channels (s % 16)) _ e ∙ sym (voice-passed rule s a more p)
 
 and-true : (t u : Bool) (m : Option (List ℕ)) → t ≡ true → u ≡ true → (if t && u then m else None) ≡ m
 and-true t u m e f = ap (λ (v : Bool). if v && u then m else None) e ∙ ap (λ (v : Bool). if v then m else None) f
 
-pub taken : (rule : RuleArgs) (s a : ℕ) (more : List ℕ) (o : Option ℕ) → is_channel (begins s) ≡ true → has_kind rule.kinds (kind_of_status s) ≡ true → has_channel rule.channels (s % 16) ≡ true → moved rule (has_note (kind_of_status s)) a ≡ o → passed rule (s ∷ a ∷ more) ≡ option_map (λ n. redirected rule.channel (s ∷ n ∷ more)) o
+pub taken : (rule : RuleArgs) (s a : ℕ) (more : List ℕ) (o : Option ℕ) → is_channel (begins s) ≡ true → has_kind rule.kinds.0 (kind_of_status s) ≡ true → has_channel rule.channels (s % 16) ≡ true → moved rule (has_note (kind_of_status s)) a ≡ o → passed rule (s ∷ a ∷ more) ≡ option_map (λ n. redirected rule.channel (s ∷ n ∷ more)) o
 taken rule s a more o p e f g =
     voice-passed rule s a more p
-    ∙ and-true (has_kind rule.kinds (kind_of_status s)) (has_channel rule.channels (s % 16)) _ e f
+    ∙ and-true (has_kind rule.kinds.0 (kind_of_status s)) (has_channel rule.channels (s % 16)) _ e f
     ∙ ap (λ (q : Option ℕ). option_map (λ n. redirected rule.channel (s ∷ n ∷ more)) q) g
 
 -- ---- a message by its parts
@@ -128,21 +128,21 @@ maps-same f g None same = refl
 maps-same f g (Some n) same = ap (λ (m : List ℕ). Some m) (same n)
 
 -- what a rule makes of a channel message
-pub parts-passed : (rule : RuleArgs) (s a b t : ℕ) → IsTrue (is_rule rule) → 128 ≤ s → s < 240 → t ≡ s / 16 * 16 + unwrap_or rule.channel (s % 16) → passed rule (voice_bytes s a b) ≡ (if has_kind rule.kinds (kind_of_status s) && has_channel rule.channels (s % 16) then option_map (λ n. voice_bytes t n b) (moved rule (has_note (kind_of_status s)) a) else None)
+pub parts-passed : (rule : RuleArgs) (s a b t : ℕ) → IsTrue (is_rule rule) → 128 ≤ s → s < 240 → t ≡ s / 16 * 16 + unwrap_or rule.channel (s % 16) → passed rule (voice_bytes s a b) ≡ (if has_kind rule.kinds.0 (kind_of_status s) && has_channel rule.channels (s % 16) then option_map (λ n. voice_bytes t n b) (moved rule (has_note (kind_of_status s)) a) else None)
 parts-passed rule s a b t p h l e =
     go (cases_lt s 192) (cases_lt s 224)
   where
     small : unwrap_or rule.channel (s % 16) < 16
     small = new-channel rule s p
 
-    made : (more : List ℕ) → voice_bytes s a b ≡ s ∷ a ∷ more → ((n : ℕ) → voice_bytes t n b ≡ t ∷ n ∷ more) → passed rule (voice_bytes s a b) ≡ (if has_kind rule.kinds (kind_of_status s) && has_channel rule.channels (s % 16) then option_map (λ n. voice_bytes t n b) (moved rule (has_note (kind_of_status s)) a) else None)
+    made : (more : List ℕ) → voice_bytes s a b ≡ s ∷ a ∷ more → ((n : ℕ) → voice_bytes t n b ≡ t ∷ n ∷ more) → passed rule (voice_bytes s a b) ≡ (if has_kind rule.kinds.0 (kind_of_status s) && has_channel rule.channels (s % 16) then option_map (λ n. voice_bytes t n b) (moved rule (has_note (kind_of_status s)) a) else None)
     made more f g =
         ap (passed rule) f ∙ voice-passed rule s a more (channel-below s h l)
-        ∙ ap (λ (o : Option (List ℕ)). if has_kind rule.kinds (kind_of_status s) && has_channel rule.channels (s % 16) then o else None)
+        ∙ ap (λ (o : Option (List ℕ)). if has_kind rule.kinds.0 (kind_of_status s) && has_channel rule.channels (s % 16) then o else None)
         (maps-same (λ n. redirected rule.channel (s ∷ n ∷ more)) (λ n. voice_bytes t n b) (moved rule (has_note (kind_of_status s)) a)
         (λ n. redirected-to rule.channel s (n ∷ more) (channel-below s h l) ∙ ap (λ (k : ℕ). k ∷ n ∷ more) (sym e) ∙ sym (g n)))
 
-    go : (s < 192) ⊎ (192 ≤ s) → (s < 224) ⊎ (224 ≤ s) → passed rule (voice_bytes s a b) ≡ (if has_kind rule.kinds (kind_of_status s) && has_channel rule.channels (s % 16) then option_map (λ n. voice_bytes t n b) (moved rule (has_note (kind_of_status s)) a) else None)
+    go : (s < 192) ⊎ (192 ≤ s) → (s < 224) ⊎ (224 ≤ s) → passed rule (voice_bytes s a b) ≡ (if has_kind rule.kinds.0 (kind_of_status s) && has_channel rule.channels (s % 16) then option_map (λ n. voice_bytes t n b) (moved rule (has_note (kind_of_status s)) a) else None)
     go (inl c) y = made (b ∷ []) (bytes-low s a b c) (λ n. bytes-low t n b (omega (arith, small)))
     go (inr c) (inl d) = made [] (bytes-one s a b c d) (λ n. bytes-one t n b (omega (arith, small)) (omega (arith, small)))
     go (inr c) (inr d) = made (b ∷ []) (bytes-high s a b d) (λ n. bytes-high t n b (omega (arith, small)))

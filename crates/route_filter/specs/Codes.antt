@@ -12,12 +12,12 @@ coded_fields =
     (coded× coded_ℤ (coded_option coded_ℕ)))))
 
 abbrev fields_of : RuleArgs → Fields
-fields_of r = (r.channels, (r.kinds, (r.low, (r.high, (r.shift, r.channel)))))
+fields_of r = (r.channels, (r.kinds.0, (r.low, (r.high, (r.shift, r.channel)))))
 
 abbrev rule_of : Fields → RuleArgs
 rule_of f = record {
   channels = f.0;
-  kinds = f.1.0;
+  kinds = record { 0 = f.1.0 };
   low = f.1.1.0;
   high = f.1.1.1.0;
   shift = f.1.1.1.1.0;

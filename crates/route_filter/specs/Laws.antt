@@ -13,7 +13,7 @@ PassesMessages = (rule : RuleArgs) (m n : List ℕ) → IsTrue (is_rule rule) �
 
 -- all channels, all kinds, all notes, no shift and no channel
 abbrev pub open_rule : RuleArgs
-open_rule = record { channels = 65535; kinds = 1023; low = 0; high = 127; shift = pos 0; channel = None }
+open_rule = record { channels = 65535; kinds = record { 0 = 1023 }; low = 0; high = 127; shift = pos 0; channel = None }
 
 -- that rule passes every message unchanged
 abbrev pub OpenRulePassesAll : Type 0
@@ -25,7 +25,7 @@ KeepsKind = (rule : RuleArgs) (m n : List ℕ) → IsTrue (is_rule rule) → IsM
 
 -- and that kind is in the set of the rule
 abbrev pub HasKind : Type 0
-HasKind = (rule : RuleArgs) (m n : List ℕ) → passed rule m ≡ Some n → IsTrue (has_kind rule.kinds (kind_of m))
+HasKind = (rule : RuleArgs) (m n : List ℕ) → passed rule m ≡ Some n → IsTrue (has_kind rule.kinds.0 (kind_of m))
 
 -- a message without a channel passes unchanged, if at all
 abbrev pub SystemMessagesStay : Type 0

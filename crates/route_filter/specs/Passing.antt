@@ -33,7 +33,8 @@ takes_note rule (Some note) = in_range rule note
 
 -- the rule takes the kind of the message, and its own channel and its own note where it has them
 abbrev pub is_taken : RuleArgs → List ℕ → Bool
-is_taken rule m = has_kind rule.kinds (kind_of m) && (takes_channel rule (channel_number m) && takes_note rule (note_of m))
+is_taken rule m =
+    has_kind rule.kinds.0 (kind_of m) && (takes_channel rule (channel_number m) && takes_note rule (note_of m))
 
 -- a number as a note, 0 to 127
 abbrev pub as_note : ℤ → Option ℕ

@@ -32,4 +32,6 @@ is_channel_choice (Some n) = nat_le n 15
 
 -- no bit above that of the last kind, a lowest note that is not above the highest, both 0 to 127, a shift from -127 to 127
 abbrev pub is_rule : RuleArgs → Bool
-is_rule rule = nat_le rule.kinds 1023 && (nat_le rule.low rule.high && (nat_le rule.high 127 && (nat_le (unsigned_abs rule.shift) 127 && is_channel_choice rule.channel)))
+is_rule rule =
+    nat_le rule.kinds.0 1023 && (nat_le rule.low rule.high && (nat_le rule.high 127
+    && (nat_le (unsigned_abs rule.shift) 127 && is_channel_choice rule.channel)))

@@ -6,7 +6,7 @@ use Rattle.route_filter.specs.Passing.{passed}
 
 -- note on of channel 0, from note 60 to 72, an octave up
 abbrev pub octave_up : RuleArgs
-octave_up = record { channels = 1; kinds = 2; low = 60; high = 72; shift = pos 12; channel = None }
+octave_up = record { channels = 1; kinds = record { 0 = 2 }; low = 60; high = 72; shift = pos 12; channel = None }
 
 pub record OctaveUp : Type 0 where
   pub note_on : passed octave_up (0x90 ∷ 0x3C ∷ 0x40 ∷ []) ≡ Some (0x90 ∷ 0x48 ∷ 0x40 ∷ [])
@@ -14,11 +14,12 @@ pub record OctaveUp : Type 0 where
   pub below : passed octave_up (0x90 ∷ 0x3B ∷ 0x40 ∷ []) ≡ None
   pub note_off : passed octave_up (0x80 ∷ 0x3C ∷ 0x40 ∷ []) ≡ None
   pub clock : passed octave_up (0xF8 ∷ []) ≡ None
-  pub clock_in_set : passed (record octave_up { kinds = 258 }) (0xF8 ∷ []) ≡ Some (0xF8 ∷ [])
+  pub clock_in_set : passed (record octave_up { kinds = record { 0 = 258 } }) (0xF8 ∷ []) ≡ Some (0xF8 ∷ [])
 
 -- all of channel 0, to channel 9
 abbrev pub to_channel_nine : RuleArgs
-to_channel_nine = record { channels = 1; kinds = 1023; low = 0; high = 127; shift = pos 0; channel = Some 9 }
+to_channel_nine =
+    record { channels = 1; kinds = record { 0 = 1023 }; low = 0; high = 127; shift = pos 0; channel = Some 9 }
 
 pub record ToChannelNine : Type 0 where
   pub note_on : passed to_channel_nine (0x90 ∷ 0x3C ∷ 0x40 ∷ []) ≡ Some (0x99 ∷ 0x3C ∷ 0x40 ∷ [])
@@ -30,7 +31,8 @@ pub record ToChannelNine : Type 0 where
 
 -- every message, its note moved by this many semitones
 abbrev pub moved_by : ℤ → RuleArgs
-moved_by shift = record { channels = 65535; kinds = 1023; low = 0; high = 127; shift = shift; channel = None }
+moved_by shift =
+    record { channels = 65535; kinds = record { 0 = 1023 }; low = 0; high = 127; shift = shift; channel = None }
 
 -- a note that leaves 0 to 127 is dropped
 pub record LeavesNotes : Type 0 where

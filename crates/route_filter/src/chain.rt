@@ -7,10 +7,9 @@ ghost use Rattle.route_filter.specs.Rules.{has_channel, is_channel_choice, is_ru
 ghost use Rattle.route_filter.specs.Passing.{passed};
 ghost use Rattle.route_filter.specs.Chains.{raised, moved_twice};
 
+use crate::kinds::Kinds;
 use crate::rule_args::RuleArgs;
-
-/// The kinds without a note: all but note off, note on and polyphonic pressure.
-const KINDS_WITHOUT_NOTE: u16 = 1016;
+use bitflags::Flags;
 
 /// The notes from the lowest to the highest, raised by this many semitones.
 #[derive(Clone, Copy)]
@@ -30,7 +29,7 @@ impl RuleArgs {
             → passed result m ≡ option_and_then (passed next.now) (passed self.now m) }
     {
         let channels = self.channels_then(next);
-        let kinds = self.kinds & next.kinds;
+        let kinds = self.kinds.intersection(next.kinds);
         let channel = next.channel.or(self.channel);
         match self.notes_then(next) {
             Some(notes) => RuleArgs {
@@ -44,7 +43,7 @@ impl RuleArgs {
             // A range has a note at least, so the kinds with notes have to go.
             None => RuleArgs {
                 channels,
-                kinds: kinds & KINDS_WITHOUT_NOTE,
+                kinds: kinds.intersection(Kinds::WITHOUT_NOTE),
                 low: 0,
                 high: 127,
                 shift: 0,

@@ -4,11 +4,13 @@
 #![tactic(auto)]
 
 mod chain;
+mod kinds;
 mod laws;
 mod rule;
 mod rule_args;
 mod voice;
 
+pub use kinds::Kinds;
 pub use laws::{
     gives_channel, keeps_kind, masks_are_sets, open_rule_passes_all, passes_messages, worked_rules,
 };

@@ -2,8 +2,10 @@
 
 ghost use Rattle.std.specs.Prelude.{◌≡◌, ◌≤◌, ◌<◌};
 ghost use Rattle.midi_wire.specs.Kinds.{channels, kind_of_status};
-ghost use Rattle.route_filter.specs.Rules.{kind_bit, has_kind, has_channel, is_rule};
+ghost use Rattle.route_filter.specs.Rules.{has_kind, has_channel, is_rule};
 
+use crate::kinds::Kinds;
+use bitflags::Flags;
 use midi_wire::{CHANNELS, Kind};
 
 /// What a filter rule says.
@@ -11,9 +13,8 @@ use midi_wire::{CHANNELS, Kind};
 pub struct RuleArgs {
     /// The channels it takes messages of: bit n for channel n, counted from 0.
     pub channels: u16,
-    /// The kinds that it takes: 1 note off, 2 note on, 4 polyphonic pressure, 8 control change, 16 program change,
-    /// 32 channel pressure, 64 pitch bend, 128 system common, 256 real time, 512 exclusive.
-    pub kinds: u16,
+    /// The kinds that it takes.
+    pub kinds: Kinds,
     /// The lowest note that it takes, before the shift.
     pub low: u8,
     /// The highest note that it takes, before the shift.
@@ -29,7 +30,7 @@ impl RuleArgs {
     pub fn is_rule(&self) -> bool
         ensures { result ≡ is_rule self.now }
     {
-        self.kinds <= 1023
+        self.kinds.are_known()
             && self.low <= self.high
             && self.high <= 127
             && self.shift.unsigned_abs() <= 127
@@ -38,9 +39,9 @@ impl RuleArgs {
 
     /// Whether the kind is in the set of kinds.
     pub(crate) fn has_kind(&self, kind: Kind) -> bool
-        ensures { result ≡ has_kind self.now.kinds kind }
+        ensures { result ≡ has_kind self.now.kinds.0 kind }
     {
-        self.kinds & kind_bit(kind) != 0
+        self.kinds.contains(Kinds::of(kind))
     }
 
     /// Whether the kind of a channel message with this status is in the set of kinds.
@@ -48,10 +49,10 @@ impl RuleArgs {
     pub(crate) fn has_voice_kind(&self, status: u8) -> bool
         requires least { 128 ≤ status }
         requires most { status < 240 }
-        ensures { result ≡ has_kind self.now.kinds (kind_of_status status) }
+        ensures { result ≡ has_kind self.now.kinds.0 (kind_of_status status) }
     {
         // The bits of these kinds stand in the order of their statuses, 8n to En.
-        self.kinds & (1 << (status / 16 - 8)) != 0
+        self.kinds.0 & (1 << (status / 16 - 8)) != 0
     }
 
     /// Whether the channel is in the mask of channels.
@@ -61,23 +62,5 @@ impl RuleArgs {
         ensures { result ≡ has_channel self.now.channels channel }
     {
         self.channels & (1 << channel) != 0
-    }
-}
-
-/// The bit of a kind in a set of kinds.
-fn kind_bit(kind: Kind) -> u16
-    ensures { result ≡ kind_bit kind }
-{
-    match kind {
-        Kind::NoteOff => 1,
-        Kind::NoteOn => 2,
-        Kind::PolyPressure => 4,
-        Kind::ControlChange => 8,
-        Kind::ProgramChange => 16,
-        Kind::ChannelPressure => 32,
-        Kind::PitchBend => 64,
-        Kind::SystemCommon => 128,
-        Kind::RealTime => 256,
-        Kind::Exclusive => 512,
     }
 }

@@ -116,7 +116,7 @@ said_by line = command two_files (words line)
 abbrev pub some_rule : Option ℕ → RuleArgs
 some_rule channel = record {
   channels = 65535;
-  kinds = 1023;
+  kinds = record { 0 = 1023 };
   low = 0;
   high = 127;
   shift = negsuc 60;

@@ -45,7 +45,7 @@ rule make =
     u16 ▸ λ channels. u16 ▸ λ kinds. u8 ▸ λ low. u8 ▸ λ high. shift ▸ λ semitones.
     all (maybe u8) (λ channel. make (record {
       channels = channels;
-      kinds = kinds;
+      kinds = record { 0 = kinds };
       low = low;
       high = high;
       shift = semitones;

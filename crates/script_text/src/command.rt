@@ -11,9 +11,10 @@ ghost use Rattle.script_text.specs.declared.script.TheConstants.{MOST_FILES};
 
 use crate::unread::Unread;
 use crate::words::Words;
+use bitflags::Flags;
 use memory::Items;
 use midi_wire::Message;
-use route_filter::RuleArgs;
+use route_filter::{Kinds, RuleArgs};
 use seq_state::Command;
 use std::alloc::Global;
 
@@ -305,7 +306,7 @@ fn rule(words: &mut Words) -> Result<RuleArgs, Unread>
     ensures only { IfErr result (λ e. e ≡ Unread.Unreadable) }
 {
     let channels = words.u16()?;
-    let kinds = words.u16()?;
+    let kinds = Kinds::from_bits_retain(words.u16()?);
     let low = words.u8()?;
     let high = words.u8()?;
     let shift = words.shift()?;

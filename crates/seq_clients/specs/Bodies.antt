@@ -13,7 +13,7 @@ stream_of (Rule rule) = []
 
 -- a rule that takes nothing
 abbrev pub no_rule : RuleArgs
-no_rule = record { channels = 0; kinds = 0; low = 0; high = 0; shift = pos 0; channel = None }
+no_rule = record { channels = 0; kinds = record { 0 = 0 }; low = 0; high = 0; shift = pos 0; channel = None }
 
 abbrev pub rule_of : NodeBody → RuleArgs
 rule_of (Stream fed) = no_rule

@@ -30,7 +30,7 @@ port_line client port name caps =
 -- the channels, the kinds, the lowest and the highest note, and the shift, each after a space
 abbrev pub rule_text : RuleArgs → List ℕ
 rule_text r =
-    (codes " " ++ decimal r.channels ++ codes " " ++ decimal r.kinds)
+    (codes " " ++ decimal r.channels ++ codes " " ++ decimal r.kinds.0)
     ++ codes " " ++ decimal r.low ++ codes " " ++ decimal r.high
     ++ codes " " ++ signed_decimal r.shift
 

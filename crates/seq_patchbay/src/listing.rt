@@ -197,6 +197,7 @@ fn list_rule(alloc: Global, rule: &RuleArgs, out: &mut Vec<u8>) -> Result<(), Ou
         shift,
         channel: _,
     } = *rule;
+    let kinds = kinds.bits();
     out.extend_from_slice(format!(in alloc; " {channels} {kinds}")?.as_bytes())?;
     out.extend_from_slice(format!(in alloc; " {low} {high} {shift}")?.as_bytes())?;
     Ok(())

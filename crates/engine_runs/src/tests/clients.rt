@@ -6,7 +6,7 @@ use super::setting_up::take;
 use bitflags::Flags;
 use midi_wire::Message;
 use node_table::{Addr, ClientId, FilterNo, Node, PortNo, QueueAddr, QueueNo};
-use route_filter::RuleArgs;
+use route_filter::{Kinds, RuleArgs};
 use seq_clients::Clients;
 use seq_state::Arrival;
 use std::alloc::Global;
@@ -48,9 +48,15 @@ use self::Asked::*;
 
 const SYNTH: Step = Open(b"synth", 2, 3);
 
-const KIND_0: RuleArgs = RuleArgs { kinds: 1, ..ALL };
+const KIND_0: RuleArgs = RuleArgs {
+    kinds: Kinds::NOTE_OFF,
+    ..ALL
+};
 
-const KIND_1: RuleArgs = RuleArgs { kinds: 2, ..ALL };
+const KIND_1: RuleArgs = RuleArgs {
+    kinds: Kinds::NOTE_ON,
+    ..ALL
+};
 
 const CASES: &[Case] = &[
     Case {
@@ -243,7 +249,7 @@ fn is_filter(clients: &Clients, client: ClientId, filter: u8, kinds: Option<u16>
     let filter = FilterNo::new(filter)?;
     Some(
         clients.has_filter(client, filter) == kinds.is_some()
-            && clients.rule(client, filter).map(|r| r.args().kinds) == kinds,
+            && clients.rule(client, filter).map(|r| r.args().kinds.bits()) == kinds,
     )
 }
 

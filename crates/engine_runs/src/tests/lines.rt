@@ -47,7 +47,7 @@ use self::Say::*;
 /// The filter that lets all pass as it came.
 pub const ALL: RuleArgs = RuleArgs {
     channels: 65535,
-    kinds: 1023,
+    kinds: Kinds::ALL,
     low: 0,
     high: 127,
     shift: 0,

@@ -7,7 +7,7 @@ use super::setting_up::take_all;
 use midi_wire::Message;
 use node_table::{ClientId, PortNo};
 use patch_graph::PatchGraph;
-use route_filter::RuleArgs;
+use route_filter::{Kinds, RuleArgs};
 use seq_patchbay::Patchbay;
 use seq_settle::Desk;
 use seq_state::Delivery;
@@ -63,10 +63,10 @@ const TWO_OCTAVES_DOWN: RuleArgs = RuleArgs {
     ..ALL
 };
 
-/// Notes on the first channel go to the last.
+/// Notes that begin on the first channel go to the last.
 const TO_LAST_CHANNEL: RuleArgs = RuleArgs {
     channels: 1,
-    kinds: 3,
+    kinds: Kinds::NOTE_ON,
     channel: Some(15),
     ..ALL
 };
@@ -136,7 +136,7 @@ const LISTINGS: &[Case] = &[
             says: &[Listing(
                 "client 128 synth in 2 out 3\n\
                 filter 128:f0 2 65535 1023 12 127 -12\n\
-                filter 128:f3 2 1 3 0 127 0 15\n",
+                filter 128:f3 2 1 2 0 127 0 15\n",
             )],
         }],
     },
@@ -184,7 +184,7 @@ const LISTINGS: &[Case] = &[
             edges: &[],
             says: &[Listing(
                 "client 128 synth in 2 out 3\nport 128:p7 out 1\n\
-                filter 128:f15 2 1 3 0 127 0 15\nqueue 128:q0 stopped\n",
+                filter 128:f15 2 1 2 0 127 0 15\nqueue 128:q0 stopped\n",
             )],
         }],
     },

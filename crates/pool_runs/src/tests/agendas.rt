@@ -75,6 +75,10 @@ fn turn(
 fn both_bodies_agree(rt: HostRuntime) -> Result<(), OutOfMemory> {
     let mut heap = Driver::new(HeapAgenda::new(rt.alloc()));
     let mut sorted = Driver::new(SortedAgenda::new(rt.alloc()));
+    for cell in 0..CELLS {
+        heap.set(cell, 0)?;
+        sorted.set(cell, 0)?;
+    }
     let mut chance = 88_172_645_463_325_252;
     for count in 0..6000 {
         chance = after(chance);

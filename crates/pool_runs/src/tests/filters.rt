@@ -1,14 +1,15 @@
 //! Worked rules.
 
+use bitflags::Flags;
 use midi_wire::{Message, WireFault};
-use route_filter::{Rule, RuleArgs};
+use route_filter::{Kinds, Rule, RuleArgs};
 use std::alloc::Global;
 use std::process::Abort;
 
 /// Note on of channel 0, from note 60 to 72, an octave up.
 const OCTAVE_UP: RuleArgs = RuleArgs {
     channels: 1,
-    kinds: 2,
+    kinds: Kinds::NOTE_ON,
     low: 60,
     high: 72,
     shift: 12,
@@ -18,7 +19,7 @@ const OCTAVE_UP: RuleArgs = RuleArgs {
 /// All of channel 0, to channel 9.
 const TO_CHANNEL_NINE: RuleArgs = RuleArgs {
     channels: 1,
-    kinds: 1023,
+    kinds: Kinds::ALL,
     low: 0,
     high: 127,
     shift: 0,
@@ -28,7 +29,7 @@ const TO_CHANNEL_NINE: RuleArgs = RuleArgs {
 /// All messages, unchanged.
 const OPEN: RuleArgs = RuleArgs {
     channels: 65535,
-    kinds: 1023,
+    kinds: Kinds::ALL,
     low: 0,
     high: 127,
     shift: 0,
@@ -70,12 +71,12 @@ const ALONE: &[Case] = &[
         ],
     },
     Case {
-        name: "an octave up, with real time",
+        name: "real time alone",
         rules: &[RuleArgs {
-            kinds: 258,
+            kinds: Kinds::REAL_TIME,
             ..OCTAVE_UP
         }],
-        rows: &[(&[0xF8], &[0xF8])],
+        rows: &[(&[0xF8], &[0xF8]), (&[0x90, 0x3C, 0x40], &[])],
     },
     Case {
         name: "to channel 9",
@@ -281,10 +282,6 @@ const REFUSED: &[RuleArgs] = &[
         ..OCTAVE_UP
     },
     RuleArgs {
-        kinds: 1024,
-        ..OCTAVE_UP
-    },
-    RuleArgs {
         low: 73,
         ..OCTAVE_UP
     },
@@ -298,18 +295,21 @@ const REFUSED: &[RuleArgs] = &[
     },
 ];
 
-/// A rule that lets nothing pass.
-const EMPTY: RuleArgs = RuleArgs {
-    channels: 0,
-    kinds: 0,
-    ..TO_CHANNEL_NINE
-};
-
 #[test]
 fn rules_are_tested(rt: HostRuntime) {
     for args in REFUSED {
         assert!(rt; Rule::new(*args).is_none());
     }
-    let empty = Rule::new(EMPTY).expect(&rt, "an empty rule");
-    assert!(rt; empty.args() == EMPTY);
+    let unknown = RuleArgs {
+        kinds: Kinds::from_bits_retain(1024),
+        ..OCTAVE_UP
+    };
+    assert!(rt; Rule::new(unknown).is_none());
+    let empty = RuleArgs {
+        channels: 0,
+        kinds: Kinds::empty(),
+        ..TO_CHANNEL_NINE
+    };
+    let rule = Rule::new(empty).expect(&rt, "a rule that lets nothing pass");
+    assert!(rt; rule.args() == empty);
 }

@@ -2,7 +2,6 @@
 
 use super::numbers::At::{self, F, P};
 use super::numbers::{addr, client, port};
-use super::texts::assert_text;
 use memory::OutOfMemory;
 use node_table::{Addr, PortAddr};
 use patch_graph::{EdgeFault, PatchGraph, Path, Routes};
@@ -428,19 +427,4 @@ fn assert_full_house(rt: &impl Abort, graph: &mut PatchGraph) {
 fn a_full_house_of_ports_has_32_sources_at_each(rt: HostRuntime) {
     let mut graph = PatchGraph::new(rt.alloc());
     assert_full_house(&rt, &mut graph);
-}
-
-const TEXTS: &[(EdgeFault, &'static str)] = &[
-    (EdgeFault::AlreadyConnected, "already connected"),
-    (EdgeFault::SourcesFull, "too many sources"),
-    (EdgeFault::Cycle, "a cycle of filters"),
-    (EdgeFault::OutOfMemory, "out of memory"),
-];
-
-#[test]
-fn faults_print(rt: HostRuntime) -> Result<(), Fail> {
-    for (fault, text) in TEXTS {
-        assert_text(&rt, rt.alloc(), fault, text)?;
-    }
-    Ok(())
 }

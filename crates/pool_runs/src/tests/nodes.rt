@@ -475,17 +475,3 @@ fn a_full_house_has_room_for_all(rt: HostRuntime) {
     make_all(&rt, &mut table);
     assert_all(&rt, &mut table);
 }
-
-const TEXTS: &[(OpenFault, &'static str)] = &[
-    (OpenFault::AlreadyOpen, "the client is open already"),
-    (OpenFault::BadName, "this is no name"),
-    (OpenFault::OutOfMemory, "out of memory"),
-];
-
-#[test]
-fn faults_print(rt: HostRuntime) -> Result<(), Fail> {
-    for (fault, text) in TEXTS {
-        assert_text(&rt, rt.alloc(), fault, text)?;
-    }
-    Ok(())
-}

@@ -1,7 +1,6 @@
 //! Pools of events, and stores of cells.
 
 use super::numbers::client;
-use super::texts::assert_text;
 use cell_pools::{CellKey, CellStore, InPool, PoolFault, PutFault, take_all};
 use memory::OutOfMemory;
 use node_table::ClientId;
@@ -192,6 +191,8 @@ enum StoreStep {
     Refuses(u8, u32),
     /// Each of these clients puts a value, which count up from 0, and has a size of 10.
     Fills(&'static [u8]),
+    /// A client has this size, and puts as many values, which count up from 0.
+    FillsSize(u8, u32),
     Used(u8, u32),
     /// How many keys a client has, and the sum of what is under them.
     Lists(u8, usize, u32),
@@ -229,6 +230,16 @@ const STORE_CASES: &[StoreCase] = &[
             Refuses(128, 6),
             Used(128, 2),
             Used(191, 1),
+        ],
+    },
+    StoreCase {
+        name: "a client fills the greatest size, and another puts one more",
+        steps: &[
+            FillsSize(191, 2000),
+            Refuses(191, 7),
+            FillsSize(128, 1),
+            Lists(191, 2000, 1_999_000),
+            ListsAll(2001, 1_999_000),
         ],
     },
     StoreCase {
@@ -284,6 +295,16 @@ fn fills(rt: &impl Abort, store: &mut CellStore<u32>, numbers: &[u8]) -> bool {
     true
 }
 
+fn fills_size(store: &mut CellStore<u32>, of: ClientId, size: u32) -> bool {
+    store.set_size(of, size);
+    for value in 0..size {
+        if store.put(of, value).is_err() {
+            return false;
+        }
+    }
+    true
+}
+
 fn store_holds(
     rt: &impl Abort,
     store: &mut CellStore<u32>,
@@ -297,6 +318,7 @@ fn store_holds(
         Puts(of, value) => store.put(client(rt, of), value).is_ok(),
         Refuses(of, value) => refuses(store, client(rt, of), value),
         Fills(numbers) => fills(rt, store, numbers),
+        FillsSize(of, size) => fills_size(store, client(rt, of), size),
         Used(of, count) => store.used(client(rt, of)) == count,
         Lists(of, count, sum) => listed_of(store, client(rt, of))? == (count, sum),
         ListsAll(count, sum) => listed(store)? == (count, sum),
@@ -404,11 +426,4 @@ fn counts_follow_the_cells(rt: HostRuntime) {
         twins.agree(&rt, 128);
         twins.agree(&rt, 129);
     }
-}
-
-#[test]
-fn faults_print(rt: HostRuntime) -> Result<(), Fail> {
-    let bad_size = PoolFault::BadSize;
-    assert_text(&rt, rt.alloc(), &bad_size, "a pool's size is 1 to 2000")?;
-    assert_text(&rt, rt.alloc(), &PoolFault::OutOfMemory, "out of memory")
 }

@@ -11,7 +11,7 @@ pub returns-in-Some-clause-passed : goal.returns-in-Some-clause-passed
 returns-in-Some-clause-passed c =
     let notes = c.in-Some.notes in
     let stays = shift-stays notes.shift c.in-Some.ensures.shift in
-    let whole = whole-some c.args.self.now c.args.next.now _ _ c.channels_then-channels.ensures c.or-channel.ensures notes.low notes.high _
+    let whole = whole-some c.args.self.now c.args.next.now _ _ _ c.channels_then-channels.ensures c.or-channel.ensures (c.intersection-kinds.ensures tt) notes.low notes.high _
     (λ n. ap (λ (z : ℤ). raised notes.low notes.high z n) stays ∙ c.in-Some.ensures.both n) in
     passed-twice _ _ _ c.requires.first c.requires.second (returns-in-Some-clause-rule c) whole
 
@@ -20,5 +20,5 @@ returns-in-None-clause-rule c = search rules
 
 pub returns-in-None-clause-passed : goal.returns-in-None-clause-passed
 returns-in-None-clause-passed c =
-    let whole = whole-none c.args.self.now c.args.next.now _ _ c.channels_then-channels.ensures c.or-channel.ensures 0 127 (pos 0) c.in-None.ensures.none in
+    let whole = whole-none c.args.self.now c.args.next.now _ _ _ c.channels_then-channels.ensures c.or-channel.ensures (c.intersection-kinds.ensures tt) 0 127 (pos 0) _ (c.intersection.ensures tt) c.in-None.ensures.none in
     passed-twice _ _ _ c.requires.first c.requires.second (returns-in-None-clause-rule c) whole
