@@ -4,7 +4,6 @@ use Rattle.std.specs.List.{filter_map}
 use Rattle.midi_wire.specs.Messages.{begins}
 use Rattle.midi_wire.specs.Writings.{status_of}
 use Rattle.node_table.specs.declared.number.PortAddr.{PortAddr}
-use Rattle.port_record.specs.declared.recording.TheConstants.{PPQ, TEMPO}
 use Rattle.seq_state.specs.declared.log.Delivery.{Delivery}
 use Rattle.seq_state.specs.declared.log.LogEntry.{LogEntry}
 use Rattle.seq_state.specs.declared.log.LogEntry.TheVariants.{Delivered, Replied}
@@ -13,9 +12,21 @@ use Rattle.smf_grammar.specs.declared.event.Event.{Event}
 use Rattle.smf_grammar.specs.Texts.{stands_in_files, file_text}
 use Rattle.tempo_clock.specs.Ticks.{Tempos, tick_at}
 
--- 480 ticks per quarter note of half a second: 960 ticks a second
+-- ticks per quarter note
+abbrev pub recording_ppq : ℕ
+recording_ppq = 480
+
+-- microseconds per quarter note
+abbrev pub recording_tempo : ℕ
+recording_tempo = 500000
+
+-- 960 ticks a second
 abbrev pub recording_clock : Tempos
-recording_clock = record { division = PPQ; entries = record { tick = 0; tempo = TEMPO } ∷ [] }
+recording_clock =
+    record {
+      division = recording_ppq;
+      entries = record { tick = 0; tempo = recording_tempo } ∷ [];
+    }
 
 -- a delivery that a file can hold: a message of a channel or an exclusive one
 abbrev pub is_recorded : PortAddr → Delivery → Bool
@@ -34,4 +45,4 @@ recorded port log = filter_map (recorded_event port) log
 
 -- the file of them
 abbrev pub recording_text : PortAddr → List LogEntry → List ℕ
-recording_text port log = file_text PPQ TEMPO (recorded port log)
+recording_text port log = file_text recording_ppq recording_tempo (recorded port log)

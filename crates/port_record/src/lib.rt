@@ -2,6 +2,8 @@
 #![tactic(auto)]
 
 mod recording;
+mod rows;
 
 pub use recording::record_file;
+pub use rows::worked_recording;
 pub use smf_files::WriteFault;

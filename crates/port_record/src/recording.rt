@@ -4,8 +4,7 @@ ghost use Rattle.std.specs.Prelude.{◌≡◌, ◌++◌, None, Some, IfOk, IfErr
 ghost use Rattle.std.specs.Option.{option_to_list};
 ghost use Rattle.smf_files.specs.Refusals.{write_refusal, told_refusal};
 ghost use Rattle.smf_grammar.specs.Laws.{ReadsBack};
-ghost use Rattle.port_record.specs.declared.recording.TheConstants.{PPQ, TEMPO};
-ghost use Rattle.port_record.specs.Recording.{recording_clock, recording_text, is_recorded, recorded_event, recorded};
+ghost use Rattle.port_record.specs.Recording.{recording_ppq, recording_tempo, recording_clock, recording_text, is_recorded, recorded_event, recorded};
 
 use memory::OutOfMemory;
 use node_table::PortAddr;
@@ -28,10 +27,13 @@ const TEMPO: u32 = 500_000;
 /// two.
 pub fn record_file(alloc: Global, log: &RunLog, port: PortAddr) -> Result<Vec<u8>, WriteFault>
     ensures text { IfOk result (λ file. file.items ≡ recording_text port log.now.entries) }
-    ensures taken { OnOk result (write_refusal PPQ TEMPO (recorded port log.now.entries) ≡ None) }
-    ensures refused { IfErr result (λ x. IfSome (told_refusal x) (λ r.
-        write_refusal PPQ TEMPO (recorded port log.now.entries) ≡ Some r)) }
-    ensures reads_back { OnOk result (ReadsBack PPQ TEMPO (recorded port log.now.entries)) }
+    ensures taken { let events = recorded port log.now.entries in
+        OnOk result (write_refusal recording_ppq recording_tempo events ≡ None) }
+    ensures refused { let events = recorded port log.now.entries in
+        IfErr result (λ x. IfSome (told_refusal x) (λ r.
+        write_refusal recording_ppq recording_tempo events ≡ Some r)) }
+    ensures reads_back { let events = recorded port log.now.entries in
+        OnOk result (ReadsBack recording_ppq recording_tempo events) }
 {
     let clock = clock(alloc)?;
     let mut events = Vec::new(alloc);

@@ -1,5 +1,5 @@
 -- The clients that are seen, after another body was written into a node.
-use Rattle.std.proofs.Common.{◌≡◌, ◌∙◌, ℕ, true, List, ◌++◌, Option, Some, None, refl, sym, ap, subst}
+use Rattle.std.proofs.Common.{◌≡◌, ◌∙◌, ℕ, true, List, [], ◌++◌, Option, Some, None, refl, sym, ap, subst}
 use Rattle.std.specs.Prelude.{is_some}
 use Rattle.std.specs.Option.{option_map}
 use Rattle.std.specs.FinMap.{get}
@@ -14,7 +14,7 @@ use Rattle.seq_state.specs.Own.{has_port, has_filter, port_of, filter_of, with_c
 use Rattle.seq_state.specs.Step.{port_addr, filter_addr}
 use Rattle.seq_clients.specs.Bodies.{stream_of, is_body_for, is_stream}
 use Rattle.seq_clients.specs.Kept.{Nodes, Rows, port_seen, filter_seen, roster, AreRowsKept}
-use Rattle.seq_clients.specs.Roster.{Roster, with_client}
+use Rattle.seq_clients.specs.Roster.{Roster, port_begun, with_client}
 use Rattle.seq_clients.specs.declared.body.NodeBody.{NodeBody}
 use Rattle.seq_clients.specs.declared.body.NodeBody.TheVariants as bodies
 use Rattle.seq_clients.proofs.Seeing.{get-port, get-filter, port-there, filter-there}
@@ -103,3 +103,16 @@ module _ (table : Nodes) (rows : Rows) (s : Roster) (kept : AreRowsKept table ro
             let same : was ≡ n.body = cc in
             port-made table rows s kept view client port (with_its_body body n)
             ∙ ap (λ (f : List ℕ). with_client s client (with_change (get s.clients client) (put_port port (Some (record (port_seen n) { fed = f }))))) (e ∙ ap (λ (b : NodeBody). rest (stream_of b ++ bytes)) same)
+
+    pub port-begins : (body : NodeBody) → stream_of body ≡ [] →
+        roster (with_body table addr body) rows ≡ with_client s client (with_change (get s.clients client) (put_port port (port_begun (port_of (get s.clients client) port))))
+    port-begins body e =
+        ap (λ (x : Addr). roster (with_body table x body) rows) at
+        ∙ go (node_at table (port_addr client port)) here_at
+        ∙ ap (λ (o : Option PortInfo). with_client s client (with_change (get s.clients client) (put_port port (port_begun o)))) (get-port table rows s kept view client port)
+      where
+        go : (o : Option (NodeSeen NodeBody)) → Some was ≡ option_map (λ n. n.body) o → roster (put_seen table (port_addr client port) (option_map (with_its_body body) o)) rows ≡ with_client s client (with_change (get s.clients client) (put_port port (port_begun (option_map port_seen o))))
+        go None h = cc
+        go (Some n) h =
+            port-made table rows s kept view client port (with_its_body body n)
+            ∙ ap (λ (f : List ℕ). with_client s client (with_change (get s.clients client) (put_port port (Some (record (port_seen n) { fed = f }))))) e

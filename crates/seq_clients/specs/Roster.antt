@@ -1,11 +1,11 @@
 -- Who is open, and what waits for each client: what the calls of `Clients` change.
-use Rattle.std.specs.Prelude.{◌≡◌, ℕ, true, false, length, Option, Some, None, refl}
+use Rattle.std.specs.Prelude.{◌≡◌, ℕ, true, false, [], length, Option, Some, None, refl}
 use Rattle.std.specs.Ordering.{nat_cmp}
 use Rattle.std.specs.Coded.{Coded, code_by, coded×, coded_ℕ}
 use Rattle.std.specs.FinMap
 use Rattle.std.specs.FinMap.{FinMap}
 use Rattle.cell_pools.specs.Pools.{coded_pool}
-use Rattle.seq_state.specs.State.{Client, ClientPool, Queue, coded_client, coded_arrival, put}
+use Rattle.seq_state.specs.State.{Client, ClientPool, PortInfo, Queue, coded_client, coded_arrival, put}
 
 -- the open clients, and their input pools
 pub record Roster : Type 0 where
@@ -23,6 +23,11 @@ with_client r n c = record r { clients = put r.clients n c }
 -- the same of its input pool
 abbrev pub with_pool : Roster → ℕ → Option ClientPool → Roster
 with_pool r n p = record r { pools = put r.pools n p }
+
+-- a port whose stream begins anew
+abbrev pub port_begun : Option PortInfo → Option PortInfo
+port_begun None = None
+port_begun (Some p) = Some (record p { fed = [] })
 
 abbrev pub coded_roster : Coded Roster
 coded_roster =

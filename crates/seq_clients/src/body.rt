@@ -1,7 +1,8 @@
 //! What a node has beside its name and its capabilities.
 
-ghost use Rattle.std.specs.Prelude.{◌≡◌, [], ◌++◌, true, length, IsOk, IfOk, OnOk};
+ghost use Rattle.std.specs.Prelude.{◌≡◌, [], ◌++◌, true, length, IsOk, IfOk, OnOk, OnErr};
 ghost use Rattle.std.specs.Option.{option_copied};
+ghost use Rattle.midi_wire.specs.Parsing.{GainsPrefix};
 ghost use Rattle.midi_wire.specs.Readings.{reading, rest};
 
 use crate::port::PortStream;
@@ -46,6 +47,9 @@ impl NodeBody {
         ensures number { let read = reading (stream_of self.old ++ bytes.now) in
             IfOk result (λ n. n ≡ length read) }
         ensures empty { bytes.now ≡ [] → IsOk result }
+        ensures anew { OnErr result (stream_of self.new ≡ []) }
+        ensures first { let read = reading (stream_of self.old ++ bytes.now) in
+            OnErr result (GainsPrefix out.old.items out.new.items read) }
     {
         match self {
             NodeBody::Stream(stream) => stream.feed(bytes, out),

@@ -4,6 +4,7 @@ ghost use Rattle.std.specs.Prelude.{◌≡◌, ◌≤◌, ◌<◌, ◌++◌, [],
 ghost use Rattle.std.specs.FinMap.{get};
 ghost use Rattle.std.specs.Option.{option_map};
 ghost use Rattle.cell_pools.specs.Pools.{is_size, empty_pool, after_offer};
+ghost use Rattle.midi_wire.specs.Parsing.{GainsPrefix};
 ghost use Rattle.midi_wire.specs.Readings.{reading};
 ghost use Rattle.node_table.specs.Names.{is_name};
 ghost use Rattle.tempo_clock.specs.Clocks.{started, stopped, resumed, with_tempo};
@@ -11,7 +12,7 @@ ghost use Rattle.tempo_clock.specs.Entries.{is_tempo};
 ghost use Rattle.seq_state.specs.Own.{has_port, has_filter, port_of, filter_of, queue_of, with_change, put_port, put_filter, put_queue, new_client, new_port, new_filter, filter_ruled, fed_of, port_fed, held_queue, clocked, public, queue_changed, oldest, without_oldest};
 ghost use Rattle.seq_state.specs.State as state;
 ghost use Rattle.seq_state.specs.Step.{pool_has_room};
-ghost use Rattle.seq_clients.specs.Roster.{with_client, with_pool};
+ghost use Rattle.seq_clients.specs.Roster.{port_begun, with_client, with_pool};
 
 use crate::body::NodeBody;
 use crate::clients::{Clients, filter_addr, port_addr};
@@ -131,8 +132,8 @@ impl Clients {
     /// Feeds the stream of a port that is there: adds each message that is whole now to `out`, and answers their
     /// number.
     ///
-    /// Memory is for the messages and for exclusive data. `Err` loses the stream's place and changes nothing else here;
-    /// `out` may have gained the first of the messages.
+    /// Memory is for the messages and for exclusive data. After `Err` the port's stream begins anew, which loses the
+    /// message that it was in; `out` has gained the first of the messages, maybe none or all.
     pub fn feed(
         &mut self,
         client: ClientId,
@@ -149,6 +150,12 @@ impl Clients {
         ensures number { let fed = fed_of (port_of (get self.old.clients client) port) in
             IfOk result (λ n. n ≡ length (reading (fed ++ bytes.now))) }
         ensures empty { bytes.now ≡ [] → IsOk result }
+        ensures err { let c = get self.old.clients client in
+            let anew = put_port port (port_begun (port_of c port)) in
+            OnErr result (self.new ≡ with_client self.old client (with_change c anew)) }
+        ensures first { let fed = fed_of (port_of (get self.old.clients client) port) in
+            let read = reading (fed ++ bytes.now) in
+            OnErr result (GainsPrefix out.old.items out.new.items read) }
     {
         if let Some(body) = self.nodes.body_mut(&port_addr(client, port)) {
             return body.feed(bytes, out);

@@ -1,6 +1,7 @@
 //! What a port keeps of its stream.
 
-ghost use Rattle.std.specs.Prelude.{◌≡◌, [], ◌++◌, length, IsOk, IfOk, OnOk};
+ghost use Rattle.std.specs.Prelude.{◌≡◌, [], ◌++◌, length, IsOk, IfOk, OnOk, OnErr};
+ghost use Rattle.midi_wire.specs.Parsing.{GainsPrefix};
 ghost use Rattle.midi_wire.specs.Readings.{reading, rest};
 
 use memory::OutOfMemory;
@@ -38,7 +39,7 @@ impl PortStream {
     }
 
     /// Takes the next piece of the stream, adds each message that is whole now to `out`, and answers their number. Want
-    /// of memory loses the stream's place.
+    /// of memory begins the stream anew.
     pub(crate) fn feed(
         &mut self,
         bytes: &[u8],
@@ -49,6 +50,9 @@ impl PortStream {
             OnOk result (out.new.items ≡ out.old.items ++ read) }
         ensures number { IfOk result (λ n. n ≡ length (reading (self.old ++ bytes.now))) }
         ensures empty { bytes.now ≡ [] → IsOk result }
+        ensures anew { OnErr result (self.new ≡ []) }
+        ensures first { OnErr result
+            (GainsPrefix out.old.items out.new.items (reading (self.old ++ bytes.now))) }
     {
         let parser = &mut self.parser;
         if bytes.is_empty() {

@@ -1,3 +1,4 @@
 pub mod Begun
 pub mod Seen
 pub mod Ending
+pub mod Faults

@@ -3,3 +3,4 @@ pub mod Listing
 pub mod Network
 pub mod Ways
 pub mod Lends
+pub mod Rows

@@ -4,7 +4,9 @@
 mod carried;
 mod listing;
 mod patchbay;
+mod rows;
 mod sending;
 mod ways;
 
 pub use patchbay::Patchbay;
+pub use rows::worked_listing;

@@ -7,3 +7,4 @@ pub mod Blank
 pub mod Devices
 pub mod Laws
 pub mod Rows
+pub mod Faults

@@ -24,7 +24,7 @@ use Rattle.seq_state.proofs.Lists.{filter-agree, filter-true, list_all-filter}
 
 -- ---- other clients
 
-same_number : (n : ℕ) → eqb n n ≡ true
+pub same_number : (n : ℕ) → eqb n n ≡ true
 same_number n = eq-eqb n n refl
 
 -- what the actor has after a step: what its row says, or what it had
@@ -77,7 +77,7 @@ filter_in_queue : (client : Option Client) (m : ℕ) (o : Option Queue) (n : ℕ
 filter_in_queue None m o n = refl
 filter_in_queue (Some c) m o n = ap (λ x. FinMap.get x n) (filters-put_queue m o c)
 
-get-put_queue : (m : ℕ) (o : Option Queue) (c : Client) (n : ℕ) → FinMap.get (put_queue m o c).queues n ≡ cond (eqb n m) o (FinMap.get c.queues n)
+pub get-put_queue : (m : ℕ) (o : Option Queue) (c : Client) (n : ℕ) → FinMap.get (put_queue m o c).queues n ≡ cond (eqb n m) o (FinMap.get c.queues n)
 get-put_queue m None c n = get-put c.queues m None n
 get-put_queue m (Some q) c n = get-put c.queues m (Some q) n
 
@@ -203,7 +203,7 @@ edges_row a (Connect source target) = ap (λ es. es ++ new_edges (Connect source
 edges_row a command = none-lost a.actor a.edges ∙ sym (filter-true a.edges) ∙ sym (append-nil (filter (λ e. true) a.edges))
 
 -- a step that is not refused
-done : (files : List File) (s : State) (moment actor : ℕ) (command : Command) → refusal_of files s moment actor command ≡ None → command_step files s moment actor command ≡ effect_of files s moment actor command
+pub done : (files : List File) (s : State) (moment actor : ℕ) (command : Command) → refusal_of files s moment actor command ≡ None → command_step files s moment actor command ≡ effect_of files s moment actor command
 done files s moment actor command r = ap (λ o. unless o s (effect_of files s moment actor command)) r
 
 pub edges_law : EdgesLaw

@@ -15,5 +15,6 @@ pub mod Refused
 pub mod Lowest
 pub mod Ends
 pub mod Changes
+pub mod Sharing
 pub mod Circles
 pub mod Done

@@ -1,5 +1,5 @@
 -- What each command changes, by its name, and what it leaves as it is.
-use Rattle.std.specs.Prelude.{◌≡◌, ℕ, ◌==◌, nat_le, nat_lt, min, Bool, true, false, not, ◌&&◌, ◌||◌, List, [], ◌∷◌, ◌++◌, map, length, Option, Some, None}
+use Rattle.std.specs.Prelude.{◌≡◌, ℕ, ◌==◌, nat_le, nat_lt, min, Bool, true, false, not, ◌&&◌, ◌||◌, List, [], ◌∷◌, ◌++◌, map, length, Option, Some, None, is_some}
 use Rattle.std.specs.List.{filter, list_all, list_any}
 use Rattle.std.specs.FinMap
 use Rattle.node_table.specs.Addresses.{same_node}
@@ -15,11 +15,12 @@ use Rattle.seq_state.specs.declared.input.Command.TheVariants.{Open, Close, Crea
 use Rattle.seq_state.specs.declared.log.Arrival.{Arrival}
 use Rattle.seq_state.specs.declared.log.Reply.TheVariants.{Received}
 use Rattle.seq_state.specs.declared.refusal.Refusal.{Refusal}
+use Rattle.seq_state.specs.declared.refusal.Refusal.TheVariants.{NotYours}
 use Rattle.seq_state.specs.Files.{File}
 use Rattle.seq_state.specs.Refusals.{number_of}
-use Rattle.seq_state.specs.State.{Client, ClientPool, Pending, State}
+use Rattle.seq_state.specs.State.{Client, ClientPool, Pending, Queue, State}
 use Rattle.seq_state.specs.Own.{port_of, filter_of, queue_of, node_caps}
-use Rattle.seq_state.specs.Table.{Asked, Condition, command_row}
+use Rattle.seq_state.specs.Table.{Asked, Condition, command_row, queue_named}
 use Rattle.seq_state.specs.Step.{row_of, refusal_of, command_step}
 
 -- ---- the lowest refusal
@@ -179,3 +180,27 @@ ReceiveLaw =
     refusal_of files s moment actor (Receive max) ≡ None →
     (after : ClientPool) × (given : List Arrival) × (FinMap.get (command_step files s moment actor (Receive max)).state.pools actor ≡ Some after)
     × ((command_step files s moment actor (Receive max)).reply ≡ Received given) × Taken before after max given
+
+-- ---- shared queues
+
+-- the queue at this address, if it is there
+abbrev pub queue_at : State → QueueAddr → Option Queue
+queue_at s q = queue_of (FinMap.get s.clients q.client) q.queue
+
+-- a Share that is not refused finds the queue, and leaves it shared, whatever it was, and else as it was
+abbrev pub ShareLaw : Type 0
+ShareLaw =
+    (files : List File) (s : State) (moment actor : ℕ) (q : QueueAddr) →
+    refusal_of files s moment actor (Share q) ≡ None →
+    (before : Queue) × (queue_at s q ≡ Some before)
+    × (queue_at (command_step files s moment actor (Share q)).state q ≡ Some (record before { shared = true }))
+
+-- To who does not own it, a queue that is not shared is refused, whatever is to be done with it and
+-- whether it runs or is held: NotYours stands, and a refusal is told.
+abbrev pub NotYoursLaw : Type 0
+NotYoursLaw =
+    (files : List File) (s : State) (moment actor : ℕ) (command : Command) (q : QueueAddr) →
+    queue_named command ≡ Some q → (q.client == actor) ≡ false →
+    ((k : Queue) → queue_at s q ≡ Some k → k.shared ≡ false) →
+    (holds NotYours (row_of files s moment actor command).conditions ≡ true)
+    × (is_some (refusal_of files s moment actor command) ≡ true)

@@ -1,7 +1,7 @@
 //! What holds of the step and of circles, for all lists of inputs. These functions do nothing: their contracts are the
 //! laws.
 
-ghost use Rattle.seq_state.specs.Changes.{LowestLaw, OthersLaw, EdgesLaw, PendingLaw, ReceiveLaw};
+ghost use Rattle.seq_state.specs.Changes.{LowestLaw, OthersLaw, EdgesLaw, PendingLaw, ReceiveLaw, ShareLaw, NotYoursLaw};
 ghost use Rattle.seq_state.specs.Circle.{IsolationLaw};
 ghost use Rattle.seq_state.specs.Heard.{PortBytesLaw};
 ghost use Rattle.seq_state.specs.Laws.{OneInputLaw, PathLaw, SettlingLaw, DueLaw, SortLaw, MeetLaw, RefusedLaw, AgreeLaw, RisingLaw, ReadyLaw, BoundsLaw, CycleLaw, EndsLaw, FilledLaw, SourcesLaw, AllClosedLaw};
@@ -110,6 +110,16 @@ pub fn playbacks_that_go()
 /// What was waiting is what a Receive gives, and then what waits still; none is lost by it.
 pub fn receive_takes_the_oldest()
     ensures { ReceiveLaw }
+{}
+
+/// After a Share that is not refused the queue is shared, whatever it was before.
+pub fn share_opens_the_queue()
+    ensures { ShareLaw }
+{}
+
+/// A queue that is not shared is refused to all but its owner, whether it runs or not.
+pub fn private_queues_are_refused()
+    ensures { NotYoursLaw }
 {}
 
 /// In a closed circle the subscriptions to the owner's ports and the members' filters come from members.

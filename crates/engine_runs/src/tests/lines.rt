@@ -34,6 +34,9 @@ pub enum Say {
     /// A queue is named by its owner and its number, here and below.
     DeleteQueue(u8, u8),
     Start(u8, u8),
+    Stop(u8, u8),
+    /// And a tempo.
+    Tempo(u8, u8, u32),
     Status(u8, u8),
     Share(u8, u8),
     /// On queue 0 of a client, from the actor's port 0.
@@ -188,6 +191,10 @@ fn queue_command(said: Say) -> Option<Command> {
             queue_at(client, queue).map(|queue| Command::DeleteQueue { queue })
         }
         Start(client, queue) => queue_at(client, queue).map(|queue| Command::Start { queue }),
+        Stop(client, queue) => queue_at(client, queue).map(|queue| Command::Stop { queue }),
+        Tempo(client, queue, tempo) => {
+            queue_at(client, queue).map(|queue| Command::Tempo { queue, tempo })
+        }
         Status(client, queue) => {
             queue_at(client, queue).map(|queue| Command::QueueStatus { queue })
         }

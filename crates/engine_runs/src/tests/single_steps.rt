@@ -93,15 +93,3 @@ fn nobody_says_anything(rt: HostRuntime) -> Result<(), Fail> {
     assert!(rt; heard_by(alloc, &log, 128)?.as_str() == "");
     Ok(())
 }
-
-#[test]
-fn faults_print(rt: HostRuntime) -> Result<(), Fail> {
-    let faults = [
-        (EngineFault::OutOfMemory, "out of memory"),
-        (EngineFault::Failed, "an earlier call found no memory"),
-    ];
-    for (fault, text) in faults {
-        assert!(rt; format!(in rt.alloc(); "{fault}")?.as_str() == text);
-    }
-    Ok(())
-}

@@ -1,0 +1,98 @@
+-- Who is there, listed by hand.
+use Rattle.std.specs.Prelude.{◌≡◌, ℕ, pos, negsuc, Bool, true, false, List, [], ◌∷◌, ◌++◌, codes, Some, None}
+use Rattle.std.specs.Ordering.{nat_cmp}
+use Rattle.std.specs.FinMap
+use Rattle.std.specs.FinMap.{FinMap}
+use Rattle.tempo_clock.specs.Clocks.{Clock}
+use Rattle.node_table.specs.declared.number.Addr.{Addr}
+use Rattle.node_table.specs.declared.number.Node.{Node}
+use Rattle.node_table.specs.declared.number.Node.TheVariants.{Port, Filter}
+use Rattle.patch_graph.specs.declared.edge.Edge.{Edge}
+use Rattle.seq_state.specs.Own.{one_tempo}
+use Rattle.seq_state.specs.State.{PortInfo, FilterInfo, Queue, Client}
+use Rattle.seq_patchbay.specs.Listing.{listing}
+
+abbrev pub held_clock : Clock
+held_clock = record { map = one_tempo 480 500000; time = 0; since = None }
+
+abbrev pub running_clock : Clock
+running_clock = record { map = one_tempo 96 250000; time = 7; since = Some 5 }
+
+-- ports, filters and queues, put there in no order
+abbrev pub in_port : PortInfo
+in_port = record { name = codes "in~"; caps = record { 0 = 194 }; fed = 0x90 ∷ 0x3C ∷ [] }
+
+abbrev pub out_port : PortInfo
+out_port = record { name = codes "out"; caps = record { 0 = 33 }; fed = [] }
+
+abbrev pub studio_ports : FinMap nat_cmp PortInfo
+studio_ports = FinMap.insert (FinMap.insert FinMap.empty 15 out_port) 0 in_port
+
+abbrev pub drum_filter : FilterInfo
+drum_filter =
+    record {
+      caps = record { 0 = 3 };
+      rule = record { channels = 5; kinds = 3; low = 36; high = 96; shift = pos 12; channel = Some 9 };
+    }
+
+abbrev pub octave_filter : FilterInfo
+octave_filter =
+    record {
+      caps = record { 0 = 99 };
+      rule = record { channels = 65535; kinds = 1023; low = 0; high = 127; shift = negsuc 11; channel = None };
+    }
+
+abbrev pub studio_filters : FinMap nat_cmp FilterInfo
+studio_filters = FinMap.insert (FinMap.insert FinMap.empty 10 octave_filter) 1 drum_filter
+
+abbrev pub a_queue : Clock → Bool → Queue
+a_queue clock shared = record { clock = clock; shared = shared }
+
+abbrev pub studio_queues : FinMap nat_cmp Queue
+studio_queues =
+    FinMap.insert (FinMap.insert (FinMap.insert (FinMap.insert FinMap.empty 7 (a_queue running_clock true))
+    2 (a_queue held_clock true)) 1 (a_queue running_clock false)) 0 (a_queue held_clock false)
+
+abbrev pub studio : Client
+studio =
+    record {
+      name = codes "studio";
+      in_size = 2000;
+      out_size = 1;
+      ports = studio_ports;
+      filters = studio_filters;
+      queues = studio_queues;
+    }
+
+abbrev pub silent : Client
+silent =
+    record {
+      name = codes "z";
+      in_size = 1;
+      out_size = 10;
+      ports = FinMap.empty;
+      filters = FinMap.empty;
+      queues = FinMap.empty;
+    }
+
+abbrev pub everyone : FinMap nat_cmp Client
+everyone = FinMap.insert (FinMap.insert FinMap.empty 191 studio) 128 silent
+
+abbrev pub edge : Node → Node → Edge
+edge source target =
+    record { source = record { client = 191; node = source }; target = record { client = 191; node = target } }
+
+abbrev pub two_edges : List Edge
+two_edges = edge (Port 15) (Filter 10) ∷ edge (Filter 10) (Port 0) ∷ []
+
+abbrev pub everyone_text : List ℕ
+everyone_text =
+    codes "client 128 z in 1 out 10\nclient 191 studio in 2000 out 1\n"
+    ++ codes "port 191:p0 in~ 194\nport 191:p15 out 33\n"
+    ++ codes "filter 191:f1 3 5 3 36 96 12 9\nfilter 191:f10 99 65535 1023 0 127 -12\n"
+    ++ codes "queue 191:q0 stopped\nqueue 191:q1 running\nqueue 191:q2 stopped shared\n"
+    ++ codes "queue 191:q7 running shared\nedge 191:p15 191:f10\nedge 191:f10 191:p0\n"
+
+-- a line of each kind, in its place
+abbrev pub WorkedListing : Type 0
+WorkedListing = listing everyone two_edges ≡ everyone_text
