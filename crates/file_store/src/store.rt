@@ -31,8 +31,14 @@ pub trait FileStore {
     /// The writer begins a file for this path, and nothing was written to it.
     ghost IsBegun: { List ℕ → Self.Writer → Type 0 };
 
+    /// No file could be begun for this path.
+    ghost CannotBegin: { List ℕ → Type 0 };
+
     /// At this path stands what the writer wrote.
     ghost IsStored: { List ℕ → Self.Writer → Type 0 };
+
+    /// What was written could not be put at this path.
+    ghost CannotStore: { List ℕ → Type 0 };
 
     /// These paths lead to one file.
     ghost AreOne: { List ℕ → List ℕ → Type 0 };
@@ -55,11 +61,13 @@ pub trait FileStore {
     /// Begins a file for a path. What stands there stays until the file is stored.
     fn begin(&self, alloc: Global, path: &str) -> Result<Self::Writer, DeviceFault>
         ensures begun { IfOk result (λ w. IsBegun path.now w) }
+        ensures refused { IsErrOf result DeviceFault.Broken → CannotBegin path.now }
         ensures sound { IfOk result (λ w. Self.Writer.failed w ≡ false) };
 
     /// Puts a file that was written at its path, in place of what stood there.
     fn store(&self, path: &str, written: Self::Writer) -> Result<(), DeviceFault>
-        ensures { OnOk result (IsStored path.now written) };
+        ensures stored { OnOk result (IsStored path.now written) }
+        ensures refused { OnErr result (CannotStore path.now) };
 
     /// Lets a file go that was begun. What stands at its path stays.
     fn discard(&self, begun: Self::Writer);

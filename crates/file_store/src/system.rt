@@ -102,7 +102,11 @@ impl<R: Files + AllocGlobal + Clone + Drop> FileStore for SystemFiles<R> {
 
     ghost IsBegun = { λ _ _. Unit {0} };
 
+    ghost CannotBegin = { λ _. Unit {0} };
+
     ghost IsStored = { λ _ _. Unit {0} };
+
+    ghost CannotStore = { λ _. Unit {0} };
 
     ghost AreOne = { λ _ _. Unit {0} };
 

@@ -1,5 +1,5 @@
 -- What the command line gives the subcommands that run scripts.
-use Rattle.std.specs.Prelude.{◌≡◌, ℕ, Bool, true, false, List, [], Option, Some, None, map, codes, unwrap_or}
+use Rattle.std.specs.Prelude.{◌≡◌, ◌≢◌, ℕ, Bool, true, false, List, [], Option, Some, None, map, codes, unwrap_or}
 use Rattle.std.specs.Option.{option_map}
 use Rattle.clap.specs.declared.parser.matches.Found.{Found}
 use Rattle.clap.specs.Matches.{first_value, matched_of, one_text, raw_values}
@@ -8,6 +8,9 @@ use Rattle.session_tools.specs.Words.{port_named, scripts_named, scripts_seen}
 use Rattle.session_files.specs.declared.recording.Recording.{Recording}
 use Rattle.session_files.specs.declared.session.Session.{Session}
 use Rattle.session_files.specs.Subcommands.{IsRunPrinted, IsRunRecorded}
+use Rattle.session_files.specs.Tasks.{IsDone}
+use Rattle.tool_text.specs.declared.choice.Task.{Task}
+use Rattle.tool_text.specs.Program.{tool_name, IsNamedBy}
 
 -- the first value of an option, and no text where it has none
 abbrev pub text_of : Found → List ℕ → List ℕ
@@ -28,20 +31,46 @@ pub record IsFlag (found : Found) (id : List ℕ) (given : Bool) : Type 0 where
 module _ {R W : Type 0} (IsOpened : List ℕ → R → Type 0) (HasLeft : R → List ℕ → Type 0) (CannotOpen : List ℕ → Type 0)
     (failed : R → Bool) (HasNames : List ℕ → List (List ℕ) → Type 0) where
   -- The session of these words was printed, with the listing where --list is given.
-  pub record RunsAsGiven (HasTaken : W → List ℕ → Type 0) (found : Found) (old new : W) : Type 0 where
+  pub record RunsAsGiven {N : Type 0} (HasTaken : W → List ℕ → Type 0) (HasTold : N → List ℕ → Type 0) (found : Found)
+      (old new : W) (before after : N) : Type 0 where
     pub session : Session
     pub given : IsGiven found session
     pub listed : Bool
     pub flag : IsFlag found (codes "list") listed
-    pub printed : IsRunPrinted IsOpened HasLeft CannotOpen failed HasNames HasTaken session listed old new
+    pub printed : IsRunPrinted IsOpened HasLeft CannotOpen failed HasNames HasTaken HasTold session listed
+        old new before after
 
   -- The session of these words was recorded: the port of --port, as --raw says, to the file of --out.
-  pub record RecordsAsGiven (IsBegun : List ℕ → W → Type 0) (HasTaken : W → List ℕ → Type 0)
-      (IsStored : List ℕ → W → Type 0) (found : Found) : Type 0 where
+  pub record RecordsAsGiven {N : Type 0} (IsBegun : List ℕ → W → Type 0) (HasTaken : W → List ℕ → Type 0)
+      (IsStored : List ℕ → W → Type 0) (HasTold : N → List ℕ → Type 0) (found : Found)
+      (before after : N) : Type 0 where
     pub session : Session
     pub given : IsGiven found session
     pub recording : Recording
     pub port : Some recording.port ≡ port_named (text_of found (codes "port"))
     pub flag : IsFlag found (codes "raw") recording.raw
     pub path : recording.path.now ≡ text_of found (codes "out")
-    pub recorded : IsRunRecorded IsOpened HasLeft CannotOpen failed HasNames IsBegun HasTaken IsStored session recording
+    pub recorded : IsRunRecorded IsOpened HasLeft CannotOpen failed HasNames IsBegun HasTaken IsStored HasTold
+        session recording before after
+
+-- The tool of this name has done its work on the stream that the word FILE names, or without one on standard input.
+pub record ToolDoesAsGiven {R I W : Type 0} (IsOpened : List ℕ → R → Type 0) (HasLeft : R → List ℕ → Type 0)
+    (HasInput : I → List ℕ → Type 0) (HasTaken : W → List ℕ → Type 0) (name : List ℕ) (found : Found)
+    (before after : I) (old new : W) : Type 0 where
+  pub task : Task
+  pub tool : tool_name task.tool ≡ name
+  pub stream : IsNamedBy task.stream (unwrap_or (first_value found (codes "FILE")) (codes "-"))
+  pub done : IsDone IsOpened HasLeft HasInput HasTaken task before after old new
+
+-- What each subcommand does: run prints, record writes a file, and each other is a tool's.
+pub record DoesAsGiven {R V I W N : Type 0} (IsOpened : List ℕ → R → Type 0) (HasLeft : R → List ℕ → Type 0)
+    (CannotOpen : List ℕ → Type 0) (failed : R → Bool) (HasNames : List ℕ → List (List ℕ) → Type 0)
+    (IsBegun : List ℕ → V → Type 0) (HasWritten : V → List ℕ → Type 0) (IsStored : List ℕ → V → Type 0)
+    (HasInput : I → List ℕ → Type 0) (HasTaken : W → List ℕ → Type 0) (HasTold : N → List ℕ → Type 0)
+    (name : List ℕ) (found : Found) (asked left : I) (old new : W) (before after : N) : Type 0 where
+  pub ran : name ≡ codes "run" →
+      RunsAsGiven IsOpened HasLeft CannotOpen failed HasNames HasTaken HasTold found old new before after
+  pub recorded : name ≡ codes "record" →
+      RecordsAsGiven IsOpened HasLeft CannotOpen failed HasNames IsBegun HasWritten IsStored HasTold found before after
+  pub tool : name ≢ codes "run" → name ≢ codes "record" →
+      ToolDoesAsGiven IsOpened HasLeft HasInput HasTaken name found asked left old new

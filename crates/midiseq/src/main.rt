@@ -2,6 +2,7 @@
 #![tactic(auto)]
 
 mod sessions;
+mod subcommands;
 mod words;
 
 use byte_io::{StdSink, StdSource};
@@ -13,23 +14,16 @@ use std::alloc::{AllocError, Global};
 use std::process::ExitCode;
 use std::rt::{Env, Files};
 use std::{env, io};
-use tool_text::{ProgramFault, STANDARD, Task};
+use tool_text::{Ended, Notes, ProgramFault, STANDARD, StandardError, Task, finish};
 
 fn main(rt: HostRuntime) -> ExitCode {
+    let mut notes = StandardError::new(&rt);
     let words = match read_words(&rt) {
         Ok(words) => words,
-        Err(fault) => return failed(&rt, fault),
+        Err(fault) => return ExitCode::from(finish(Err(fault), &mut notes)),
     };
-    match program(&rt, words.as_slice()) {
-        Ok(code) => code,
-        Err(fault) => failed(&rt, fault),
-    }
-}
-
-/// Tells a fault, and gives its status.
-fn failed(rt: &impl Eprint, fault: ProgramFault<'_>) -> ExitCode {
-    let _ = eprintln!(rt; "midiseq: {fault}");
-    ExitCode::from(fault.status())
+    let ended = program(&rt, words.as_slice(), &mut notes);
+    ExitCode::from(finish(ended, &mut notes))
 }
 
 /// The words of the command line, of which the first is the program's name.
@@ -60,60 +54,36 @@ fn parse<'a>(
 fn program<'a>(
     rt: &(impl Files + Input + Print + Eprint + AllocGlobal + Clone + Drop),
     words: &'a [String],
-) -> Result<ExitCode, ProgramFault<'a>> {
+    notes: &mut impl Notes,
+) -> Result<Ended, ProgramFault<'a>> {
+    let alloc = rt.alloc();
+    let store = SystemFiles::new(rt.clone()?);
+    let mut input = StdSource::new(rt.reader());
+    let mut out = StdSink::new(io::writer(rt));
     if words.len() <= 1 {
-        return on_streams(rt, Task::without_words());
+        perform(alloc, &store, Task::without_words(), &mut input, &mut out)?;
+        return Ok(Ended::Done);
     }
-    match parse(rt.alloc(), words)? {
+    match parse(alloc, words)? {
         Ok(matches) => {
             let Some((name, found)) = matches.subcommand() else {
                 return Err(ProgramFault::NoSubcommand);
             };
-            subcommand(rt, name, found)
+            subcommands::perform(alloc, &store, name, found, &mut input, &mut out, notes)?;
+            Ok(Ended::Done)
         }
-        Err(error) => {
-            if error.kind() == ErrorKind::OutOfMemory {
-                return Err(ProgramFault::OutOfMemory);
-            }
-            // What goes to standard output is what was asked for; of what goes to standard error nobody could be told.
-            if error.print(rt).is_err() && !error.use_stderr() {
-                return Err(ProgramFault::CannotWrite(STANDARD));
-            }
-            Ok(ExitCode::from(error.exit_code() as u8))
-        }
+        Err(error) => shown(rt, &error),
     }
 }
 
-#[inline(never)]
-fn subcommand<'a>(
-    rt: &(impl Files + Input + Print + Eprint + AllocGlobal + Clone + Drop),
-    name: &str,
-    found: &ArgMatches<'a>,
-) -> Result<ExitCode, ProgramFault<'a>> {
-    let store = SystemFiles::new(rt.clone()?);
-    match name {
-        "run" => sessions::run(rt, &store, found, &mut StdSink::new(io::writer(rt)))?,
-        "record" => sessions::record(rt, &store, found)?,
-        _ => {
-            let file = found.get_str("FILE").unwrap_or(STANDARD);
-            let Some(task) = Task::of_words(name, file) else {
-                return Err(ProgramFault::NoSubcommand);
-            };
-            return on_streams(rt, task);
-        }
+/// Shows what clap says of the words: help, the version, or what is wrong with them.
+fn shown(rt: &(impl Print + Eprint), error: &clap::Error) -> Result<Ended, ProgramFault<'static>> {
+    if error.kind() == ErrorKind::OutOfMemory {
+        return Err(ProgramFault::OutOfMemory);
     }
-    Ok(ExitCode::SUCCESS)
-}
-
-/// Does a task on the standard streams.
-#[inline(never)]
-fn on_streams<'a>(
-    rt: &(impl Files + Input + Print + AllocGlobal + Clone + Drop),
-    task: Task<'a>,
-) -> Result<ExitCode, ProgramFault<'a>> {
-    let store = SystemFiles::new(rt.clone()?);
-    let mut input = StdSource::new(rt.reader());
-    let mut out = StdSink::new(io::writer(rt));
-    perform(rt.alloc(), &store, task, &mut input, &mut out)?;
-    Ok(ExitCode::SUCCESS)
+    // What goes to standard output is what was asked for; of what goes to standard error nobody could be told.
+    if error.print(rt).is_err() && !error.use_stderr() {
+        return Err(ProgramFault::CannotWrite(STANDARD));
+    }
+    Ok(Ended::Shown(error.exit_code() as u8))
 }

@@ -12,7 +12,7 @@ use file_store::FileStore;
 use session_files::{Recording, Session};
 use session_tools::port_named;
 use std::alloc::Global;
-use tool_text::ProgramFault;
+use tool_text::{Notes, ProgramFault};
 
 /// The session that the words of `run` and `record` say alike.
 fn session_of<'a>(alloc: Global, found: &ArgMatches<'a>) -> Result<Session<'a>, ProgramFault<'a>>
@@ -25,31 +25,35 @@ fn session_of<'a>(alloc: Global, found: &ArgMatches<'a>) -> Result<Session<'a>, 
 }
 
 /// Runs the scripts, and prints each client's log and, where asked for, who is there at the end.
-pub(crate) fn run<'a, S: FileStore, W: Sink>(
-    rt: &(impl Eprint + AllocGlobal),
+pub(crate) fn run<'a, S: FileStore, W: Sink, N: Notes>(
+    alloc: Global,
     store: &S,
     found: &ArgMatches<'a>,
     out: &mut W,
+    notes: &mut N,
 ) -> Result<(), ProgramFault<'a>>
     requires { W.failed out.old ≡ false }
     ensures { OnOk result (RunsAsGiven S.IsOpened S.Reader.HasLeft S.CannotOpen S.Reader.failed
-        S.HasNames W.HasTaken (found_of found.now) out.old out.new) }
+        S.HasNames W.HasTaken N.HasTold (found_of found.now)
+        out.old out.new notes.old notes.new) }
 {
-    let session = session_of(rt.alloc(), found)?;
+    let session = session_of(alloc, found)?;
     let listed = found.get_flag("list");
-    session_files::run(rt, store, &session, listed, out)
+    session_files::run(alloc, store, &session, listed, out, notes)
 }
 
 /// Runs the scripts, and writes what came to a port to a file, once all else is done.
-pub(crate) fn record<'a, S: FileStore>(
-    rt: &(impl Eprint + AllocGlobal),
+pub(crate) fn record<'a, S: FileStore, N: Notes>(
+    alloc: Global,
     store: &S,
     found: &ArgMatches<'a>,
+    notes: &mut N,
 ) -> Result<(), ProgramFault<'a>>
     ensures { OnOk result (RecordsAsGiven S.IsOpened S.Reader.HasLeft S.CannotOpen S.Reader.failed
-        S.HasNames S.IsBegun S.Writer.HasTaken S.IsStored (found_of found.now)) }
+        S.HasNames S.IsBegun S.Writer.HasTaken S.IsStored N.HasTold (found_of found.now)
+        notes.old notes.new) }
 {
-    let session = session_of(rt.alloc(), found)?;
+    let session = session_of(alloc, found)?;
     let word = found.get_str("port").unwrap_or("");
     let Some(port) = port_named(word) else {
         return Err(ProgramFault::NotAPort(word));
@@ -59,5 +63,5 @@ pub(crate) fn record<'a, S: FileStore>(
         raw: found.get_flag("raw"),
         path: found.get_str("out").unwrap_or(""),
     };
-    session_files::record(rt, store, &session, &recording)
+    session_files::record(alloc, store, &session, &recording, notes)
 }

@@ -1,11 +1,11 @@
 -- What was read of files that were opened by their paths.
-use Rattle.std.proofs.Common.{◌≡◌, ℕ, ◌+◌, ◌<◌, Bool, List, [], ◌∷◌, ◌++◌, ◌∙◌, length, map, take, get_or, Option, Some, None, refl, sym, ap, subst}
+use Rattle.std.proofs.Common.{◌≡◌, ℕ, ◌+◌, ◌<◌, Bool, List, [], ◌∷◌, ◌++◌, ◌∙◌, length, map, take, get_or, Option, Some, None, refl, sym, ap, subst, inl, inr}
 use Rattle.std.proofs.lemmas.List.{map_more, take_more}
 use Rattle.seq_session.specs.declared.source.Script.{Script}
 use Rattle.seq_session.specs.declared.source.ScriptSource.{ScriptSource}
 use Rattle.seq_session.specs.Devices.{AreRead}
 use Rattle.session_tools.specs.declared.words.ScriptWord.{ScriptWord}
-use Rattle.session_files.specs.Apart.{AreFilesApart}
+use Rattle.session_files.specs.Apart.{AreFilesApart, IsOneFile}
 use Rattle.session_files.specs.Opened.{AreOfFiles, AreSourcesOf, IsContent, AreContents, path_in}
 
 -- ---- scripts
@@ -73,3 +73,11 @@ module _ {R : Type 0} (IsOpened : List ℕ → R → Type 0) (HasLeft : R → Li
 pub files_apart : {N : Type 0} (AreApart : List ℕ → List ℕ → Type 0) (path folder : List ℕ) (name_of : N → List ℕ) (names more : List N) (first : N) → names ≡ first ∷ more →
     AreApart path (path_in folder (name_of first)) → AreFilesApart AreApart path folder (map name_of more) → AreFilesApart AreApart path folder (map name_of names)
 files_apart AreApart path folder name_of names more first e here h = rw e (here, h)
+
+-- a path that leads to the first file, or to one of the others
+module _ {N : Type 0} (AreOne : List ℕ → List ℕ → Type 0) (path folder : List ℕ) (name_of : N → List ℕ) (names more : List N) (first : N) (e : names ≡ first ∷ more) where
+  pub one_file_here : AreOne path (path_in folder (name_of first)) → IsOneFile AreOne path folder (map name_of names)
+  one_file_here here = rw e (inl here)
+
+  pub one_file_more : IsOneFile AreOne path folder (map name_of more) → IsOneFile AreOne path folder (map name_of names)
+  one_file_more h = rw e (inr h)

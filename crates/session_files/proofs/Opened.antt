@@ -1,6 +1,6 @@
 -- The scripts of a session, opened one after another.
 use Rattle.std.proofs.Common.{◌≡◌, ℕ, zero, suc, ◌+◌, ◌<◌, ◌≤◌, Bool, true, false, nat_eq, ◌||◌, List, [], ◌∷◌, ◌++◌, length, map, take, slice_index_or, refl, sym, ap, ◌∙◌, arith}
-use Rattle.std.specs.Prelude.{◌==◌}
+use Rattle.std.specs.Prelude.{◌==◌, Contains}
 use Rattle.std.specs.List.{AllByRecursion, list_any}
 use Rattle.std.proofs.lemmas.Bool.{false≢true}
 use Rattle.std.proofs.lemmas.List.{take_more}
@@ -9,6 +9,7 @@ use Rattle.std.proofs.Math.Seq.{take-length}
 use Rattle.seq_session.specs.declared.source.ScriptSource.{ScriptSource}
 use Rattle.seq_session.specs.Devices.{clients, IsAmong}
 use Rattle.session_tools.specs.declared.words.ScriptWord.{ScriptWord}
+use Rattle.session_tools.specs.Words.{scripts_seen, seen_script}
 use Rattle.session_files.specs.Sessions.{owners}
 
 pub all-more : {X : Type 0} (P : X → Type 0) (xs : List X) (x : X) → AllByRecursion P xs → P x → AllByRecursion P (xs ++ x ∷ [])
@@ -40,6 +41,13 @@ module _ (scripts : List ScriptWord) (i : ℕ) (t : ScriptWord) (here : t ≡ sl
 -- who is among the clients is not among none of them
 pub is-among-some : (scripts xs : List ScriptWord) (client i : ℕ) → IsAmong client (owners scripts) → xs ≡ scripts → i ≤ length xs → length xs ≤ i → list_any (λ c. c == client) (owners (take i xs)) ≡ false → ⊥
 is-among-some scripts xs client i among e l g none = false≢true (sym none ∙ ap (λ ys. list_any (λ c. c == client) (owners ys)) (take-all i xs l g ∙ e) ∙ among)
+
+-- a script among those of the words
+pub script-at : (words : List ScriptWord) (i : ℕ) (w : ScriptWord) → i < length words → w ≡ slice_index_or words i w → Contains (scripts_seen words) (w.client, w.path.now)
+script-at [] i w l e = absurd (omega arith)
+script-at (v ∷ words) zero w l e = (0, omega arith, ap seen_script (sym e))
+script-at (v ∷ words) (suc i) w l e =
+    let h : Contains (scripts_seen words) (w.client, w.path.now) = script-at words i w (omega arith) e in (suc h.0, omega (arith, h.1), h.2)
 
 pub take-short : {X : Type 0} (n : ℕ) (xs : List X) → length (take n xs) ≤ n
 take-short zero xs = omega arith

@@ -1,5 +1,5 @@
--- A path that leads to no file that a session reads.
-use Rattle.std.specs.Prelude.{ℕ, List, [], ◌∷◌, Option, Some, None}
+-- Whether a path leads to a file that a session reads.
+use Rattle.std.specs.Prelude.{ℕ, ◌⊎◌, List, [], ◌∷◌, Option, Some, None}
 use Rattle.session_tools.specs.declared.words.ScriptWord.{ScriptWord}
 use Rattle.session_files.specs.Opened.{path_in}
 
@@ -24,3 +24,25 @@ pub record IsApart (AreApart : List ℕ → List ℕ → Type 0) (path : List �
     (folder : Option (List ℕ)) (names : List (List ℕ)) : Type 0 where
   pub scripts : AreScriptsApart AreApart path words
   pub files : AreApartIn AreApart path folder names
+
+-- the path and that of some script lead to one file
+abbrev pub IsOneScript : (List ℕ → List ℕ → Type 0) → List ℕ → List ScriptWord → Type 0
+IsOneScript AreOne path [] = ⊥
+IsOneScript AreOne path (w ∷ words) = AreOne path w.path.now ⊎ IsOneScript AreOne path words
+
+-- so do the path and one of these names in a folder
+abbrev pub IsOneFile : (List ℕ → List ℕ → Type 0) → List ℕ → List ℕ → List (List ℕ) → Type 0
+IsOneFile AreOne path folder [] = ⊥
+IsOneFile AreOne path folder (name ∷ names) =
+    AreOne path (path_in folder name) ⊎ IsOneFile AreOne path folder names
+
+-- in the session's folder, if it has one
+abbrev pub IsOneIn : (List ℕ → List ℕ → Type 0) → List ℕ → Option (List ℕ) → List (List ℕ) → Type 0
+IsOneIn AreOne path None names = ⊥
+IsOneIn AreOne path (Some folder) names = IsOneFile AreOne path folder names
+
+-- the path leads to a script of the session, or to one of these files in its folder
+abbrev pub IsShared : (List ℕ → List ℕ → Type 0) → List ℕ → List ScriptWord →
+    Option (List ℕ) → List (List ℕ) → Type 0
+IsShared AreOne path words folder names =
+    IsOneScript AreOne path words ⊎ IsOneIn AreOne path folder names

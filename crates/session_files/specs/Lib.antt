@@ -1,4 +1,5 @@
 pub mod Apart
+pub mod Faults
 pub mod Opened
 pub mod Printed
 pub mod Recorded

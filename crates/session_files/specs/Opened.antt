@@ -7,8 +7,6 @@ use Rattle.seq_session.specs.declared.source.Script.{Script}
 use Rattle.seq_session.specs.declared.source.ScriptSource.{ScriptSource}
 use Rattle.session_tools.specs.declared.words.ScriptWord.{ScriptWord}
 use Rattle.session_tools.specs.Folder.{AreMidiFiles}
-use Rattle.tool_text.specs.declared.program_fault.ProgramFault.{ProgramFault}
-use Rattle.tool_text.specs.declared.program_fault.ProgramFault.TheVariants.{OutOfMemory, CannotRead}
 
 -- Each source is of the client that a word names, and was opened at the path that it names.
 abbrev pub AreSourcesOf : {R : Type 0} → (List ℕ → R → Type 0) → List ScriptWord → List (ScriptSource R) → Type 0
@@ -16,18 +14,6 @@ AreSourcesOf IsOpened (w ∷ words) (s ∷ sources) =
     (s.client ≡ w.client) × IsOpened w.path.now s.reader × AreSourcesOf IsOpened words sources
 AreSourcesOf IsOpened [] [] = Unit {0}
 AreSourcesOf IsOpened _ _ = ⊥
-
--- The fault is that of a file that could not be opened, or of memory.
-abbrev pub IsOfOpening : (List ℕ → Type 0) → ProgramFault → Type 0
-IsOfOpening CannotOpen (CannotRead path) = CannotOpen path.now
-IsOfOpening CannotOpen OutOfMemory = Unit {0}
-IsOfOpening CannotOpen _ = ⊥
-
--- The fault is that of a folder that could not be listed, or of memory.
-abbrev pub IsOfListing : (List ℕ → Type 0) → ProgramFault → Type 0
-IsOfListing CannotList (CannotRead path) = CannotList path.now
-IsOfListing CannotList OutOfMemory = Unit {0}
-IsOfListing CannotList _ = ⊥
 
 -- a file in a folder
 abbrev pub path_in : List ℕ → List ℕ → List ℕ
@@ -53,17 +39,21 @@ module _ {R : Type 0} (IsOpened : List ℕ → R → Type 0) (HasLeft : R → Li
   -- ---- the files of a folder
 
   module _ (CannotOpen : List ℕ → Type 0) (failed : R → Bool) where
-    -- No file could be opened at this path, or a read of it failed.
-    pub record IsUnreadable (path : List ℕ) : Type 0 where
+    -- A read of the file at this path failed.
+    pub record IsBroken (path : List ℕ) : Type 0 where
       pub before : R
       pub after : R
       pub opened : IsOpened path before
       pub broken : failed after ≡ true
 
+    -- No file could be opened at this path, or a read of it failed.
+    abbrev pub IsUnreadable : List ℕ → Type 0
+    IsUnreadable path = CannotOpen path ⊎ IsBroken path
+
     -- what was read of the file at a path, if it could be read
     abbrev pub IsContent : List ℕ → Option (List ℕ) → Type 0
     IsContent path (Some bytes) = IsOfFile (most_bytes + 1) path bytes
-    IsContent path None = CannotOpen path ⊎ IsUnreadable path
+    IsContent path None = IsUnreadable path
 
     -- so of each of these names in a folder
     abbrev pub AreContents : List ℕ → List (List ℕ) → List (Option (List ℕ)) → Type 0
@@ -74,12 +64,14 @@ module _ {R : Type 0} (IsOpened : List ℕ → R → Type 0) (HasLeft : R → Li
 
     -- The names are those of a folder that end in `.mid`, and the contents those of the first of them; where no folder
     -- is named there are none.
-    pub record IsListed (HasNames : List ℕ → List (List ℕ) → Type 0) (folder : List ℕ) (names : List (List ℕ)) (contents : List (Option (List ℕ))) : Type 0 where
+    pub record IsListed (HasNames : List ℕ → List (List ℕ) → Type 0) (folder : List ℕ)
+        (names : List (List ℕ)) (contents : List (Option (List ℕ))) : Type 0 where
       pub entries : List (List ℕ)
       pub listed : HasNames folder entries
       pub files : AreMidiFiles entries names
       pub read : AreContents folder (take MOST_FILES names) contents
 
-    abbrev pub IsFolder : (List ℕ → List (List ℕ) → Type 0) → Option (List ℕ) → List (List ℕ) → List (Option (List ℕ)) → Type 0
+    abbrev pub IsFolder : (List ℕ → List (List ℕ) → Type 0) → Option (List ℕ) →
+        List (List ℕ) → List (Option (List ℕ)) → Type 0
     IsFolder HasNames None names contents = names ≡ []
     IsFolder HasNames (Some folder) names contents = IsListed HasNames folder names contents

@@ -1,8 +1,8 @@
 //! Whether a file is one that a session reads.
 
-ghost use Rattle.std.specs.Prelude.{◌≡◌, true, map, string_bytes, IfOk};
+ghost use Rattle.std.specs.Prelude.{◌≡◌, true, false, map, string_bytes, IfOk};
 ghost use Rattle.std.specs.Option.{option_map};
-ghost use Rattle.session_files.specs.Apart.{AreScriptsApart, AreFilesApart, IsApart};
+ghost use Rattle.session_files.specs.Apart.{AreScriptsApart, AreFilesApart, IsApart, IsOneScript, IsOneFile, IsShared};
 
 use crate::folder::path_in;
 use crate::session::Session;
@@ -20,7 +20,10 @@ pub(crate) fn is_apart<S: FileStore>(
     session: &Session<'_>,
     names: &[String],
 ) -> Result<bool, OutOfMemory>
-    ensures { IfOk result (λ apart. apart ≡ true → IsApart S.AreApart path.now
+    ensures apart { IfOk result (λ apart. apart ≡ true → IsApart S.AreApart path.now
+        session.now.scripts.items (option_map (λ d. d.now) session.now.dir)
+        (map string_bytes names.now)) }
+    ensures shared { IfOk result (λ apart. apart ≡ false → IsShared S.AreOne path.now
         session.now.scripts.items (option_map (λ d. d.now) session.now.dir)
         (map string_bytes names.now)) }
 {
@@ -34,7 +37,8 @@ pub(crate) fn is_apart<S: FileStore>(
 }
 
 fn is_no_script<S: FileStore>(store: &S, path: &str, scripts: &[ScriptWord<'_>]) -> bool
-    ensures { result ≡ true → AreScriptsApart S.AreApart path.now scripts.now }
+    ensures apart { result ≡ true → AreScriptsApart S.AreApart path.now scripts.now }
+    ensures one { result ≡ false → IsOneScript S.AreOne path.now scripts.now }
 {
     match scripts.split_first() {
         Some((first, more)) => {
@@ -51,8 +55,10 @@ fn is_no_file<S: FileStore>(
     dir: &str,
     names: &[String],
 ) -> Result<bool, OutOfMemory>
-    ensures { IfOk result (λ apart. apart ≡ true
+    ensures apart { IfOk result (λ apart. apart ≡ true
         → AreFilesApart S.AreApart path.now dir.now (map string_bytes names.now)) }
+    ensures one { IfOk result (λ apart. apart ≡ false
+        → IsOneFile S.AreOne path.now dir.now (map string_bytes names.now)) }
 {
     let Some((first, more)) = names.split_first() else {
         return Ok(true);

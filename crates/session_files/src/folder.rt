@@ -1,11 +1,14 @@
 //! The files of a folder, for a run to play.
 
-ghost use Rattle.std.specs.Prelude.{◌≡◌, ◌≤◌, ◌+◌, length, take, map, string_bytes, IfOk, IfErr};
+ghost use Rattle.std.specs.Prelude.{◌≡◌, ◌≤◌, ◌+◌, ◌++◌, Some, length, take, drop, map, string_bytes, IfOk, IfErr, OnErr};
 ghost use Rattle.std.specs.Option.{option_map};
+ghost use Rattle.byte_io.specs.Moved.{Took};
 ghost use Rattle.script_text.specs.declared.script.TheConstants.{MOST_FILES};
 ghost use Rattle.session_tools.specs.Folder.{bytes_read, seen_files, AreOpened};
-ghost use Rattle.session_files.specs.Opened.{path_in, IsContent, IsFolder, IsOfListing};
+ghost use Rattle.session_files.specs.Faults.{IsOfMemory, IsOfListing};
+ghost use Rattle.session_files.specs.Opened.{path_in, IsContent, IsFolder};
 ghost use Rattle.smf_grammar.specs.Played.{played};
+ghost use Rattle.tool_text.specs.Program.{left_out_lines};
 
 use byte_io::{DeviceFault, Source, read_to};
 use file_store::FileStore;
@@ -13,7 +16,7 @@ use memory::OutOfMemory;
 use seq_session::NamedFiles;
 use session_tools::{FolderFiles, midi_files, open_files, taken_files};
 use std::alloc::Global;
-use tool_text::{LeftOut, ProgramFault};
+use tool_text::{LeftOut, Notes, ProgramFault};
 
 /// One byte more than a Standard MIDI File may have.
 const MOST_READ: usize = 16_777_217;
@@ -38,7 +41,8 @@ impl Folder {
         ensures read { IfOk result (λ f. IsFolder S.IsOpened S.Reader.HasLeft S.CannotOpen
             S.Reader.failed S.HasNames (option_map (λ d. d.now) dir.entry)
             (map string_bytes f.names.items) (map bytes_read f.contents.items)) }
-        ensures fault { IfErr result (IsOfListing S.CannotList) }
+        ensures fault { IfErr result (IsOfListing S.CannotList
+            (option_map (λ d. d.now) dir.entry)) }
     {
         let mut contents = Vec::new(alloc);
         let Some(dir) = dir else {
@@ -53,33 +57,50 @@ impl Folder {
         Ok(Folder { names, contents })
     }
 
-    /// Opens the files, and tells of each one that is left out.
-    pub fn open<'f>(
+    /// Opens the files, and tells of each one that is left out: first of those that cannot be played, then of those
+    /// beyond the first 256.
+    pub fn open<'f, N: Notes>(
         &'f self,
-        rt: &(impl Eprint + AllocGlobal),
+        alloc: Global,
+        notes: &mut N,
     ) -> Result<FolderFiles<'f>, ProgramFault<'static>>
         ensures opened { IfOk result (λ o. AreOpened
             (map string_bytes (take MOST_FILES self.now.names.items))
             (map bytes_read self.now.contents.items) (seen_files o)) }
         ensures as_many { IfOk result (λ o. length o.names.items ≡ length o.files.items) }
         ensures few { IfOk result (λ o. length o.names.items ≤ MOST_FILES) }
-        ensures fault { IfErr result (λ e. e ≡ ProgramFault.OutOfMemory) }
+        ensures told { IfOk result (λ o. Took N.HasTold notes.old
+            (left_out_lines ((seen_files o).left_out
+            ++ map string_bytes (drop MOST_FILES self.now.names.items))) notes.new) }
+        ensures untold { OnErr result (notes.new ≡ notes.old) }
+        ensures fault { IfErr result IsOfMemory }
     {
         let (taken, rest) = taken_files(self.names.as_slice());
-        let opened = open_files(rt.alloc(), taken, self.contents.as_slice())?;
-        for name in &opened.left_out {
-            tell_left_out(rt, name);
-        }
-        for name in rest {
-            tell_left_out(rt, name.as_str());
-        }
+        let opened = open_files(alloc, taken, self.contents.as_slice())?;
+        tell_unplayable(notes, opened.left_out.as_slice());
+        tell_beyond(notes, rest);
         Ok(opened)
     }
 }
 
-fn tell_left_out(rt: &impl Eprint, name: &str) {
-    let note = LeftOut(name);
-    let _ = eprintln!(rt; "midiseq: {note}");
+/// Tells of the files that cannot be played.
+fn tell_unplayable<N: Notes>(notes: &mut N, names: &[&str])
+    ensures { Took N.HasTold notes.old
+        (left_out_lines (map (λ name. name.now) names.now)) notes.new }
+{
+    if let Some((first, more)) = names.split_first() {
+        notes.tell(LeftOut(first));
+        tell_unplayable(notes, more);
+    }
+}
+
+/// Tells of the files beyond those that a run takes.
+fn tell_beyond<N: Notes>(notes: &mut N, names: &[String])
+    ensures { Took N.HasTold notes.old (left_out_lines (map string_bytes names.now)) notes.new }
+{
+    for name in names {
+        notes.tell(LeftOut(name.as_str()));
+    }
 }
 
 /// The names in a folder, but for those that are not UTF-8.
@@ -89,7 +110,7 @@ fn names_in<'a, S: FileStore>(
     dir: &'a str,
 ) -> Result<Vec<String>, ProgramFault<'a>>
     ensures listed { IfOk result (λ names. S.HasNames dir.now (map string_bytes names.items)) }
-    ensures fault { IfErr result (IsOfListing S.CannotList) }
+    ensures fault { IfErr result (IsOfListing S.CannotList (Some dir.now)) }
 {
     match store.names(alloc, dir) {
         Ok(names) => Ok(names),
@@ -114,7 +135,7 @@ fn content_of<S: FileStore>(
 ) -> Result<Option<Vec<u8>>, ProgramFault<'static>>
     ensures read { IfOk result (λ content. IsContent S.IsOpened S.Reader.HasLeft S.CannotOpen
         S.Reader.failed (path_in dir.now name.now) (bytes_read content)) }
-    ensures fault { IfErr result (λ e. e ≡ ProgramFault.OutOfMemory) }
+    ensures fault { IfErr result IsOfMemory }
 {
     let path = path_in(alloc, dir, name)?;
     let Ok(mut source) = store.open(path.as_str()) else {

@@ -1,7 +1,8 @@
 //! A session run, and its logs printed.
 
-ghost use Rattle.std.specs.Prelude.{◌≡◌, false, length, OnOk};
+ghost use Rattle.std.specs.Prelude.{◌≡◌, ◌⊎◌, false, length, IfErr, OnOk};
 ghost use Rattle.seq_session.specs.Rising.{AreRising};
+ghost use Rattle.session_files.specs.Faults.{IsOfScripts, IsOfOutput, IsStuck};
 ghost use Rattle.session_files.specs.Printed.{IsSessionPrinted, IsSessionLogged};
 ghost use Rattle.session_files.specs.Sessions.{owners, MayBeRun};
 
@@ -26,8 +27,12 @@ pub fn print_session<'a, S: FileStore, W: Sink>(
 ) -> Result<(), ProgramFault<'a>>
     requires rising { AreRising (owners session.now.scripts.items) }
     requires sound { W.failed out.old ≡ false }
-    ensures { OnOk result (IsSessionPrinted S.IsOpened S.Reader.HasLeft W.HasTaken
+    ensures printed { OnOk result (IsSessionPrinted S.IsOpened S.Reader.HasLeft W.HasTaken
         files.now session.now.until listed session.now.scripts.items out.old out.new) }
+    ensures fault { IfErr result (λ e.
+        IsOfScripts S.IsOpened S.Reader.HasLeft S.CannotOpen S.Reader.failed
+        session.now.scripts.items e
+        ⊎ IsOfOutput (IsStuck W.failed W.takes_some out.old out.new) e) }
 {
     let mut all = session.logs(alloc)?;
     let logs = all.as_mut_slice();
@@ -51,8 +56,10 @@ fn run<'a, S: FileStore>(
     listing: &mut MemSink,
 ) -> Result<(), ProgramFault<'a>>
     requires { MayBeRun session.now.scripts.items logs.old listing.old }
-    ensures { OnOk result (IsSessionLogged S.IsOpened S.Reader.HasLeft
+    ensures logged { OnOk result (IsSessionLogged S.IsOpened S.Reader.HasLeft
         files.now session.now.until session.now.scripts.items logs.new listing.new) }
+    ensures fault { IfErr result (IsOfScripts S.IsOpened S.Reader.HasLeft S.CannotOpen
+        S.Reader.failed session.now.scripts.items) }
 {
     let mut sources = session.open(alloc, store)?;
     let agenda = HeapAgenda::new(alloc);

@@ -1,10 +1,11 @@
 //! What a session is recorded as.
 
-ghost use Rattle.std.specs.Prelude.{◌≡◌, take, map, string_bytes, IfOk, OnOk};
+ghost use Rattle.std.specs.Prelude.{◌≡◌, ◌⊎◌, take, map, string_bytes, IfOk, IfErr, OnOk};
 ghost use Rattle.std.specs.Option.{option_map};
 ghost use Rattle.script_text.specs.declared.script.TheConstants.{MOST_FILES};
 ghost use Rattle.seq_session.specs.Rising.{AreRising};
 ghost use Rattle.session_files.specs.Apart.{IsApart};
+ghost use Rattle.session_files.specs.Faults.{IsOfEvents, IsOfScripts, IsOfRefusal, IsOfSharing, IsOfWriting};
 ghost use Rattle.session_files.specs.Recorded.{recorded_text, IsSessionRecorded};
 ghost use Rattle.session_files.specs.Sessions.{owners};
 
@@ -50,6 +51,16 @@ pub fn record_session<'a, S: FileStore>(
     ensures apart { OnOk result (IsApart S.AreApart recording.now.path.now
         session.now.scripts.items (option_map (λ d. d.now) session.now.dir)
         (map string_bytes (take MOST_FILES folder.now.names.items))) }
+    ensures fault { IfErr result (λ e.
+        IsOfSharing S.AreOne recording.now.path.now session.now.scripts.items
+        (option_map (λ d. d.now) session.now.dir)
+        (map string_bytes (take MOST_FILES folder.now.names.items)) e
+        ⊎ (IsOfScripts S.IsOpened S.Reader.HasLeft S.CannotOpen S.Reader.failed
+        session.now.scripts.items e
+        ⊎ (IsOfRefusal S.IsOpened S.Reader.HasLeft files.now session.now.until
+        session.now.scripts.items recording.now e
+        ⊎ IsOfWriting S.IsBegun S.Writer.failed S.Writer.takes_some
+        S.CannotBegin S.CannotStore recording.now.path.now e))) }
 {
     let (taken, _) = taken_files(folder.names.as_slice());
     if !is_apart(alloc, store, recording.path, session, taken)? {
@@ -72,7 +83,8 @@ pub fn recorded(
     port: PortAddr,
     raw: bool,
 ) -> Result<Vec<u8>, ProgramFault<'static>>
-    ensures { IfOk result (λ bytes. bytes.items ≡ recorded_text raw port log.now.entries) }
+    ensures text { IfOk result (λ bytes. bytes.items ≡ recorded_text raw port log.now.entries) }
+    ensures fault { IfErr result (IsOfEvents raw port log.now.entries) }
 {
     if raw {
         return Ok(log.port_bytes(port)?);

@@ -5,7 +5,8 @@ ghost use Rattle.script_text.specs.Numbers as says;
 ghost use Rattle.seq_session.specs.Rising.{AreRising};
 ghost use Rattle.seq_session.specs.Devices.{clients, AreSound, AreOpen, reader_of, IsAmong};
 ghost use Rattle.session_tools.specs.Words.{scripts_named, scripts_seen, IsOfWords};
-ghost use Rattle.session_files.specs.Opened.{AreSourcesOf, IsOfOpening};
+ghost use Rattle.session_files.specs.Faults.{IsOfMemory, IsOfOpening};
+ghost use Rattle.session_files.specs.Opened.{AreSourcesOf};
 ghost use Rattle.session_files.specs.Sessions.{owners, AreEmpty, IsNotAMoment, IsToldAs};
 
 use byte_io::MemSink;
@@ -65,7 +66,7 @@ impl<'a> Session<'a> {
             AreSourcesOf S.IsOpened self.now.scripts.items v.items) }
         ensures clients { IfOk result (λ v. clients v.items ≡ owners self.now.scripts.items) }
         ensures readers { IfOk result (λ v. AreSound S.Reader.failed v.items) }
-        ensures fault { IfErr result (IsOfOpening S.CannotOpen) }
+        ensures fault { IfErr result (IsOfOpening S.CannotOpen self.now.scripts.items) }
     {
         let mut sources = Vec::new(alloc);
         for script in &self.scripts {
@@ -83,7 +84,7 @@ impl<'a> Session<'a> {
         ensures as_many { IfOk result (λ v. length v.items ≡ length self.now.scripts.items) }
         ensures open { IfOk result (λ v. AreOpen (λ l. l.broken) v.items) }
         ensures empty { IfOk result (λ v. AreEmpty v.items) }
-        ensures fault { IfErr result (λ e. e ≡ ProgramFault.OutOfMemory) }
+        ensures fault { IfErr result IsOfMemory }
     {
         let mut logs = Vec::new(alloc);
         for _script in &self.scripts {

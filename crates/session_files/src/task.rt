@@ -1,6 +1,7 @@
 //! A tool that is given its stream.
 
-ghost use Rattle.std.specs.Prelude.{◌≡◌, ◌⊎◌, false, IfErr, OnOk};
+ghost use Rattle.std.specs.Prelude.{◌≡◌, false, IfErr, OnOk};
+ghost use Rattle.session_files.specs.Faults.{IsStuck};
 ghost use Rattle.session_files.specs.Tasks.{IsDone, IsTold};
 
 use byte_io::{Sink, Source};
@@ -20,7 +21,9 @@ pub fn perform<'a, S: FileStore, I: Source, W: Sink>(
     requires out_sound { W.failed out.old ≡ false }
     ensures done { OnOk result (IsDone S.IsOpened S.Reader.HasLeft I.HasLeft W.HasTaken
         task.entry input.old input.new out.old out.new) }
-    ensures told { IfErr result (IsTold task.entry.stream) }
+    ensures told { IfErr result (IsTold S.IsOpened S.CannotOpen S.Reader.HasLeft S.Reader.failed
+        I.HasLeft I.failed (IsStuck W.failed W.takes_some out.old out.new)
+        task.entry input.old input.new) }
 {
     let done = match task.stream {
         Stream::Standard => task.tool.print(alloc, input, out),

@@ -1,6 +1,7 @@
 //! A file that is written whole, or not at all.
 
-ghost use Rattle.std.specs.Prelude.{◌≡◌, ◌⊎◌, IfErr, OnOk};
+ghost use Rattle.std.specs.Prelude.{IfErr, OnOk};
+ghost use Rattle.session_files.specs.Faults.{IsOfWriting};
 ghost use Rattle.session_files.specs.Recorded.{IsWritten};
 
 use byte_io::{DeviceFault, write_all};
@@ -17,8 +18,8 @@ pub fn write_file<'a, S: FileStore>(
 ) -> Result<(), ProgramFault<'a>>
     ensures written { OnOk result
         (IsWritten S.IsBegun S.Writer.HasTaken S.IsStored path.now bytes.now) }
-    ensures fault { IfErr result (λ e.
-        (e ≡ ProgramFault.CannotWrite path.entry) ⊎ (e ≡ ProgramFault.OutOfMemory)) }
+    ensures fault { IfErr result (IsOfWriting S.IsBegun S.Writer.failed S.Writer.takes_some
+        S.CannotBegin S.CannotStore path.now) }
 {
     let mut file = match store.begin(alloc, path) {
         Ok(file) => file,

@@ -1,9 +1,18 @@
 -- The faults of the tools.
-use Rattle.std.specs.Prelude.{◌≡◌, ◌⊎◌}
+use Rattle.std.specs.Prelude.{◌≡◌, ◌⊎◌, ℕ, List, codes}
+use Rattle.memory.specs.Faults.{out_of_memory_text}
+use Rattle.smf_grammar.specs.Faults.{fault_text}
 use Rattle.smf_grammar.specs.declared.fault.SmfFault.{SmfFault}
 use Rattle.smf_grammar.specs.declared.fault.SmfFault.TheVariants as smf
 use Rattle.tool_text.specs.declared.fault.ToolFault.{ToolFault}
 use Rattle.tool_text.specs.declared.fault.ToolFault.TheVariants.{OutOfMemory, Read, Write, Smf}
+
+-- a fault in words
+abbrev pub tool_fault_text : ToolFault → List ℕ
+tool_fault_text OutOfMemory = out_of_memory_text
+tool_fault_text Read = codes "a read failed"
+tool_fault_text Write = codes "a write failed"
+tool_fault_text (Smf fault) = fault_text fault
 
 -- want of memory is that of the tool
 abbrev pub tool_fault : SmfFault → ToolFault

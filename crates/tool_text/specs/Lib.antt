@@ -7,3 +7,4 @@ pub mod Dump
 pub mod Faults
 pub mod Tools
 pub mod Program
+pub mod Rows

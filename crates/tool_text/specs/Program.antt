@@ -1,15 +1,18 @@
 -- What the program is asked to do, and what it prints where it stops.
-use Rattle.std.specs.Prelude.{◌≡◌, ◌≢◌, ℕ, if◌then◌else◌, List, ◌++◌, codes, encode_utf8, encode_utf8_all}
+use Rattle.std.specs.Prelude.{◌≡◌, ◌≢◌, ℕ, if◌then◌else◌, List, [], ◌∷◌, ◌++◌, Result, Ok, Err, codes, encode_utf8, encode_utf8_all}
 use Rattle.std.specs.List.{flat_map}
 use Rattle.std.specs.Char.{is_control}
 use Rattle.std.specs.Fmt.{decimal}
 use Rattle.std.specs.Char.Escape.{escape_default}
 use Rattle.std.specs.Str.{chars}
+use Rattle.memory.specs.Faults.{out_of_memory_text}
 use Rattle.smf_grammar.specs.Faults as smf
 use Rattle.tool_text.specs.declared.choice.Tool.{Tool}
 use Rattle.tool_text.specs.declared.choice.Tool.TheVariants.{Thru, Wire, Dump}
 use Rattle.tool_text.specs.declared.choice.Stream.{Stream}
 use Rattle.tool_text.specs.declared.choice.Stream.TheVariants.{Standard, Path}
+use Rattle.tool_text.specs.declared.ending.Ended.{Ended}
+use Rattle.tool_text.specs.declared.ending.Ended.TheVariants.{Done, Shown}
 use Rattle.tool_text.specs.declared.fault.ToolFault.{ToolFault}
 use Rattle.tool_text.specs.declared.fault.ToolFault.TheVariants as tool
 use Rattle.tool_text.specs.declared.program_fault.ProgramFault.{ProgramFault}
@@ -58,7 +61,7 @@ program_fault_text (OutIsRead path) =
     escaped path.now ++ codes " is a file that the session reads; see midiseq --help"
 program_fault_text (CannotRead path) = codes "cannot read " ++ escaped path.now
 program_fault_text (CannotWrite path) = codes "cannot write " ++ escaped path.now
-program_fault_text OutOfMemory = codes "out of memory"
+program_fault_text OutOfMemory = out_of_memory_text
 program_fault_text CannotRecord = codes "cannot record"
 program_fault_text (Smf fault) = smf.fault_text fault
 
@@ -66,12 +69,20 @@ program_fault_text (Smf fault) = smf.fault_text fault
 abbrev pub told_text : Stream → ToolFault → List ℕ
 told_text stream tool.Read = codes "cannot read " ++ escaped (stream_name stream)
 told_text stream tool.Write = codes "cannot write " ++ escaped (codes "-")
-told_text stream tool.OutOfMemory = codes "out of memory"
+told_text stream tool.OutOfMemory = out_of_memory_text
 told_text stream (tool.Smf fault) = smf.fault_text fault
 
--- what is printed of a file that a run leaves out
-abbrev pub left_out_text : List ℕ → List ℕ
-left_out_text name = codes "left out " ++ escaped name
+-- the line that tells a fault, without its end
+abbrev pub fault_line : ProgramFault → List ℕ
+fault_line fault = codes "midiseq: " ++ program_fault_text fault
+
+-- the line that tells of a file that a run leaves out, without its end
+abbrev pub left_out_line : List ℕ → List ℕ
+left_out_line name = codes "midiseq: left out " ++ escaped name
+
+-- a line for each file that a run leaves out
+abbrev pub left_out_lines : List (List ℕ) → List ℕ
+left_out_lines names = flat_map (λ name. left_out_line name ++ 10 ∷ []) names
 
 -- 2 for a fault in the words, 1 for any other
 abbrev pub exit_status : ProgramFault → ℕ
@@ -87,3 +98,16 @@ exit_status (CannotWrite path) = 1
 exit_status OutOfMemory = 1
 exit_status CannotRecord = 1
 exit_status (Smf fault) = 1
+
+-- ---- how the program ends
+
+-- the status with which it ends
+abbrev pub end_status : Result Ended ProgramFault → ℕ
+end_status (Ok Done) = 0
+end_status (Ok (Shown status)) = status
+end_status (Err fault) = exit_status fault
+
+-- the lines that are told as it ends: one for a fault, and else none
+abbrev pub end_lines : Result Ended ProgramFault → List ℕ
+end_lines (Ok ended) = []
+end_lines (Err fault) = fault_line fault ++ 10 ∷ []

@@ -5,23 +5,36 @@ use midi_wire::WireFault;
 use seq_engine::EngineFault;
 use smf_files::SmfFault;
 use std::alloc::AllocError;
+use std::fmt;
 use thiserror::Error;
 
 /// Why a tool stops.
 #[derive(Clone, Copy, Debug, Drop, PartialEq, Eq, Error)]
 pub enum ToolFault {
     /// A growth was refused.
-    #[error("out of memory")]
     OutOfMemory,
     /// A read failed, or there were more than 16,777,216 bytes.
-    #[error("a read failed")]
     Read,
     /// A write failed, or took no byte.
-    #[error("a write failed")]
     Write,
     /// The bytes are no Standard MIDI File that can be read. It never holds want of memory.
-    #[error("{0}")]
     Smf(SmfFault),
+}
+
+impl fmt::Display for ToolFault {
+    ghost use Rattle.std.specs.Prelude.{Some};
+    ghost use Rattle.tool_text.specs.Faults.{tool_fault_text};
+
+    ghost output = { λ x. Some (tool_fault_text x) };
+
+    fn fmt<W: fmt::Write>(&self, f: &mut fmt::Formatter<W>) -> fmt::Result {
+        match self {
+            ToolFault::OutOfMemory => f.write_str("out of memory"),
+            ToolFault::Read => f.write_str("a read failed"),
+            ToolFault::Write => f.write_str("a write failed"),
+            ToolFault::Smf(fault) => write!(f, "{fault}"),
+        }
+    }
 }
 
 impl From<OutOfMemory> for ToolFault {

@@ -168,19 +168,34 @@ impl<T: Drop> From<AllocFailed<T>> for ProgramFault<'_> {
     }
 }
 
-/// A file that a run leaves out, by its name. It is printed in one line, with the control characters of the name
-/// escaped.
+/// The line that tells why the program stops.
+#[derive(Clone, Copy, Debug, PartialEq, Eq)]
+pub struct FaultLine<'a>(pub ProgramFault<'a>);
+
+impl fmt::Display for FaultLine<'_> {
+    ghost use Rattle.std.specs.Prelude.{Some};
+    ghost use Rattle.tool_text.specs.Program.{fault_line};
+
+    ghost output = { λ e. Some (fault_line e.0) };
+
+    fn fmt<W: fmt::Write>(&self, f: &mut fmt::Formatter<W>) -> fmt::Result {
+        let fault = self.0;
+        write!(f, "midiseq: {fault}")
+    }
+}
+
+/// The line that tells of a file that a run leaves out, by its name, with the control characters of the name escaped.
 #[derive(Clone, Copy, Debug, PartialEq, Eq)]
 pub struct LeftOut<'a>(pub &'a str);
 
 impl fmt::Display for LeftOut<'_> {
     ghost use Rattle.std.specs.Prelude.{Some};
-    ghost use Rattle.tool_text.specs.Program.{left_out_text};
+    ghost use Rattle.tool_text.specs.Program.{left_out_line};
 
-    ghost output = { λ e. Some (left_out_text e.0.now) };
+    ghost output = { λ e. Some (left_out_line e.0.now) };
 
     fn fmt<W: fmt::Write>(&self, f: &mut fmt::Formatter<W>) -> fmt::Result {
         let name = Escaped(self.0);
-        write!(f, "left out {name}")
+        write!(f, "midiseq: left out {name}")
     }
 }

@@ -5,7 +5,7 @@ use std::alloc::Global;
 use std::io::ErrorKind;
 use std::process::Abort;
 use std::test::Fail;
-use tool_text::{LeftOut, ProgramFault, STANDARD, Stream, Task, Tool, ToolFault};
+use tool_text::{ProgramFault, STANDARD, Stream, Task, Tool, ToolFault};
 
 /// A fault, the text that it prints as, and the status with which it ends the program.
 type Told<'a> = (ProgramFault<'a>, &'static str, u8);
@@ -92,14 +92,6 @@ fn keeps_a_path_in_one_line(rt: HostRuntime) -> Result<(), Fail> {
     let text = "cannot read a\\nb\\t\\u{1b}[1mé\\u{7f}\\u{85}\\ ~";
     let told = [(ProgramFault::CannotRead(path), text, 1)];
     check_faults(&rt, rt.alloc(), &told)
-}
-
-#[test]
-fn tells_of_files_left_out(rt: HostRuntime) -> Result<(), Fail> {
-    let note = LeftOut("b\n.mid");
-    let line = format!(in rt.alloc(); "{note}")?;
-    assert!(rt; line.as_str() == "left out b\\n.mid");
-    Ok(())
 }
 
 #[test]

@@ -20,4 +20,4 @@ returns g c =
       path = path;
       recorded = recorded;
     })
-    c.record.ensures
+    c.record.ensures.recorded

@@ -10,4 +10,4 @@ returns g c = on_ok_weaker c.run.result
       flag = record { absent = c.get_flag-listed.ensures.none; present = c.get_flag-listed.ensures.value };
       printed = printed;
     })
-    c.run.ensures
+    c.run.ensures.printed

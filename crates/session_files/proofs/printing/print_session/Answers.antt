@@ -9,9 +9,9 @@ use Rattle.session_files.proofs.Printed.{unlisted_text, listed_text}
 use Rattle.session_files.proofs.printing.print_session.Goals as goal
 use Rattle.session_files.proofs.printing.print_session.Goals.{then-listed, else-listed}
 
-pub returns-in-Ok : goal.returns-in-Ok
-returns-in-Ok g c =
-    let r = c.in_ok-run.ensures in
+pub returns-in-Ok-clause-printed : goal.returns-in-Ok-clause-printed
+returns-in-Ok-clause-printed g c =
+    let r = c.in_ok-run.ensures.logged in
     let files = c.args.files.now in
     let until = c.args.session.now.until in
     let logs : map (λ l. l.taken) c.run.new.logs ≡ all_logs files until r.scripts = r.logged in

@@ -1,9 +1,11 @@
-use Rattle.std.proofs.Common.{◌≡◌, false, refl, sym, ap, ◌∙◌, subst, []}
+use Rattle.std.proofs.Common.{◌≡◌, false, subst, refl, sym, ap, ◌∙◌, [], rules}
 use Rattle.seq_session.specs.Devices.{clients, AreSound}
 use Rattle.session_files.specs.Opened.{AreSourcesOf}
+use Rattle.std.specs.Prelude.{Contains}
+use Rattle.session_tools.specs.Words.{scripts_seen}
 use Rattle.session_files.specs.Sessions.{owners}
 use Rattle.session_files.proofs.Files.{sources_next}
-use Rattle.session_files.proofs.Opened.{all-more, take-all, clients-next}
+use Rattle.session_files.proofs.Opened.{all-more, take-all, clients-next, script-at}
 use Rattle.session_files.proofs.session.Session.open.Goals as goal
 
 pub loop-script-init : goal.loop-script-init
@@ -31,3 +33,9 @@ returns-clause-clients g c =
 
 pub returns-clause-readers : goal.returns-clause-readers
 returns-clause-readers g c = c.loop-script.invariant.sound
+
+pub returns-in_default-clause-fault : goal.returns-in_default-clause-fault
+returns-in_default-clause-fault g c =
+    let w = c.script-item.result in
+    let at : Contains (scripts_seen c.deref-script-items.result.now) (w.client, w.path.now) = script-at c.deref-script-items.result.now c.loop-script.script-index w c.loop-script-test.true c.script-item.is in
+    ((w.client, subst (λ words. Contains (scripts_seen words) (w.client, w.path.now)) c.deref-script-items.ensures.value at), search rules)

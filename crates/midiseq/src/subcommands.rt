@@ -1,0 +1,57 @@
+//! What the program does with its words.
+
+ghost use Rattle.std.specs.Prelude.{◌≡◌, false, OnOk};
+ghost use Rattle.clap.specs.Matches.{found_of};
+ghost use Rattle.midiseq.specs.Given.{ToolDoesAsGiven, DoesAsGiven};
+
+use crate::sessions;
+use byte_io::{Sink, Source};
+use clap::ArgMatches;
+use file_store::FileStore;
+use std::alloc::Global;
+use tool_text::{Notes, ProgramFault, STANDARD, Task};
+
+/// Does what a subcommand says, with the words that clap has found for it.
+#[inline(never)]
+pub(crate) fn perform<'a, S: FileStore, I: Source, W: Sink, N: Notes>(
+    alloc: Global,
+    store: &S,
+    name: &str,
+    found: &ArgMatches<'a>,
+    input: &mut I,
+    out: &mut W,
+    notes: &mut N,
+) -> Result<(), ProgramFault<'a>>
+    requires input_sound { I.failed input.old ≡ false }
+    requires out_sound { W.failed out.old ≡ false }
+    ensures { OnOk result (DoesAsGiven S.IsOpened S.Reader.HasLeft S.CannotOpen S.Reader.failed
+        S.HasNames S.IsBegun S.Writer.HasTaken S.IsStored I.HasLeft W.HasTaken N.HasTold
+        name.now (found_of found.now) input.old input.new out.old out.new notes.old notes.new) }
+{
+    match name {
+        "run" => sessions::run(alloc, store, found, out, notes),
+        "record" => sessions::record(alloc, store, found, notes),
+        _ => perform_tool(alloc, store, name, found, input, out),
+    }
+}
+
+/// Does what a tool's subcommand says: on the stream that the word FILE names, and without one on standard input.
+fn perform_tool<'a, S: FileStore, I: Source, W: Sink>(
+    alloc: Global,
+    store: &S,
+    name: &str,
+    found: &ArgMatches<'a>,
+    input: &mut I,
+    out: &mut W,
+) -> Result<(), ProgramFault<'a>>
+    requires input_sound { I.failed input.old ≡ false }
+    requires out_sound { W.failed out.old ≡ false }
+    ensures { OnOk result (ToolDoesAsGiven S.IsOpened S.Reader.HasLeft I.HasLeft W.HasTaken
+        name.now (found_of found.now) input.old input.new out.old out.new) }
+{
+    let file = found.get_str("FILE").unwrap_or(STANDARD);
+    match Task::of_words(name, file) {
+        Some(task) => session_files::perform(alloc, store, task, input, out),
+        None => Err(ProgramFault::NoSubcommand),
+    }
+}
