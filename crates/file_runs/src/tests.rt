@@ -3,4 +3,5 @@
 mod devices;
 mod files;
 mod tempo;
+mod texts;
 mod wire;

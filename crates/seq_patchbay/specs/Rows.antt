@@ -32,14 +32,15 @@ abbrev pub drum_filter : FilterInfo
 drum_filter =
     record {
       caps = record { 0 = 3 };
-      rule = record { channels = 5; kinds = 3; low = 36; high = 96; shift = pos 12; channel = Some 9 };
+      rule = record { channels = 5; kinds = record { 0 = 3 }; low = 36; high = 96; shift = pos 12; channel = Some 9 };
     }
 
 abbrev pub octave_filter : FilterInfo
 octave_filter =
     record {
       caps = record { 0 = 99 };
-      rule = record { channels = 65535; kinds = 1023; low = 0; high = 127; shift = negsuc 11; channel = None };
+      rule =
+          record { channels = 65535; kinds = record { 0 = 1023 }; low = 0; high = 127; shift = negsuc 11; channel = None };
     }
 
 abbrev pub studio_filters : FinMap nat_cmp FilterInfo
