@@ -33,6 +33,7 @@ check: build
 	rt all test
 	test/docs $(PROGRAM)
 	test/refused-calls $(PROGRAM)
+	test/refused-memory
 	test/hostile --program $(PROGRAM)
 
 # Builds, and compares every command that the pages show with what it prints.
