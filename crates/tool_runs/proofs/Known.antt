@@ -8,7 +8,7 @@ use Rattle.smf_grammar.specs.declared.fault.SmfFault.{SmfFault}
 use Rattle.smf_grammar.specs.declared.fault.SmfFault.TheVariants as smf
 use Rattle.smf_grammar.specs.Chunks.{header_at, most_bytes}
 use Rattle.smf_grammar.specs.Files.{IsFile, Fault}
-use Rattle.smf_grammar.proofs.Whole.{one-fault}
+use Rattle.smf_grammar.proofs.Whole.{not-both, one-fault}
 use Rattle.tool_text.specs.declared.choice.Tool.{Tool}
 use Rattle.tool_text.specs.declared.choice.Tool.TheVariants.{Thru, Wire, Dump}
 use Rattle.tool_text.specs.declared.fault.ToolFault.{ToolFault}
@@ -43,6 +43,12 @@ module _ (before after : MemInput) (old new : MemOutput) (bytes : List ℕ) (who
   known_text Thru r = rendered thru_text r
   known_text Wire r = rendered wire_text r
   known_text Dump r = (r.f, subst (λ (b : List ℕ). IsFile b r.f) (all_read r.read (r.gave [] r.ended)) r.file, r.took [] none)
+
+  -- bytes that have a fault are not dumped
+  pub not_dumped : (tool : Tool) → IsPrinted Left Taken tool before after old new → tool ≡ Dump → (x : SmfFault) → Fault bytes x → ⊥
+  not_dumped Thru r e x f = cc
+  not_dumped Wire r e x f = cc
+  not_dumped Dump r e x f = not-both bytes r.f x (subst (λ (b : List ℕ). IsFile b r.f) (all_read r.read (r.gave [] r.ended)) r.file) f
 
   pub known_bound : (tool : Tool) → IsPrinted Left Taken tool before after old new → length bytes ≤ most_bytes
   known_bound Thru r = subst (λ (b : List ℕ). length b ≤ most_bytes) (all_read r.read (r.gave [] r.ended)) r.bounded

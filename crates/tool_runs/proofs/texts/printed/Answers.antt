@@ -1,6 +1,6 @@
 use Rattle.std.proofs.Common.{◌≡◌, ◌∙◌, [], ap, sym, subst, rules}
 use Rattle.tool_runs.specs.Texts.{IsTextOf, IsFaultOf}
-use Rattle.tool_runs.proofs.Known.{known_text, known_bound, known_fault}
+use Rattle.tool_runs.proofs.Known.{known_text, known_bound, known_fault, not_dumped}
 use Rattle.tool_runs.proofs.texts.printed.Goals as goal
 
 pub returns-in_err-print-clause-told : goal.returns-in_err-print-clause-told
@@ -22,3 +22,9 @@ returns-clause-bounded c =
     let whole : c.new-input.result.left ≡ c.args.bytes.now = ap (λ s. s.left) c.new-input.ensures ∙ c.in_ok-from_slice.ensures.items in
     let none : c.in_ok-out.out.taken ≡ [] = ap (λ s. s.taken) c.in_ok-out.ensures.value in
     known_bound c.new-input.result c.print.new.input c.in_ok-out.out c.print.new.out c.args.bytes.now whole none c.args.tool c.in_ok-print.ensures.text
+
+pub returns-clause-refused : goal.returns-clause-refused
+returns-clause-refused c = λ e x f.
+    let whole : c.new-input.result.left ≡ c.args.bytes.now = ap (λ s. s.left) c.new-input.ensures ∙ c.in_ok-from_slice.ensures.items in
+    let none : c.in_ok-out.out.taken ≡ [] = ap (λ s. s.taken) c.in_ok-out.ensures.value in
+    absurd (not_dumped c.new-input.result c.print.new.input c.in_ok-out.out c.print.new.out c.args.bytes.now whole none c.args.tool c.in_ok-print.ensures.text e x f)
