@@ -1,9 +1,11 @@
 //! The subcommands that run scripts.
 
-ghost use Rattle.std.specs.Prelude.{◌≡◌, false, IfOk, OnOk};
+ghost use Rattle.std.specs.Prelude.{◌≡◌, ◌⊎◌, false, codes, IfOk, IfErr, OnOk};
 ghost use Rattle.clap.specs.Matches.{found_of};
-ghost use Rattle.midiseq.specs.Given.{IsGiven, RunsAsGiven, RecordsAsGiven};
+ghost use Rattle.midiseq.specs.Given.{text_of, IsGiven, RunsAsGiven, RecordsAsGiven};
+ghost use Rattle.midiseq.specs.Refused.{IsOfSessionWords, IsNotAPort, IsRunStopped, IsRecordStopped};
 ghost use Rattle.seq_session.specs.Rising.{AreRising};
+ghost use Rattle.session_files.specs.Faults.{IsStuck};
 ghost use Rattle.session_files.specs.Sessions.{owners};
 
 use byte_io::Sink;
@@ -18,6 +20,7 @@ use tool_text::{Notes, ProgramFault};
 fn session_of<'a>(alloc: Global, found: &ArgMatches<'a>) -> Result<Session<'a>, ProgramFault<'a>>
     ensures given { IfOk result (IsGiven (found_of found.now)) }
     ensures rising { IfOk result (λ s. AreRising (owners s.scripts.items)) }
+    ensures fault { IfErr result (IsOfSessionWords (found_of found.now)) }
 {
     let until = found.get_str("until").unwrap_or("");
     let scripts = found.get_strs("CLIENT=PATH").unwrap_or(&[]);
@@ -33,9 +36,12 @@ pub(crate) fn run<'a, S: FileStore, W: Sink, N: Notes>(
     notes: &mut N,
 ) -> Result<(), ProgramFault<'a>>
     requires { W.failed out.old ≡ false }
-    ensures { OnOk result (RunsAsGiven S.IsOpened S.Reader.HasLeft S.CannotOpen S.Reader.failed
+    ensures ran { OnOk result (RunsAsGiven S.IsOpened S.Reader.HasLeft S.CannotOpen S.Reader.failed
         S.HasNames W.HasTaken N.HasTold (found_of found.now)
         out.old out.new notes.old notes.new) }
+    ensures fault { IfErr result (λ e. IsOfSessionWords (found_of found.now) e
+        ⊎ IsRunStopped S.IsOpened S.Reader.HasLeft S.CannotOpen S.CannotList S.Reader.failed
+        (IsStuck W.failed W.takes_some out.old out.new) (found_of found.now) e) }
 {
     let session = session_of(alloc, found)?;
     let listed = found.get_flag("list");
@@ -49,9 +55,14 @@ pub(crate) fn record<'a, S: FileStore, N: Notes>(
     found: &ArgMatches<'a>,
     notes: &mut N,
 ) -> Result<(), ProgramFault<'a>>
-    ensures { OnOk result (RecordsAsGiven S.IsOpened S.Reader.HasLeft S.CannotOpen S.Reader.failed
+    ensures recorded { OnOk result (RecordsAsGiven S.IsOpened S.Reader.HasLeft S.CannotOpen S.Reader.failed
         S.HasNames S.IsBegun S.Writer.HasTaken S.IsStored N.HasTold (found_of found.now)
         notes.old notes.new) }
+    ensures fault { IfErr result (λ e. IsOfSessionWords (found_of found.now) e
+        ⊎ (IsNotAPort (text_of (found_of found.now) (codes "port")) e
+        ⊎ IsRecordStopped S.IsOpened S.Reader.HasLeft S.CannotOpen S.CannotList S.Reader.failed
+        S.HasNames S.AreOne S.IsBegun S.Writer.failed S.Writer.takes_some S.CannotBegin
+        S.CannotStore N.HasTold (found_of found.now) notes.old notes.new e)) }
 {
     let session = session_of(alloc, found)?;
     let word = found.get_str("port").unwrap_or("");

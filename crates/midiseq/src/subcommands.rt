@@ -1,8 +1,10 @@
 //! What the program does with its words.
 
-ghost use Rattle.std.specs.Prelude.{◌≡◌, false, OnOk};
+ghost use Rattle.std.specs.Prelude.{◌≡◌, ◌⊎◌, false, IfErr, OnOk};
 ghost use Rattle.clap.specs.Matches.{found_of};
 ghost use Rattle.midiseq.specs.Given.{ToolDoesAsGiven, DoesAsGiven};
+ghost use Rattle.midiseq.specs.Refused.{IsOfNoTool, IsToolStopped, IsStoppedAsGiven};
+ghost use Rattle.session_files.specs.Faults.{IsStuck};
 
 use crate::sessions;
 use byte_io::{Sink, Source};
@@ -24,9 +26,14 @@ pub(crate) fn perform<'a, S: FileStore, I: Source, W: Sink, N: Notes>(
 ) -> Result<(), ProgramFault<'a>>
     requires input_sound { I.failed input.old ≡ false }
     requires out_sound { W.failed out.old ≡ false }
-    ensures { OnOk result (DoesAsGiven S.IsOpened S.Reader.HasLeft S.CannotOpen S.Reader.failed
+    ensures done { OnOk result (DoesAsGiven S.IsOpened S.Reader.HasLeft S.CannotOpen S.Reader.failed
         S.HasNames S.IsBegun S.Writer.HasTaken S.IsStored I.HasLeft W.HasTaken N.HasTold
         name.now (found_of found.now) input.old input.new out.old out.new notes.old notes.new) }
+    ensures fault { IfErr result (IsStoppedAsGiven S.IsOpened S.Reader.HasLeft S.CannotOpen
+        S.CannotList S.Reader.failed S.HasNames S.AreOne S.IsBegun S.Writer.failed
+        S.Writer.takes_some S.CannotBegin S.CannotStore I.HasLeft I.failed
+        (IsStuck W.failed W.takes_some out.old out.new) N.HasTold
+        name.now (found_of found.now) input.old input.new notes.old notes.new) }
 {
     match name {
         "run" => sessions::run(alloc, store, found, out, notes),
@@ -46,8 +53,12 @@ fn perform_tool<'a, S: FileStore, I: Source, W: Sink>(
 ) -> Result<(), ProgramFault<'a>>
     requires input_sound { I.failed input.old ≡ false }
     requires out_sound { W.failed out.old ≡ false }
-    ensures { OnOk result (ToolDoesAsGiven S.IsOpened S.Reader.HasLeft I.HasLeft W.HasTaken
+    ensures done { OnOk result (ToolDoesAsGiven S.IsOpened S.Reader.HasLeft I.HasLeft W.HasTaken
         name.now (found_of found.now) input.old input.new out.old out.new) }
+    ensures fault { IfErr result (λ e. IsOfNoTool name.now e
+        ⊎ IsToolStopped S.IsOpened S.CannotOpen S.Reader.HasLeft S.Reader.failed I.HasLeft I.failed
+        (IsStuck W.failed W.takes_some out.old out.new) name.now (found_of found.now)
+        input.old input.new e) }
 {
     let file = found.get_str("FILE").unwrap_or(STANDARD);
     match Task::of_words(name, file) {

@@ -1,0 +1,88 @@
+-- Why a subcommand stops, from the words that it was given.
+use Rattle.std.specs.Prelude.{◌≡◌, ◌≢◌, ◌⊎◌, ℕ, Bool, List, [], Option, None, codes, unwrap_or}
+use Rattle.std.specs.Option.{option_map}
+use Rattle.clap.specs.declared.parser.matches.Found.{Found}
+use Rattle.clap.specs.Matches.{first_value, matched_of, raw_values}
+use Rattle.script_text.specs.Numbers as says
+use Rattle.session_tools.specs.Words.{port_named, IsOfWords}
+use Rattle.session_files.specs.declared.recording.Recording.{Recording}
+use Rattle.session_files.specs.declared.session.Session.{Session}
+use Rattle.session_files.specs.Faults.{IsOfListing, IsOfScripts, IsOfOutput}
+use Rattle.session_files.specs.Sessions.{IsNotAMoment}
+use Rattle.session_files.specs.Subcommands.{IsRecordingStopped}
+use Rattle.session_files.specs.Tasks.{IsTold}
+use Rattle.tool_text.specs.declared.choice.Task.{Task}
+use Rattle.tool_text.specs.declared.choice.Tool.{Tool}
+use Rattle.tool_text.specs.declared.program_fault.ProgramFault.{ProgramFault}
+use Rattle.tool_text.specs.declared.program_fault.ProgramFault.TheVariants.{NoSubcommand, NotAPort}
+use Rattle.tool_text.specs.Program.{tool_name, IsNamedBy}
+use Rattle.midiseq.specs.Given.{text_of, IsGiven}
+
+-- the words name no session: --until says no moment, or some word names no script
+abbrev pub IsOfSessionWords : Found → ProgramFault → Type 0
+IsOfSessionWords found fault =
+    ((says.u64 (text_of found (codes "until")) ≡ None) × IsNotAMoment (text_of found (codes "until")) fault)
+    ⊎ IsOfWords (unwrap_or (option_map raw_values (matched_of found (codes "CLIENT=PATH"))) []) fault
+
+-- the word names no port
+abbrev pub IsNotAPort : List ℕ → ProgramFault → Type 0
+IsNotAPort word (NotAPort told) = (told.now ≡ word) × (port_named word ≡ None)
+IsNotAPort word _ = ⊥
+
+-- The session of the words was not run, for one of these reasons.
+pub record IsRunStopped {R : Type 0} (IsOpened : List ℕ → R → Type 0) (HasLeft : R → List ℕ → Type 0)
+    (CannotOpen CannotList : List ℕ → Type 0) (failed : R → Bool) (stuck : Type 0) (found : Found)
+    (fault : ProgramFault) : Type 0 where
+  pub session : Session
+  pub given : IsGiven found session
+  pub why :
+      IsOfListing CannotList (option_map (λ d. d.now) session.dir) fault
+      ⊎ (IsOfScripts IsOpened HasLeft CannotOpen failed session.scripts.items fault ⊎ IsOfOutput stuck fault)
+
+-- The session of the words was not recorded.
+pub record IsRecordStopped {R V N : Type 0} (IsOpened : List ℕ → R → Type 0) (HasLeft : R → List ℕ → Type 0)
+    (CannotOpen CannotList : List ℕ → Type 0) (failed : R → Bool) (HasNames : List ℕ → List (List ℕ) → Type 0)
+    (AreOne : List ℕ → List ℕ → Type 0) (IsBegun : List ℕ → V → Type 0) (writer_failed takes_some : V → Bool)
+    (CannotBegin CannotStore : List ℕ → Type 0) (HasTold : N → List ℕ → Type 0) (found : Found) (before after : N)
+    (fault : ProgramFault) : Type 0 where
+  pub session : Session
+  pub given : IsGiven found session
+  pub recording : Recording
+  pub path : recording.path.now ≡ text_of found (codes "out")
+  pub why :
+      IsOfListing CannotList (option_map (λ d. d.now) session.dir) fault
+      ⊎ IsRecordingStopped IsOpened HasLeft CannotOpen failed HasNames AreOne IsBegun writer_failed takes_some
+      CannotBegin CannotStore HasTold session recording before after fault
+
+-- The tool of this name stopped over the stream that FILE names.
+pub record IsToolStopped {R I : Type 0} (IsOpened : List ℕ → R → Type 0) (CannotOpen : List ℕ → Type 0)
+    (HasLeft : R → List ℕ → Type 0) (failed : R → Bool) (HasInput : I → List ℕ → Type 0) (input_failed : I → Bool)
+    (stuck : Type 0) (name : List ℕ) (found : Found) (before after : I) (fault : ProgramFault) : Type 0 where
+  pub task : Task
+  pub tool : tool_name task.tool ≡ name
+  pub stream : IsNamedBy task.stream (unwrap_or (first_value found (codes "FILE")) (codes "-"))
+  pub told : IsTold IsOpened CannotOpen HasLeft failed HasInput input_failed stuck task before after fault
+
+-- the name is that of no tool
+abbrev pub IsOfNoTool : List ℕ → ProgramFault → Type 0
+IsOfNoTool name NoSubcommand = (t : Tool) → tool_name t ≢ name
+IsOfNoTool name _ = ⊥
+
+-- Why each subcommand stops.
+pub record IsStoppedAsGiven {R V I N : Type 0} (IsOpened : List ℕ → R → Type 0) (HasLeft : R → List ℕ → Type 0)
+    (CannotOpen CannotList : List ℕ → Type 0) (failed : R → Bool) (HasNames : List ℕ → List (List ℕ) → Type 0)
+    (AreOne : List ℕ → List ℕ → Type 0) (IsBegun : List ℕ → V → Type 0) (writer_failed takes_some : V → Bool)
+    (CannotBegin CannotStore : List ℕ → Type 0) (HasInput : I → List ℕ → Type 0) (input_failed : I → Bool)
+    (stuck : Type 0) (HasTold : N → List ℕ → Type 0) (name : List ℕ) (found : Found) (asked left : I)
+    (before after : N) (fault : ProgramFault) : Type 0 where
+  pub ran : name ≡ codes "run" →
+      IsOfSessionWords found fault
+      ⊎ IsRunStopped IsOpened HasLeft CannotOpen CannotList failed stuck found fault
+  pub recorded : name ≡ codes "record" →
+      IsOfSessionWords found fault
+      ⊎ (IsNotAPort (text_of found (codes "port")) fault
+      ⊎ IsRecordStopped IsOpened HasLeft CannotOpen CannotList failed HasNames AreOne IsBegun writer_failed takes_some
+      CannotBegin CannotStore HasTold found before after fault)
+  pub tool : name ≢ codes "run" → name ≢ codes "record" →
+      IsOfNoTool name fault
+      ⊎ IsToolStopped IsOpened CannotOpen HasLeft failed HasInput input_failed stuck name found asked left fault
