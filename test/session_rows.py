@@ -1,4 +1,4 @@
-"""The worked sessions, with their scripts, files and logs, as the tests in crates/session_runs/src/tests have them."""
+"""The worked sessions, with their scripts, files and logs, as the tests in crates/test_sessions/src/tests have them."""
 import glob
 import os
 import re
@@ -88,7 +88,7 @@ def long_play():
 def rows():
     """The sessions, in the order in which the tests have them."""
     texts = []
-    for path in sorted(glob.glob(os.path.join(TOP, "crates", "session_runs", "src", "tests", "*.rt"))):
+    for path in sorted(glob.glob(os.path.join(TOP, "crates", "test_sessions", "src", "tests", "*.rt"))):
         with open(path, encoding="utf-8") as f:
             texts.append(re.sub(r"^ *//.*\n", "", f.read(), flags=re.MULTILINE))
     constants = {name: value for text in texts for name, value in CONSTANT.findall(text)}

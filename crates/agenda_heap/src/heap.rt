@@ -5,7 +5,7 @@ ghost use Rattle.std.specs.FinMap as map;
 ghost use Rattle.std.specs.BinaryHeap.{heap_items, heap_len, IsHeap, KeepsHeap};
 ghost use Rattle.std.specs.VecDeque.{deque_len};
 ghost use Rattle.agenda_heap.specs.Due.{IsFirstDue, NoneDue};
-ghost use Rattle.agenda_heap.specs.Stored.{reversed, reversed_cmp, slack, AllLater, Ascends, GainsEntry, IsLeast, IsStored, HoldsCells, HoldsOthers};
+ghost use Rattle.agenda_heap.specs.Stored.{heap_item, reversed_cmp, slack, AllLater, Ascends, GainsEntry, IsLeast, IsStored, HoldsCells, HoldsOthers};
 
 use crate::agenda::Agenda;
 use crate::due_key::DueKey;
@@ -194,7 +194,7 @@ fn store(
 fn comes_last(ascending: &VecDeque<Reverse<Entry>>, entry: &Entry) -> bool
     requires { Ascends ascending.now.items }
     ensures { IsTrue result
-        ↔ Ascends (ascending.now.items ++ reversed entry.now.key entry.now.cell ∷ []) }
+        ↔ Ascends (ascending.now.items ++ heap_item entry.now.key entry.now.cell ∷ []) }
 {
     match ascending.back() {
         Some(last) => last.0 < *entry,

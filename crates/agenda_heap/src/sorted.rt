@@ -51,7 +51,7 @@ impl Agenda for SortedAgenda {
     ghost content = { λ a. a };
 
     fn insert(&mut self, cell: CellKey, key: DueKey) -> Result<(), OutOfMemory> {
-        let place = place_of(self.entries.as_slice(), key);
+        let place = insertion_place(self.entries.as_slice(), key);
         self.entries.insert(place, (cell, key))?;
         Ok(())
     }
@@ -60,7 +60,7 @@ impl Agenda for SortedAgenda {
         // First, so that no cell is lost where memory is refused.
         self.entries.reserve(1)?;
         self.entries.retain(|other| other.0 != cell);
-        let place = place_of(self.entries.as_slice(), key);
+        let place = insertion_place(self.entries.as_slice(), key);
         match self.entries.insert(place, (cell, key)) {
             Ok(()) => Ok(()),
             Err(_) => unreachable!(),
@@ -86,7 +86,7 @@ impl Agenda for SortedAgenda {
 }
 
 /// Where a key goes: after the greater ones.
-fn place_of(entries: &[(CellKey, DueKey)], key: DueKey) -> usize
+fn insertion_place(entries: &[(CellKey, DueKey)], key: DueKey) -> usize
     ensures within { result ≤ length entries.now }
     ensures greater { AllByRecursion (λ e. due_cmp key e.1 ≡ Less) (take result entries.now) }
     ensures stops { IsNotAfter key result entries.now }

@@ -8,7 +8,7 @@ use Rattle.byte_io.specs.Moved.{Gave, GaveAll, GaveSome, Took, TookPart}
 pub from_place : (b : List ℕ) (at : ℕ) → take (length b - at) (drop at b) ≡ drop at b
 from_place b at = ap (λ k. take k (drop at b)) (sym (length-drop at b)) ∙ take-length (drop at b)
 
--- a front that is copied before other bytes is found there again
+-- a first part that is copied before other bytes is found there again
 moved_all : (u ys : List ℕ) (n : ℕ) → n ≤ length u → u ≡ take n (take n u ++ ys) ++ drop n u
 moved_all u ys n h =
     let same : take n (take n u ++ ys) ≡ take n u = ap (λ k. take k (take n u ++ ys)) (sym (length-take-le n u h)) ∙ take-append_seam (take n u) ys in

@@ -1,4 +1,4 @@
--- The devices over memory, as contracts see them.
+-- Definition: The devices over memory, as contracts see them.
 use Rattle.std.specs.Prelude.{◌≡◌, ◌+◌, ◌-◌, ◌^◌, ◌⊎◌, ℕ, Bool, List, Option, Some, None, true, min, nat_lt}
 
 -- a source: the bytes that are left, the reads so far, the read that is to fail, and the mark
@@ -8,7 +8,8 @@ pub record MemInput : Type 0 where
   pub fail_at : Option ℕ
   pub broken : Bool
 
--- a sink: the bytes taken, how many need no growth, the most that a write takes, the writes so far, the write that is to fail, and the mark
+-- a sink: the bytes taken, how many need no growth, the most that a write takes, the writes so far,
+-- the write that is to fail, and the mark
 pub record MemOutput : Type 0 where
   pub taken : List ℕ
   pub room : ℕ

@@ -1,4 +1,4 @@
--- The devices over the standard library, as contracts see them.
+-- Definition: The devices over the standard library, as contracts see them.
 use Rattle.std.specs.Prelude.{◌≡◌, ℕ, Bool, List, Option, Some, None}
 use Rattle.std.specs.Io.KnownBytes.{Keeps}
 

@@ -16,7 +16,7 @@ pub enum DeviceFault {
 
 /// Why some of the bytes were not written.
 #[derive(Clone, Copy, Debug, Drop, PartialEq, Eq, Error)]
-pub enum WriteFault {
+pub enum SinkFault {
     /// The device failed, and is marked.
     Device(DeviceFault),
     /// The device took no byte where there were some, and is not marked.
@@ -37,16 +37,16 @@ impl fmt::Display for DeviceFault {
     }
 }
 
-impl fmt::Display for WriteFault {
+impl fmt::Display for SinkFault {
     ghost use Rattle.std.specs.Prelude.{Some};
-    ghost use Rattle.byte_io.specs.Faults.{write_fault_text};
+    ghost use Rattle.byte_io.specs.Faults.{sink_fault_text};
 
-    ghost output = { λ x. Some (write_fault_text x) };
+    ghost output = { λ x. Some (sink_fault_text x) };
 
     fn fmt<W: fmt::Write>(&self, f: &mut fmt::Formatter<W>) -> fmt::Result {
         match self {
-            WriteFault::Device(device) => write!(f, "{device}"),
-            WriteFault::TookNothing => f.write_str("the device took no byte"),
+            SinkFault::Device(device) => write!(f, "{device}"),
+            SinkFault::TookNothing => f.write_str("the device took no byte"),
         }
     }
 }
@@ -73,13 +73,13 @@ impl From<OutOfMemory> for DeviceFault {
     }
 }
 
-impl From<DeviceFault> for WriteFault {
+impl From<DeviceFault> for SinkFault {
     ghost use Rattle.std.specs.Prelude.{◌≡◌};
-    ghost use Rattle.byte_io.specs.declared.fault.WriteFault.TheVariants.{Device};
+    ghost use Rattle.byte_io.specs.declared.fault.SinkFault.TheVariants.{Device};
 
     ghost from_gives = { λ fault e. e ≡ Device fault };
 
-    fn from(fault: DeviceFault) -> WriteFault {
-        WriteFault::Device(fault)
+    fn from(fault: DeviceFault) -> SinkFault {
+        SinkFault::Device(fault)
     }
 }

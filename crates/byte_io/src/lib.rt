@@ -20,7 +20,7 @@ mod std_sink;
 mod std_source;
 mod transfer;
 
-pub use fault::{DeviceFault, WriteFault};
+pub use fault::{DeviceFault, SinkFault};
 pub use mem_sink::MemSink;
 pub use mem_source::MemSource;
 pub use memory::OutOfMemory;

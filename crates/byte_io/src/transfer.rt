@@ -3,7 +3,7 @@
 ghost use Rattle.std.specs.Prelude.{◌≡◌, ◌≤◌, [], length, true, false, IfOk, IfErr, OnOk, OnErr, IsOk, IsErrOf};
 ghost use Rattle.byte_io.specs.Moved.{GaveAll, GaveSome, Took, TookPart, is_device_fault};
 
-use crate::fault::{DeviceFault, WriteFault};
+use crate::fault::{DeviceFault, SinkFault};
 use crate::sink::Sink;
 use crate::source::Source;
 use std::alloc::Global;
@@ -39,21 +39,21 @@ pub fn read_to<R: Source>(alloc: Global, input: &mut R, most: usize) -> Result<V
 }
 
 /// Writes all of the bytes. On an error the device has taken the first of them, and not all.
-pub fn write_all<W: Sink>(out: &mut W, bytes: &[u8]) -> Result<(), WriteFault>
+pub fn write_all<W: Sink>(out: &mut W, bytes: &[u8]) -> Result<(), SinkFault>
     requires sound { W.failed out.old ≡ false }
     ensures written { OnOk result (Took W.HasTaken out.old bytes.now out.new) }
     ensures part { OnErr result (TookPart W.HasTaken out.old bytes.now out.new) }
     ensures unmarked { OnOk result (W.failed out.new ≡ false) }
     ensures eager { W.takes_some out.new ≡ W.takes_some out.old }
     ensures fault { IfErr result (λ e. W.failed out.new ≡ is_device_fault e) }
-    ensures took_nothing { IsErrOf result WriteFault.TookNothing → W.takes_some out.old ≡ false }
+    ensures took_nothing { IsErrOf result SinkFault.TookNothing → W.takes_some out.old ≡ false }
     ensures nothing { bytes.now ≡ [] → IsOk result × (out.new ≡ out.old) }
 {
     let mut at = 0;
     while at < bytes.len() {
         let n = out.write(&bytes[at..])?;
         if n == 0 {
-            return Err(WriteFault::TookNothing);
+            return Err(SinkFault::TookNothing);
         }
         at += n;
     }

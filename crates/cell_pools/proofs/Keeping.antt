@@ -11,8 +11,8 @@ use Rattle.std.specs.FinMap as map
 use Rattle.std.specs.FinMap.{get, same_map, nat_cmp-IsAntisymmetric}
 use Rattle.node_table.proofs.Numbered.{get-from_zero, get-above, get-insert_same, get-insert_other, get-remove_same, get-remove_other}
 use Rattle.cell_pools.specs.declared.store.Cell.{Cell}
-use Rattle.cell_pools.specs.Cells.{Held, Clients, Cells, held, keys_in, with_its_keys, AreKeys, is_of, cells_of, Store, with_cell, with_value, put_value, keys_of, used_by}
-use Rattle.cell_pools.specs.Kept.{shown, cells_kept, AreCellsKept}
+use Rattle.cell_pools.specs.Cells.{Holding, Clients, Cells, holding_of, keys_in, with_its_keys, AreKeys, is_of, cells_of, Store, with_cell, with_value, put_value, keys_of, used_by}
+use Rattle.cell_pools.specs.Kept.{cell_content, cells_kept, AreCellsKept}
 use Rattle.node_table.proofs.Places.{not_both, some_is}
 use Rattle.cell_pools.proofs.Maps.{held-insert_same, held-insert_other, no_entries, len-keys, get-cells_of}
 
@@ -36,29 +36,29 @@ pushed (x ∷ xs) key = pushed xs key
 module _ {T : Type 0} where
   -- ---- what stands under a key
 
-  pub get-kept : (slots : List (Option (Cell T))) (key : ℕ) → get (cells_kept slots) key ≡ option_map shown (get_or slots key None)
+  pub get-kept : (slots : List (Option (Cell T))) (key : ℕ) → get (cells_kept slots) key ≡ option_map cell_content (get_or slots key None)
   get-kept slots key = elim (leb_tells (length slots) key) [
-    | inl past ↦ get-above 0 (length slots) key (λ k. option_map shown (get_or slots k None)) (omega (arith, past.1)) ∙ sym (ap (option_map shown) (get_or_past slots key None past.1))
-    | inr within ↦ get-from_zero (length slots) key (λ k. option_map shown (get_or slots k None)) within.1
+    | inl past ↦ get-above 0 (length slots) key (λ k. option_map cell_content (get_or slots k None)) (omega (arith, past.1)) ∙ sym (ap (option_map cell_content) (get_or_past slots key None past.1))
+    | inr within ↦ get-from_zero (length slots) key (λ k. option_map cell_content (get_or slots k None)) within.1
   ]
 
   pub empty-kept : (slots : List (Option (Cell T))) → slots ≡ [] → cells_kept slots ≡ map.empty
-  empty-kept slots e = no_entries (cells_kept slots) (λ q. get-kept slots q ∙ ap (λ s. option_map shown (get_or s q None)) e)
+  empty-kept slots e = no_entries (cells_kept slots) (λ q. get-kept slots q ∙ ap (λ s. option_map cell_content (get_or s q None)) e)
 
   same_cells : (m n : Cells T) → ((q : ℕ) → get m q ≡ get n q) → m ≡ n
   same_cells m n h = same_map nat_cmp_total nat_cmp-IsAntisymmetric m n h
 
   -- another cell stands under a key
-  pub insert-kept : (slots slots' : List (Option (Cell T))) (key : ℕ) (c : Cell T) → get_or slots' key None ≡ Some c → ((k : ℕ) → k ≢ key → get_or slots' k None ≡ get_or slots k None) → cells_kept slots' ≡ map.insert (cells_kept slots) key (shown c)
+  pub insert-kept : (slots slots' : List (Option (Cell T))) (key : ℕ) (c : Cell T) → get_or slots' key None ≡ Some c → ((k : ℕ) → k ≢ key → get_or slots' k None ≡ get_or slots k None) → cells_kept slots' ≡ map.insert (cells_kept slots) key (cell_content c)
   insert-kept slots slots' key c changed others = same_cells _ _ (λ q. elim (cases_eq q key) [
-    | inl same ↦ ap (get (cells_kept slots')) same ∙ get-kept slots' key ∙ ap (option_map shown) changed ∙ sym (get-insert_same (cells_kept slots) key (shown c)) ∙ ap (get (map.insert (cells_kept slots) key (shown c))) (sym same)
-    | inr ne ↦ get-kept slots' q ∙ ap (option_map shown) (others q ne) ∙ sym (get-kept slots q) ∙ sym (get-insert_other (cells_kept slots) key (shown c) q ne)
+    | inl same ↦ ap (get (cells_kept slots')) same ∙ get-kept slots' key ∙ ap (option_map cell_content) changed ∙ sym (get-insert_same (cells_kept slots) key (cell_content c)) ∙ ap (get (map.insert (cells_kept slots) key (cell_content c))) (sym same)
+    | inr ne ↦ get-kept slots' q ∙ ap (option_map cell_content) (others q ne) ∙ sym (get-kept slots q) ∙ sym (get-insert_other (cells_kept slots) key (cell_content c) q ne)
   ])
 
   -- a cell is gone, and the others show what they showed
-  pub remove-kept : (slots slots' : List (Option (Cell T))) (key : ℕ) → get_or slots' key None ≡ None → ((k : ℕ) → k ≢ key → option_map shown (get_or slots' k None) ≡ option_map shown (get_or slots k None)) → cells_kept slots' ≡ map.remove (cells_kept slots) key
+  pub remove-kept : (slots slots' : List (Option (Cell T))) (key : ℕ) → get_or slots' key None ≡ None → ((k : ℕ) → k ≢ key → option_map cell_content (get_or slots' k None) ≡ option_map cell_content (get_or slots k None)) → cells_kept slots' ≡ map.remove (cells_kept slots) key
   remove-kept slots slots' key gone others = same_cells _ _ (λ q. elim (cases_eq q key) [
-    | inl same ↦ ap (get (cells_kept slots')) same ∙ get-kept slots' key ∙ ap (option_map shown) gone ∙ sym (get-remove_same (cells_kept slots) key) ∙ ap (get (map.remove (cells_kept slots) key)) (sym same)
+    | inl same ↦ ap (get (cells_kept slots')) same ∙ get-kept slots' key ∙ ap (option_map cell_content) gone ∙ sym (get-remove_same (cells_kept slots) key) ∙ ap (get (map.remove (cells_kept slots) key)) (sym same)
     | inr ne ↦ get-kept slots' q ∙ others q ne ∙ sym (get-kept slots q) ∙ sym (get-remove_other (cells_kept slots) key q ne)
   ])
 
@@ -77,19 +77,19 @@ module _ {T : Type 0} where
     shows client i key e =
         let cell = kept.listed client i key e in
         some_is _ (client, cell.0)
-        (get-cells_of (cells_kept slots) client key ∙ ap (λ o. cond (is_of client o) o None) (get-kept slots key ∙ ap (option_map shown) cell.1) ∙ ap (λ b. cond b (Some (client, cell.0)) None) (eq-eqb client client refl))
+        (get-cells_of (cells_kept slots) client key ∙ ap (λ o. cond (is_of client o) o None) (get-kept slots key ∙ ap (option_map cell_content) cell.1) ∙ ap (λ b. cond b (Some (client, cell.0)) None) (eq-eqb client client refl))
 
     stands : (client key : ℕ) → IsSome (get (cells_of (cells_kept slots) client) key) → (i : ℕ) × (slice_get (keys_in clients client) i ≡ Some key)
     stands client key some = by (get_or slots key None) refl
       where
-        is : (o : Option (Cell T)) → get_or slots key None ≡ o → get (cells_of (cells_kept slots) client) key ≡ cond (is_of client (option_map shown o)) (option_map shown o) None
-        is o e = get-cells_of (cells_kept slots) client key ∙ ap (λ o. cond (is_of client o) o None) (get-kept slots key ∙ ap (option_map shown) e)
+        is : (o : Option (Cell T)) → get_or slots key None ≡ o → get (cells_of (cells_kept slots) client) key ≡ cond (is_of client (option_map cell_content o)) (option_map cell_content o) None
+        is o e = get-cells_of (cells_kept slots) client key ∙ ap (λ o. cond (is_of client o) o None) (get-kept slots key ∙ ap (option_map cell_content) e)
 
         by : (o : Option (Cell T)) → get_or slots key None ≡ o → (i : ℕ) × (slice_get (keys_in clients client) i ≡ Some key)
         by None e = absurd (not_both _ some (is None e))
         by (Some c) e = elim (eqb_tells c.client client) [
           | inl here ↦ (c.index, subst (λ n. slice_get (keys_in clients n) c.index ≡ Some key) here.1 (kept.placed key c e))
-          | inr apart ↦ absurd (not_both _ some (is (Some c) e ∙ ap (λ b. cond b (Some (shown c)) None) apart.0))
+          | inr apart ↦ absurd (not_both _ some (is (Some c) e ∙ ap (λ b. cond b (Some (cell_content c)) None) apart.0))
         ]
 
     client_keys : (client : ℕ) → AreKeys (cells_of (cells_kept slots) client) (keys_in clients client)
@@ -98,8 +98,8 @@ module _ {T : Type 0} where
     -- ---- what is seen
 
     module _ (s : Store T) (view : ◌≡◌ {A = Store T} (record { cells = cells_kept slots; clients = clients }) s) where
-      pub found : (at key : ℕ) (o : Option (Cell T)) → at ≡ key → get_or slots at None ≡ o → get s.cells key ≡ option_map shown o
-      found at key o same e = ap (get s.cells) (sym same) ∙ ap (λ (n : Store T). get n.cells at) (sym view) ∙ get-kept slots at ∙ ap (option_map shown) e
+      pub found : (at key : ℕ) (o : Option (Cell T)) → at ≡ key → get_or slots at None ≡ o → get s.cells key ≡ option_map cell_content o
+      found at key o same e = ap (get s.cells) (sym same) ∙ ap (λ (n : Store T). get n.cells at) (sym view) ∙ get-kept slots at ∙ ap (option_map cell_content) e
 
       -- each cell is that of a client
       pub known_seen : (key : ℕ) (v : ℕ × T) → get s.cells key ≡ Some v → (128 ≤ v.0) × (v.0 < 192)
@@ -116,7 +116,7 @@ module _ {T : Type 0} where
       used_is client = sym (len-keys (keys_of s client) (cells_of s.cells client) (keys_listed client))
 
     -- the same lists keep the same cells
-    pub lists-kept : (clients' : Clients) → ((q : ℕ) → (held clients' q).keys ≡ keys_in clients q) → AreCellsKept clients' slots
+    pub lists-kept : (clients' : Clients) → ((q : ℕ) → (holding_of clients' q).keys ≡ keys_in clients q) → AreCellsKept clients' slots
     lists-kept clients' same =
         record {
           listed = λ client i key e. kept.listed client i key (ap (λ ks. slice_get ks i) (sym (same client)) ∙ e);
@@ -150,14 +150,14 @@ module _ {T : Type 0} where
       pub written-seen : (s : Store T) → ◌≡◌ {A = Store T} (record { cells = cells_kept slots; clients = clients }) s → ◌≡◌ {A = Store T} (record { cells = cells_kept slots'; clients = clients }) (with_value s key w)
       written-seen s view =
           ap (λ cells. record { cells = cells; clients = clients }) (insert-kept slots slots' key (record c { value = w }) changed others)
-          ∙ ap (λ o. record { cells = put_value (cells_kept slots) key w o; clients = clients }) (sym (get-kept slots key ∙ ap (option_map shown) was))
+          ∙ ap (λ o. record { cells = put_value (cells_kept slots) key w o; clients = clients }) (sym (get-kept slots key ∙ ap (option_map cell_content) was))
           ∙ ap (λ (n : Store T). with_value n key w) view
 
     -- ---- a cell more
 
     module _ (slots' : List (Option (Cell T))) (client key : ℕ) (x : T) (vacant : get_or slots key None ≡ None) (changed : get_or slots' key None ≡ Some (record { client = client; index = length (keys_in clients client); value = x })) (others : (k : ℕ) → k ≢ key → get_or slots' k None ≡ get_or slots k None) (low : 128 ≤ client) (high : client < 192) where
-      abbrev more : Held
-      more = record { size = (held clients client).size; keys = keys_in clients client ++ key ∷ [] }
+      abbrev more : Holding
+      more = record { size = (holding_of clients client).size; keys = keys_in clients client ++ key ∷ [] }
 
       abbrev lists' : Clients
       lists' = with_its_keys clients client (keys_in clients client ++ key ∷ [])
@@ -166,10 +166,10 @@ module _ {T : Type 0} where
       new_key k c e same = none-some c (sym vacant ∙ ap (λ n. get_or slots n None) (sym same) ∙ e)
 
       here : (q : ℕ) → q ≡ client → keys_in lists' q ≡ keys_in clients client ++ key ∷ []
-      here q same = ap (λ n. keys_in lists' n) same ∙ ap (λ (h : Held). h.keys) (held-insert_same clients client more)
+      here q same = ap (λ n. keys_in lists' n) same ∙ ap (λ (h : Holding). h.keys) (held-insert_same clients client more)
 
       there : (q : ℕ) → q ≢ client → keys_in lists' q ≡ keys_in clients q
-      there q ne = ap (λ (h : Held). h.keys) (held-insert_other clients client more q ne)
+      there q ne = ap (λ (h : Holding). h.keys) (held-insert_other clients client more q ne)
 
       put_listed : (q i k : ℕ) → slice_get (keys_in lists' q) i ≡ Some k → (y : T) × (get_or slots' k None ≡ Some (record { client = q; index = i; value = y }))
       put_listed q i k e = elim (cases_eq q client) [

@@ -8,18 +8,18 @@ use Rattle.std.specs.FinMap as map
 use Rattle.std.specs.FinMap.{FinMap, get, same_map, nat_cmp-IsAntisymmetric, get-empty, empty_of_len, len-empty, len-remove, get-retain_keys}
 use Rattle.node_table.proofs.Places.{not_both}
 use Rattle.node_table.proofs.Numbered.{get-insert_same, get-insert_other, get-remove_same, get-remove_other}
-use Rattle.cell_pools.specs.Cells.{Held, Clients, Cells, no_cells, held, AreKeys, is_of, cells_of}
+use Rattle.cell_pools.specs.Cells.{Holding, Clients, Cells, no_cells, holding_of, AreKeys, is_of, cells_of}
 
-pub held-insert_same : (m : Clients) (client : ℕ) (h : Held) → held (map.insert m client h) client ≡ h
+pub held-insert_same : (m : Clients) (client : ℕ) (h : Holding) → holding_of (map.insert m client h) client ≡ h
 held-insert_same m client h = ap (λ o. unwrap_or o no_cells) (get-insert_same m client h)
 
-pub held-insert_other : (m : Clients) (client : ℕ) (h : Held) (q : ℕ) → q ≢ client → held (map.insert m client h) q ≡ held m q
+pub held-insert_other : (m : Clients) (client : ℕ) (h : Holding) (q : ℕ) → q ≢ client → holding_of (map.insert m client h) q ≡ holding_of m q
 held-insert_other m client h q ne = ap (λ o. unwrap_or o no_cells) (get-insert_other m client h q ne)
 
 -- a change of a client that leaves this part of it leaves it for all
-pub held-insert_part : {A : Type 0} (part : Held → A) (m : Clients) (client : ℕ) (h : Held) → part h ≡ part (held m client) → (q : ℕ) → part (held (map.insert m client h) q) ≡ part (held m q)
+pub held-insert_part : {A : Type 0} (part : Holding → A) (m : Clients) (client : ℕ) (h : Holding) → part h ≡ part (holding_of m client) → (q : ℕ) → part (holding_of (map.insert m client h) q) ≡ part (holding_of m q)
 held-insert_part part m client h e q = elim (cases_eq q client) [
-  | inl same ↦ ap (λ k. part (held (map.insert m client h) k)) same ∙ ap part (held-insert_same m client h) ∙ e ∙ ap (λ k. part (held m k)) (sym same)
+  | inl same ↦ ap (λ k. part (holding_of (map.insert m client h) k)) same ∙ ap part (held-insert_same m client h) ∙ e ∙ ap (λ k. part (holding_of m k)) (sym same)
   | inr ne ↦ ap part (held-insert_other m client h q ne)
 ]
 

@@ -11,8 +11,8 @@ use Rattle.std.specs.FinMap as map
 use Rattle.std.specs.FinMap.{get}
 use Rattle.node_table.proofs.Numbered.{remove_absent}
 use Rattle.cell_pools.specs.declared.store.Cell.{Cell}
-use Rattle.cell_pools.specs.Cells.{Held, Clients, held, keys_in, with_its_keys, is_of, Store, IsTaken}
-use Rattle.cell_pools.specs.Kept.{shown, cells_kept, AreCellsKept}
+use Rattle.cell_pools.specs.Cells.{Holding, Clients, holding_of, keys_in, with_its_keys, is_of, Store, IsTaken}
+use Rattle.cell_pools.specs.Kept.{cell_content, cells_kept, AreCellsKept}
 use Rattle.node_table.proofs.Places.{some_is}
 use Rattle.cell_pools.proofs.Maps.{held-insert_same, held-insert_other, held-insert_part}
 use Rattle.cell_pools.proofs.Swapped.{swapped-past, swapped-here, swapped-other, take-swapped}
@@ -28,8 +28,8 @@ module _ {T : Type 0} (clients : Clients) (slots : List (Option (Cell T))) (kept
   abbrev list : List ℕ
   list = keys_in clients c.client
 
-  abbrev left : Held
-  left = record { size = (held clients c.client).size; keys = swap_remove list c.index 0 }
+  abbrev left : Holding
+  left = record { size = (holding_of clients c.client).size; keys = swap_remove list c.index 0 }
 
   abbrev lists' : Clients
   lists' = map.insert clients c.client left
@@ -44,14 +44,14 @@ module _ {T : Type 0} (clients : Clients) (slots : List (Option (Cell T))) (kept
   last_there = let within : c.index < length list = taken-inside in slice_get-get_or list (length list - 1) 0 (omega arith)
 
   here : (q : ℕ) → q ≡ c.client → keys_in lists' q ≡ swap_remove list c.index 0
-  here q same = ap (λ n. keys_in lists' n) same ∙ ap (λ (h : Held). h.keys) (held-insert_same clients c.client left)
+  here q same = ap (λ n. keys_in lists' n) same ∙ ap (λ (h : Holding). h.keys) (held-insert_same clients c.client left)
 
   there : (q : ℕ) → q ≢ c.client → keys_in lists' q ≡ keys_in clients q
-  there q ne = ap (λ (h : Held). h.keys) (held-insert_other clients c.client left q ne)
+  there q ne = ap (λ (h : Holding). h.keys) (held-insert_other clients c.client left q ne)
 
   -- what stands at the place of the key now
-  pub stands-now : (clients' : Clients) (h : Held) (o : Option ℕ) → clients' ≡ with_its_keys clients c.client (swap_remove (keys_in clients c.client) c.index 0) → h ≡ held clients' c.client → o ≡ slice_get h.keys c.index → slice_get (swap_remove (keys_in clients c.client) c.index 0) c.index ≡ o
-  stands-now clients' h o is at e = sym (e ∙ ap (λ (x : Held). slice_get x.keys c.index) (at ∙ ap (λ m. held m c.client) is ∙ held-insert_same clients c.client left))
+  pub stands-now : (clients' : Clients) (h : Holding) (o : Option ℕ) → clients' ≡ with_its_keys clients c.client (swap_remove (keys_in clients c.client) c.index 0) → h ≡ holding_of clients' c.client → o ≡ slice_get h.keys c.index → slice_get (swap_remove (keys_in clients c.client) c.index 0) c.index ≡ o
+  stands-now clients' h o is at e = sym (e ∙ ap (λ (x : Holding). slice_get x.keys c.index) (at ∙ ap (λ m. holding_of m c.client) is ∙ held-insert_same clients c.client left))
 
   -- ---- the two ways of the code
 
@@ -113,11 +113,11 @@ module _ {T : Type 0} (clients : Clients) (slots : List (Option (Cell T))) (kept
       ]
     ]
 
-    shows_same : (k : ℕ) → k ≢ key → option_map shown (get_or slots' k None) ≡ option_map shown (get_or slots k None)
+    shows_same : (k : ℕ) → k ≢ key → option_map cell_content (get_or slots' k None) ≡ option_map cell_content (get_or slots k None)
     shows_same k ne = elim (is_last k) [
       | inl last ↦ let cell = kept.listed c.client (length list - 1) k last.1 in
-          ap (option_map shown) (removed.moved k _ last.0 last.1 cell.1) ∙ sym (ap (option_map shown) cell.1)
-      | inr other ↦ ap (option_map shown) (removed.others k ne other)
+          ap (option_map cell_content) (removed.moved k _ last.0 last.1 cell.1) ∙ sym (ap (option_map cell_content) cell.1)
+      | inr other ↦ ap (option_map cell_content) (removed.others k ne other)
     ]
 
     take_listed : (q j k : ℕ) → slice_get (keys_in lists' q) j ≡ Some k → (x : T) × (get_or slots' k None ≡ Some (record { client = q; index = j; value = x }))
@@ -206,7 +206,7 @@ module _ {T : Type 0} (clients : Clients) (slots : List (Option (Cell T))) (kept
             ap (take i) (here q same) ∙ ap (λ n. take n (swap_remove list c.index 0)) spot ∙ take-swapped list c.index taken-inside ∙ ap (λ n. take n list) (sym spot) ∙ ap (λ n. take i (keys_in clients n)) (sym same)
         | inr ne ↦ ap (take i) (there q ne)
       ];
-      others = λ q no. there q (λ same. false≢true (sym no ∙ ap (is_of q) (get-kept slots key ∙ ap (option_map shown) was) ∙ eq-eqb c.client q (sym same)));
+      others = λ q no. there q (λ same. false≢true (sym no ∙ ap (is_of q) (get-kept slots key ∙ ap (option_map cell_content) was) ∙ eq-eqb c.client q (sym same)));
     })
 
     -- the same of stores that show this

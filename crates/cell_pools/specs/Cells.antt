@@ -1,4 +1,5 @@
--- What a store holds: the cells of all clients, and of each client its size and its keys.
+-- Definition: What a store holds: the cells of all clients, and of each client its size and its
+-- keys.
 use Rattle.std.specs.Prelude.{◌≡◌, ◌≤◌, ℕ, Bool, false, ◌==◌, List, [], ◌∷◌, ◌++◌, take, Option, Some, None, IsSome, unwrap_or, slice_get, refl}
 use Rattle.std.specs.Option.{option_map}
 use Rattle.std.specs.Ordering.{nat_cmp}
@@ -7,13 +8,13 @@ use Rattle.std.specs.FinMap
 use Rattle.std.specs.FinMap.{FinMap}
 
 -- how many cells a client may have, and the keys of those that it has
-pub record Held : Type 0 where
+pub record Holding : Type 0 where
   pub size : ℕ
   pub keys : List ℕ
 
 -- what each client holds
 abbrev pub Clients : Type 0
-Clients = FinMap nat_cmp Held
+Clients = FinMap nat_cmp Holding
 
 -- what is pending under each key, with its client
 abbrev pub Cells : Type 0 → Type 0
@@ -23,13 +24,13 @@ pub record Store (T : Type 0) : Type 0 where
   pub cells : Cells T
   pub clients : Clients
 
-abbrev pub coded_held : Coded Held
-coded_held =
+abbrev pub coded_holding : Coded Holding
+coded_holding =
     code_by (ℕ × List ℕ) (coded× coded_ℕ (coded_list coded_ℕ)) (λ h. (h.size, h.keys))
     (λ p. record { size = p.0; keys = p.1 }) (λ _. refl)
 
 abbrev pub coded_clients : Coded Clients
-coded_clients = FinMap.code coded_ℕ coded_held
+coded_clients = FinMap.code coded_ℕ coded_holding
 
 abbrev pub coded_cells : {T : Type 0} → Coded T → Coded (Cells T)
 coded_cells value = FinMap.code coded_ℕ (coded× coded_ℕ value)
@@ -58,14 +59,14 @@ pub record AreKeys {X : Type 0} (m : FinMap nat_cmp X) (keys : List ℕ) : Type 
 -- ---- what a client holds
 
 -- a client whose size is not set
-abbrev pub no_cells : Held
+abbrev pub no_cells : Holding
 no_cells = record { size = 0; keys = [] }
 
-abbrev pub held : Clients → ℕ → Held
-held clients client = unwrap_or (FinMap.get clients client) no_cells
+abbrev pub holding_of : Clients → ℕ → Holding
+holding_of clients client = unwrap_or (FinMap.get clients client) no_cells
 
 abbrev pub keys_in : Clients → ℕ → List ℕ
-keys_in clients client = (held clients client).keys
+keys_in clients client = (holding_of clients client).keys
 
 -- the clients with another size of one of them
 abbrev pub with_its_size : Clients → ℕ → ℕ → Clients
@@ -75,11 +76,11 @@ with_its_size clients client size =
 -- the clients with another list of keys of one of them
 abbrev pub with_its_keys : Clients → ℕ → List ℕ → Clients
 with_its_keys clients client keys =
-    FinMap.insert clients client (record { size = (held clients client).size; keys = keys })
+    FinMap.insert clients client (record { size = (holding_of clients client).size; keys = keys })
 
 module _ {T : Type 0} where
   abbrev pub size_of : Store T → ℕ → ℕ
-  size_of s client = (held s.clients client).size
+  size_of s client = (holding_of s.clients client).size
 
   -- the keys of a client's cells
   abbrev pub keys_of : Store T → ℕ → List ℕ

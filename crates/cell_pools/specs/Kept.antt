@@ -1,8 +1,8 @@
--- How a store keeps its cells, and what this stands for.
+-- Representation: How a store keeps its cells, and what this stands for.
 use Rattle.std.specs.Prelude.{◌≡◌, ℕ, ◌+◌, ◌<◌, ◌≤◌, List, length, Option, Some, None, slice_index_or}
 use Rattle.std.specs.Option.{option_map}
 use Rattle.node_table.specs.Numbers.{first_client, most_clients}
-use Rattle.node_table.specs.Kept.{numbered}
+use Rattle.node_table.specs.Kept.{numbered_map}
 use Rattle.cell_pools.specs.Cells.{Clients, Cells, keys_in, StandsAt}
 use Rattle.cell_pools.specs.declared.store.Cell.{Cell}
 
@@ -12,15 +12,15 @@ IsClient n = (first_client ≤ n) × (n < first_client + most_clients)
 
 module _ {T : Type 0} where
   -- what a cell shows: its client and its value
-  abbrev pub shown : Cell T → ℕ × T
-  shown c = (c.client, c.value)
+  abbrev pub cell_content : Cell T → ℕ × T
+  cell_content c = (c.client, c.value)
 
   abbrev pub slot : List (Option (Cell T)) → ℕ → Option (Cell T)
   slot slots key = slice_index_or slots key None
 
   -- the cells under their keys
   abbrev pub cells_kept : List (Option (Cell T)) → Cells T
-  cells_kept slots = numbered 0 (length slots) (λ key. option_map shown (slot slots key))
+  cells_kept slots = numbered_map 0 (length slots) (λ key. option_map cell_content (slot slots key))
 
   -- under the key is a cell of this client and place
   abbrev pub HasCell : List (Option (Cell T)) → ℕ → ℕ → ℕ → Type 0

@@ -1,4 +1,4 @@
--- What is left after a `&mut` to a cell's value was returned.
+-- Representation: What is left after a `&mut` to a cell's value was returned.
 use Rattle.std.specs.Borrow.{Lends, Fml, RattleType, MutBor}
 use Rattle.cell_pools.specs.declared.store.Cell.{Cell}
 use Rattle.cell_pools.specs.contracts.store.Cell.{the_row}

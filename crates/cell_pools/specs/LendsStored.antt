@@ -1,4 +1,4 @@
--- What is left after a `&mut` to a value of a store was returned.
+-- Representation: What is left after a `&mut` to a value of a store was returned.
 use Rattle.std.specs.Prelude.{ℕ, Option}
 use Rattle.std.specs.Borrow.{LendsIf, Fml, RattleType, MutBor}
 use Rattle.cell_pools.specs.Cells.{Store, with_value}

@@ -1,4 +1,5 @@
--- What waits in a bounded place: the oldest is taken first, and what finds no room is counted.
+-- Definition: What waits in a bounded place: the oldest is taken first, and what finds no room is
+-- counted.
 use Rattle.std.specs.Prelude.{ℕ, ◌≤◌, ◌+◌, ◌-◌, ◌^◌, Bool, ◌&&◌, nat_le, nat_lt, min, if◌then◌else◌, List, [], ◌∷◌, ◌++◌, length, take, drop, refl}
 use Rattle.std.specs.Coded.{Coded, code_by, coded×, coded_list, coded_ℕ}
 
@@ -46,8 +47,8 @@ module _ {A : Type 0} where
       else record p { lost = min (p.lost + 1) most_lost }
 
   -- what a take of so many gives: the oldest, or all where there are fewer
-  abbrev pub taken : ℕ → Pool A → List A
-  taken max p = take max p.waiting
+  abbrev pub oldest_items : ℕ → Pool A → List A
+  oldest_items max p = take max p.waiting
 
   -- what it leaves
   abbrev pub after_take : ℕ → Pool A → Pool A

@@ -3,7 +3,7 @@
 ghost use Rattle.std.specs.Prelude.{◌≡◌, ◌≤◌, ◌+◌, ◌<◌, ◌^◌, ℕ, [], ◌∷◌, ◌++◌, length, slice_get, slice_index_or, OnOk, OnErr};
 ghost use Rattle.std.specs.List.{swap_remove};
 ghost use Rattle.node_table.specs.Numbers.{first_client, most_clients};
-ghost use Rattle.cell_pools.specs.Cells.{no_cells, held, keys_in, with_its_size, with_its_keys};
+ghost use Rattle.cell_pools.specs.Cells.{no_cells, holding_of, keys_in, with_its_size, with_its_keys};
 
 use crate::key::CellKey;
 use memory::OutOfMemory;
@@ -21,11 +21,11 @@ pub(crate) struct ClientCells {
 
 impl Model for ClientCells {
     ghost use Rattle.std.specs.Prelude.{◌<◌, ◌^◌, length};
-    ghost use Rattle.cell_pools.specs.Cells.{Held, coded_held};
+    ghost use Rattle.cell_pools.specs.Cells.{Holding, coded_holding};
 
-    ghost Value = { Held };
+    ghost Value = { Holding };
 
-    ghost coded = { coded_held };
+    ghost coded = { coded_holding };
 
     ghost view = { λ c. record { size = c.size; keys = c.keys.items } };
 
@@ -95,14 +95,14 @@ pub(crate) struct ClientTable {
 impl Model for ClientTable {
     ghost use Rattle.std.specs.Prelude.{◌≡◌, length, slice_index_or, Some};
     ghost use Rattle.node_table.specs.Numbers.{first_client, most_clients};
-    ghost use Rattle.node_table.specs.Kept.{numbered};
+    ghost use Rattle.node_table.specs.Kept.{numbered_map};
     ghost use Rattle.cell_pools.specs.Cells.{Clients, coded_clients, no_cells};
 
     ghost Value = { Clients };
 
     ghost coded = { coded_clients };
 
-    ghost view = { λ t. numbered first_client most_clients
+    ghost view = { λ t. numbered_map first_client most_clients
         (λ row. Some (slice_index_or t.rows row no_cells)) };
 
     ghost invariant = { λ t. length t.rows ≡ most_clients };
@@ -117,7 +117,7 @@ fn empty_rows<const N: usize>(alloc: Global) -> [ClientCells; N]
 
 impl ClientTable {
     pub(crate) fn new(alloc: Global) -> ClientTable
-        ensures { (client : ℕ) → held result client ≡ no_cells }
+        ensures { (client : ℕ) → holding_of result client ≡ no_cells }
     {
         ClientTable {
             rows: empty_rows(alloc),
@@ -125,7 +125,7 @@ impl ClientTable {
     }
 
     pub(crate) fn get(&self, client: ClientId) -> &ClientCells
-        ensures value { result.now ≡ held self.now client }
+        ensures value { result.now ≡ holding_of self.now client }
         ensures low { first_client ≤ client }
         ensures high { client < first_client + most_clients }
     {

@@ -1,7 +1,7 @@
 //! What waits to be read.
 
 ghost use Rattle.std.specs.Prelude.{◌≡◌, ◌↔◌, ◌≤◌, ◌<◌, ◌^◌, length, IfOk, OnOk, OnErr, IsErrOf, false};
-ghost use Rattle.cell_pools.specs.Pools.{most_waiting, is_size, empty_pool, has_room, after_offer, taken, after_take};
+ghost use Rattle.cell_pools.specs.Pools.{most_waiting, is_size, empty_pool, has_room, after_offer, oldest_items, after_take};
 
 use crate::fault::PoolFault;
 use circular_buffer::HeapCircularBuffer;
@@ -82,7 +82,7 @@ impl<T> InPool<T> {
     pub fn take(&mut self, max: u32) -> Result<Vec<T>, OutOfMemory>
     where
         T: Drop,
-        ensures ok { IfOk result (λ items. items.items ≡ taken max self.old) }
+        ensures ok { IfOk result (λ items. items.items ≡ oldest_items max self.old) }
         ensures left { OnOk result (self.new ≡ after_take max self.old) }
         ensures err { OnErr result (self.new ≡ self.old) }
     {

@@ -1,4 +1,4 @@
--- The text of the fault.
+-- Definition: The text of the fault.
 use Rattle.std.specs.Prelude.{ℕ, List, codes}
 
 -- a refused growth as it is printed

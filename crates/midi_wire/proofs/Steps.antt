@@ -3,7 +3,7 @@ use Rattle.std.proofs.Common.{◌≡◌, ℕ, ◌+◌, Bool, true, false, ◌⊎
 use Rattle.std.specs.Prelude.{if◌then◌else◌, nat_le}
 use Rattle.std.proofs.lemmas.Bool.{lt-leb, leb-false, cases_Bool}
 use Rattle.midi_wire.specs.Messages.{Width, One, Two, StatusClass, Channel, Common, TuneRequest, Exclusive, RealTime, Nothing, begins, is_status, is_real_time, most_data}
-use Rattle.midi_wire.specs.Readings.{Placed, Block, PlacedMessage, groups, first_message, bytes_of, exclusive, given_by, given, all_given, incomplete, while_incomplete, too_long, matters_by, last_matters}
+use Rattle.midi_wire.specs.Readings.{Placed, Block, PlacedMessage, groups, first_message, bytes_of, exclusive, given_by, block_messages, all_given, incomplete, while_incomplete, too_long, matters_by, last_matters}
 use Rattle.midi_wire.proofs.Blocks.{block_of, add}
 
 -- ---- a step over what still matters
@@ -211,11 +211,11 @@ begun_with Exclusive x = refl
 begun_with RealTime x = refl
 begun_with Nothing x = refl
 
-all_given-add-cons : (b c : Block) (bs : List Block) (x : Placed) → all_given (b ∷ add (c ∷ bs) x) ≡ given b (Some c.status) ++ all_given (add (c ∷ bs) x)
+all_given-add-cons : (b c : Block) (bs : List Block) (x : Placed) → all_given (b ∷ add (c ∷ bs) x) ≡ block_messages b (Some c.status) ++ all_given (add (c ∷ bs) x)
 all_given-add-cons b c [] x =
     go (is_status x.byte)
   where
-    go : (t : Bool) → all_given (b ∷ (if t then (c ∷ block_of x [] ∷ []) else (block_of c.status (c.bytes ++ x ∷ []) ∷ []))) ≡ given b (Some c.status) ++ all_given (if t then (c ∷ block_of x [] ∷ []) else (block_of c.status (c.bytes ++ x ∷ []) ∷ []))
+    go : (t : Bool) → all_given (b ∷ (if t then (c ∷ block_of x [] ∷ []) else (block_of c.status (c.bytes ++ x ∷ []) ∷ []))) ≡ block_messages b (Some c.status) ++ all_given (if t then (c ∷ block_of x [] ∷ []) else (block_of c.status (c.bytes ++ x ∷ []) ∷ []))
     go true = refl
     go false = refl
 all_given-add-cons b c (d ∷ bs) x = refl
@@ -230,17 +230,17 @@ all_given-add [] x =
 all_given-add (b ∷ []) x =
     go (is_status x.byte)
   where
-    go : (t : Bool) → all_given (if t then (b ∷ block_of x [] ∷ []) else (block_of b.status (b.bytes ++ x ∷ []) ∷ [])) ≡ given b None ++ all_at x.place (if t then (ended (matters_by (begins b.status.byte) b.status.byte (bytes_of b.bytes)) ++ begun (begins x.byte) x.byte) else completed (matters_by (begins b.status.byte) b.status.byte (bytes_of b.bytes)) x.byte)
+    go : (t : Bool) → all_given (if t then (b ∷ block_of x [] ∷ []) else (block_of b.status (b.bytes ++ x ∷ []) ∷ [])) ≡ block_messages b None ++ all_at x.place (if t then (ended (matters_by (begins b.status.byte) b.status.byte (bytes_of b.bytes)) ++ begun (begins x.byte) x.byte) else completed (matters_by (begins b.status.byte) b.status.byte (bytes_of b.bytes)) x.byte)
     go true =
         rw (ended_with (begins b.status.byte) b.status refl b.bytes x)
         (rw (begun_with (begins x.byte) x)
-        (append_assoc (given b None) (all_at x.place (ended (matters_by (begins b.status.byte) b.status.byte (bytes_of b.bytes)))) (all_at x.place (begun (begins x.byte) x.byte))
-        ∙ ap (λ (ts : List PlacedMessage). given b None ++ ts) (sym (all_at-append x.place (ended (matters_by (begins b.status.byte) b.status.byte (bytes_of b.bytes))) (begun (begins x.byte) x.byte)))))
+        (append_assoc (block_messages b None) (all_at x.place (ended (matters_by (begins b.status.byte) b.status.byte (bytes_of b.bytes)))) (all_at x.place (begun (begins x.byte) x.byte))
+        ∙ ap (λ (ts : List PlacedMessage). block_messages b None ++ ts) (sym (all_at-append x.place (ended (matters_by (begins b.status.byte) b.status.byte (bytes_of b.bytes))) (begun (begins x.byte) x.byte)))))
     go false = completed_with (begins b.status.byte) b.status refl b.bytes x
 all_given-add (b ∷ c ∷ bs) x =
     all_given-add-cons b c bs x
-    ∙ ap (λ (ts : List PlacedMessage). given b (Some c.status) ++ ts) (all_given-add (c ∷ bs) x)
-    ∙ sym (append_assoc (given b (Some c.status)) (all_given (c ∷ bs)) (all_at x.place (gained (last_matters (c ∷ bs)) x.byte)))
+    ∙ ap (λ (ts : List PlacedMessage). block_messages b (Some c.status) ++ ts) (all_given-add (c ∷ bs) x)
+    ∙ sym (append_assoc (block_messages b (Some c.status)) (all_given (c ∷ bs)) (all_at x.place (gained (last_matters (c ∷ bs)) x.byte)))
 
 last_matters-add-cons : (b c : Block) (bs : List Block) (x : Placed) → last_matters (b ∷ add (c ∷ bs) x) ≡ last_matters (add (c ∷ bs) x)
 last_matters-add-cons b c [] x =

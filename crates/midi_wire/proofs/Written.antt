@@ -5,7 +5,7 @@ use Rattle.std.proofs.lemmas.Bool.{le-leb, lt-leb, ltb-true, eqb-true, cases_Boo
 use Rattle.std.proofs.lemmas.Bool.Decides.{nat_tests}
 use Rattle.midi_wire.specs.Messages.{Width, One, Two, StatusClass, Channel, Common, TuneRequest, Exclusive, RealTime, Nothing, begins, most_data, all_data, is_group, IsTail, IsMessage, AllMessages}
 use Rattle.midi_wire.specs.Readings.{rest, matters_by, too_long}
-use Rattle.midi_wire.specs.Writings.{is_channel, is_real, repeats, written_next, written_on, written}
+use Rattle.midi_wire.specs.Writings.{is_channel, is_real, repeats, written_next, written_on, wire_bytes}
 use Rattle.midi_wire.proofs.Steps.{begun, ended, ended_by, completed_by, real_of, step_gives, step_leaves}
 use Rattle.midi_wire.proofs.Halves.{gives, leaves, reading-gives}
 use Rattle.midi_wire.proofs.Settled.{IsBlockStatus, AllData, status-gives, status-leaves, data-gives, data-leaves, real-gives, real-leaves, exclusive-gives, exclusive-leaves, reading-none, rest-none}
@@ -242,7 +242,7 @@ read-back r before (m ∷ ms) p f =
 
 pub reads-written : ReadsWritten
 reads-written ms p =
-    reading-gives [] (written ms)
-    ∙ ap (λ xs. xs ++ gives (rest []) (written ms)) reading-none
-    ∙ ap (λ r. gives r (written ms)) rest-none
+    reading-gives [] (wire_bytes ms)
+    ∙ ap (λ xs. xs ++ gives (rest []) (wire_bytes ms)) reading-none
+    ∙ ap (λ r. gives r (wire_bytes ms)) rest-none
     ∙ read-back [] [] ms p (record { quiet = refl; runs = λ s c p. cc })

@@ -3,7 +3,7 @@ use Rattle.std.proofs.Common.{◌≡◌, ℕ, true, false, ◌⊎◌, inl, inr, 
 use Rattle.std.specs.Prelude.{if◌then◌else◌, ◌==◌, ◌&&◌}
 use Rattle.std.proofs.lemmas.Bool.{eqb-true, cases_Bool}
 use Rattle.midi_wire.specs.Messages.{begins}
-use Rattle.midi_wire.specs.Writings.{status_of, tail_of, is_channel, is_real, repeats, written_next, written_on, written, message_with, written_after, status_after, status_after_all, status_in_force}
+use Rattle.midi_wire.specs.Writings.{status_of, tail_of, is_channel, is_real, repeats, written_next, written_on, wire_bytes, message_with, written_after, status_after, status_after_all, status_in_force}
 use Rattle.midi_wire.specs.Laws.{WritesInTwo, WritesOneMore}
 use Rattle.midi_wire.proofs.WrittenNext.{channel-not-real}
 
@@ -84,9 +84,9 @@ pub status_in_force-snoc : (ms : List (List ℕ)) (m : List ℕ) → status_in_f
 status_in_force-snoc ms m = status_after_all-snoc None ms m
 
 -- a loop that writes messages one by one: what stands in `new` after one more
-pub written-step : (base out new : List ℕ) (ms : List (List ℕ)) (m : List ℕ) → out ≡ base ++ written ms → new ≡ out ++ written_after (status_in_force ms) (m ∷ []) → new ≡ base ++ written (ms ++ m ∷ [])
+pub written-step : (base out new : List ℕ) (ms : List (List ℕ)) (m : List ℕ) → out ≡ base ++ wire_bytes ms → new ≡ out ++ written_after (status_in_force ms) (m ∷ []) → new ≡ base ++ wire_bytes (ms ++ m ∷ [])
 written-step base out new ms m e f =
     f
     ∙ ap (λ (xs : List ℕ). xs ++ written_after (status_in_force ms) (m ∷ [])) e
-    ∙ append_assoc base (written ms) (written_after (status_in_force ms) (m ∷ []))
+    ∙ append_assoc base (wire_bytes ms) (written_after (status_in_force ms) (m ∷ []))
     ∙ ap (λ (xs : List ℕ). base ++ xs) (sym (writes-one-more ms m))

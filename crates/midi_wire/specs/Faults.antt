@@ -1,4 +1,4 @@
--- The texts of the faults.
+-- Definition: The texts of the faults.
 use Rattle.std.specs.Prelude.{ℕ, List, codes}
 use Rattle.memory.specs.Faults.{out_of_memory_text}
 use Rattle.midi_wire.specs.declared.fault.WireFault.{WireFault}

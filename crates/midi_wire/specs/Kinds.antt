@@ -1,4 +1,4 @@
--- The kinds of messages, and the messages of a channel.
+-- Definition: The kinds of messages, and the messages of a channel.
 use Rattle.std.specs.Prelude.{ℕ, ◌+◌, ◌%◌, List, [], ◌∷◌, Option, Some, None, Bool, ◌&&◌, ◌||◌, ◌==◌, nat_lt, if◌then◌else◌}
 use Rattle.midi_wire.specs.declared.kind.Kind.{Kind}
 use Rattle.midi_wire.specs.declared.kind.Kind.TheVariants.{NoteOff, NoteOn, PolyPressure, ControlChange, ProgramChange, ChannelPressure, PitchBend, SystemCommon, RealTime, Exclusive}
@@ -37,11 +37,14 @@ is_base Two b = (b == 128) || ((b == 144) || ((b == 160) || ((b == 176) || (b ==
 
 -- a message of a channel with one data byte, and 0 in place of a second
 abbrev pub with_one_data : ℕ → ℕ → ℕ → ℕ → Option (List ℕ)
-with_one_data base channel first second = if nat_lt channel channels && (nat_lt first 128 && second == 0) then Some ((base + channel) ∷ first ∷ []) else None
+with_one_data base channel first second = if nat_lt channel channels
+    && (nat_lt first 128 && second == 0) then Some ((base + channel) ∷ first ∷ []) else None
 
 -- a message of a channel with two data bytes
 abbrev pub with_two_data : ℕ → ℕ → ℕ → ℕ → Option (List ℕ)
-with_two_data base channel first second = if nat_lt channel channels && (nat_lt first 128 && nat_lt second 128) then Some ((base + channel) ∷ first ∷ second ∷ []) else None
+with_two_data base channel first second = if nat_lt channel channels
+    && (nat_lt first 128 && nat_lt second 128) then Some ((base + channel) ∷ first ∷ second ∷ [])
+    else None
 
 -- the message of a channel with this kind, channel and data, if there is one
 abbrev pub channel_message : Kind → ℕ → ℕ → ℕ → Option (List ℕ)

@@ -1,9 +1,9 @@
--- The laws of streams.
+-- Law: The laws of streams.
 use Rattle.std.specs.Prelude.{◌≡◌, ◌≤◌, ◌+◌, ℕ, List, [], ◌∷◌, ◌++◌, Option, length, IsTrue, ◌↔◌}
 use Rattle.std.specs.List.{concat}
 use Rattle.midi_wire.specs.Messages.{IsMessage, AllMessages, is_message, most_data}
 use Rattle.midi_wire.specs.Readings.{reading, rest}
-use Rattle.midi_wire.specs.Writings.{written, written_after, status_in_force, status_after_all}
+use Rattle.midi_wire.specs.Writings.{wire_bytes, written_after, status_in_force, status_after_all}
 
 -- the test of a message says just what a message is
 abbrev pub TestsMessages : Type 0
@@ -24,7 +24,8 @@ RestsInTwo = (s t : List ℕ) → rest (s ++ t) ≡ rest (rest s ++ t)
 -- the messages of pieces that come one after another, where bytes from before still matter
 abbrev pub reading_of_pieces : List ℕ → List (List ℕ) → List (List ℕ)
 reading_of_pieces before [] = []
-reading_of_pieces before (piece ∷ more) = reading (before ++ piece) ++ reading_of_pieces (rest (before ++ piece)) more
+reading_of_pieces before (piece ∷ more) =
+    reading (before ++ piece) ++ reading_of_pieces (rest (before ++ piece)) more
 
 -- what still matters after the pieces
 abbrev pub rest_of_pieces : List ℕ → List (List ℕ) → List ℕ
@@ -45,12 +46,14 @@ RestsAreShort = (s : List ℕ) → length (rest s) ≤ most_data + 2
 
 -- what is written is read back
 abbrev pub ReadsWritten : Type 0
-ReadsWritten = (ms : List (List ℕ)) → AllMessages ms → reading (written ms) ≡ ms
+ReadsWritten = (ms : List (List ℕ)) → AllMessages ms → reading (wire_bytes ms) ≡ ms
 
 -- messages may be written in two goes
 abbrev pub WritesInTwo : Type 0
-WritesInTwo = (q : Option ℕ) (ms ns : List (List ℕ)) → written_after q (ms ++ ns) ≡ written_after q ms ++ written_after (status_after_all q ms) ns
+WritesInTwo = (q : Option ℕ) (ms ns : List (List ℕ))
+    → written_after q (ms ++ ns) ≡ written_after q ms ++ written_after (status_after_all q ms) ns
 
 -- one more message at the end
 abbrev pub WritesOneMore : Type 0
-WritesOneMore = (ms : List (List ℕ)) (m : List ℕ) → written (ms ++ m ∷ []) ≡ written ms ++ written_after (status_in_force ms) (m ∷ [])
+WritesOneMore = (ms : List (List ℕ)) (m : List ℕ)
+    → wire_bytes (ms ++ m ∷ []) ≡ wire_bytes ms ++ written_after (status_in_force ms) (m ∷ [])

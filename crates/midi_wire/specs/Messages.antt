@@ -1,4 +1,4 @@
--- What a status begins, and the messages.
+-- Definition: What a status begins, and the messages.
 use Rattle.std.specs.Prelude.{◌≡◌, ◌≤◌, ℕ, ◌+◌, List, [], ◌∷◌, ◌++◌, length, Bool, true, false, IsTrue, ◌&&◌, ◌==◌, nat_lt, nat_le, if◌then◌else◌}
 use Rattle.midi_wire.specs.declared.status.TheConstants.{EXCLUSIVE, END_OF_EXCLUSIVE}
 pub use Rattle.midi_wire.specs.declared.status.Width.{Width}
@@ -51,7 +51,8 @@ is_group Two data_bytes = (length data_bytes == 2) && all_data data_bytes
 
 -- data bytes, not too many, and then F7
 abbrev pub IsExclusiveTail : List ℕ → Type 0
-IsExclusiveTail tail = (payload : List ℕ) × (tail ≡ payload ++ 247 ∷ []) × IsTrue (all_data payload) × (length payload ≤ most_data)
+IsExclusiveTail tail = (payload : List ℕ) × (tail ≡ payload ++ 247 ∷ []) × IsTrue (all_data payload)
+    × (length payload ≤ most_data)
 
 -- what may follow a status in a message
 abbrev pub IsTail : StatusClass → List ℕ → Type 0

@@ -1,4 +1,4 @@
--- What a message and a parser are seen as.
+-- Definition: What a message and a parser are seen as.
 use Rattle.std.specs.Prelude.{◌≡◌, ◌≤◌, ℕ, ◌+◌, List, [], ◌∷◌, ◌++◌, length, take, drop, Bool, true, false, nat_le, if◌then◌else◌, IsTrue}
 use Rattle.std.specs.Rc.{rc_value}
 use Rattle.midi_wire.specs.declared.message.Form.{Form}

@@ -1,11 +1,12 @@
--- The messages of a stream, and what of its end still matters.
+-- Definition: The messages of a stream, and what of its end still matters.
 --
--- F8 to FF are taken out, and F8, FA, FB, FC, FE and FF are messages at their places. A
--- block is a status and the data that follows it in what is left, and gives messages by what its status begins:
--- of a channel, one for each whole group of data bytes; F1, F2, F3 and F6, one for their first group; F0, one with its
--- data and F7, where a later status ends it and the data is not too long; F4, F5 and F7, none. A message stands at the
--- place of its last byte, an exclusive one at that of the status that ends it and before what stands there too.
--- The reading lists them by place.
+-- F8 to FF are taken out, and F8, FA, FB, FC, FE and FF are messages at their places. A block is a
+-- status and the data that follows it in what is left, and gives messages by what its status
+-- begins: of a channel, one for each whole group of data bytes; F1, F2, F3 and F6, one for their
+-- first group; F0, one with its data and F7, where a later status ends it and the data is not too
+-- long; F4, F5 and F7, none. A message stands at the place of its last byte, an exclusive one at
+-- that of the status that ends it and before what stands there too. The reading lists them by
+-- place.
 use Rattle.std.specs.Prelude.{ℕ, ◌+◌, List, [], ◌∷◌, ◌++◌, length, Option, Some, None, ◌==◌, nat_le, if◌then◌else◌, replicate}
 use Rattle.midi_wire.specs.Messages.{Width, One, Two, StatusClass, Channel, Common, TuneRequest, Exclusive, RealTime, Nothing, begins, is_status, is_real_time, most_data, exclusive_message}
 
@@ -42,7 +43,8 @@ real_times (x ∷ xs) = real_time (begins x.byte) x ++ real_times xs
 -- what is left when F8 to FF are taken out
 abbrev pub without_real_times : List Placed → List Placed
 without_real_times [] = []
-without_real_times (x ∷ xs) = if is_real_time x.byte then without_real_times xs else (x ∷ without_real_times xs)
+without_real_times (x ∷ xs) =
+    if is_real_time x.byte then without_real_times xs else (x ∷ without_real_times xs)
 
 -- the data bytes up to the next status
 abbrev pub data_front : List Placed → List Placed
@@ -52,7 +54,8 @@ data_front (x ∷ xs) = if is_status x.byte then [] else (x ∷ data_front xs)
 -- a block for each status; data before the first status is in none
 abbrev pub blocks : List Placed → List Block
 blocks [] = []
-blocks (x ∷ xs) = if is_status x.byte then (record { status = x; bytes = data_front xs } ∷ blocks xs) else blocks xs
+blocks (x ∷ xs) = if is_status x.byte
+    then (record { status = x; bytes = data_front xs } ∷ blocks xs) else blocks xs
 
 -- a message for each whole group, at the place of its last byte
 abbrev pub groups : Width → ℕ → List Placed → List PlacedMessage
@@ -60,7 +63,8 @@ groups One s [] = []
 groups One s (a ∷ more) = record { place = a.place; message = s ∷ a.byte ∷ [] } ∷ groups One s more
 groups Two s [] = []
 groups Two s (a ∷ []) = []
-groups Two s (a ∷ b ∷ more) = record { place = b.place; message = s ∷ a.byte ∷ b.byte ∷ [] } ∷ groups Two s more
+groups Two s (a ∷ b ∷ more) =
+    record { place = b.place; message = s ∷ a.byte ∷ b.byte ∷ [] } ∷ groups Two s more
 
 -- the first message, if there is one
 abbrev pub first_message : List PlacedMessage → List PlacedMessage
@@ -72,28 +76,31 @@ abbrev pub bytes_of : List Placed → List ℕ
 bytes_of [] = []
 bytes_of (x ∷ xs) = x.byte ∷ bytes_of xs
 
--- one exclusive message at the place of the status that ends it, where one does and the data is not too long
+-- one exclusive message at the place of the status that ends it, where one does and the data is not
+-- too long
 abbrev pub exclusive : List Placed → Option Placed → List PlacedMessage
 exclusive bytes None = []
-exclusive bytes (Some end) = if nat_le (length bytes) most_data then (record { place = end.place; message = exclusive_message (bytes_of bytes) } ∷ []) else []
+exclusive bytes (Some end) = if nat_le (length bytes) most_data
+    then (record { place = end.place; message = exclusive_message (bytes_of bytes) } ∷ []) else []
 
 -- the messages of a block, by its status and the next one
 abbrev pub given_by : StatusClass → Placed → List Placed → Option Placed → List PlacedMessage
 given_by (Channel width) status bytes next = groups width status.byte bytes
 given_by (Common width) status bytes next = first_message (groups width status.byte bytes)
-given_by TuneRequest status bytes next = record { place = status.place; message = status.byte ∷ [] } ∷ []
+given_by TuneRequest status bytes next =
+    record { place = status.place; message = status.byte ∷ [] } ∷ []
 given_by Exclusive status bytes next = exclusive bytes next
 given_by RealTime status bytes next = []
 given_by Nothing status bytes next = []
 
-abbrev pub given : Block → Option Placed → List PlacedMessage
-given block next = given_by (begins block.status.byte) block.status block.bytes next
+abbrev pub block_messages : Block → Option Placed → List PlacedMessage
+block_messages block next = given_by (begins block.status.byte) block.status block.bytes next
 
 -- the messages of all blocks; a block ends where the next one begins
 abbrev pub all_given : List Block → List PlacedMessage
 all_given [] = []
-all_given (block ∷ []) = given block None
-all_given (block ∷ next ∷ more) = given block (Some next.status) ++ all_given (next ∷ more)
+all_given (block ∷ []) = block_messages block None
+all_given (block ∷ next ∷ more) = block_messages block (Some next.status) ++ all_given (next ∷ more)
 
 -- the blocks of a stream
 abbrev pub stream_blocks : List ℕ → List Block
@@ -106,7 +113,8 @@ placed_messages s = all_given (stream_blocks s) ++ real_times (placed_from 0 s)
 -- those at one place, in their order
 abbrev pub messages_at : ℕ → List PlacedMessage → List (List ℕ)
 messages_at place [] = []
-messages_at place (t ∷ ts) = if t.place == place then (t.message ∷ messages_at place ts) else messages_at place ts
+messages_at place (t ∷ ts) =
+    if t.place == place then (t.message ∷ messages_at place ts) else messages_at place ts
 
 -- at each place in turn, the messages of that place
 abbrev pub by_place : List Placed → List PlacedMessage → List (List ℕ)
@@ -148,7 +156,8 @@ matters_by Nothing s bytes = []
 -- what of the last block still matters
 abbrev pub last_matters : List Block → List ℕ
 last_matters [] = []
-last_matters (block ∷ []) = matters_by (begins block.status.byte) block.status.byte (bytes_of block.bytes)
+last_matters (block ∷ []) =
+    matters_by (begins block.status.byte) block.status.byte (bytes_of block.bytes)
 last_matters (block ∷ next ∷ more) = last_matters (next ∷ more)
 
 -- what of a stream still matters: it decides what further bytes give

@@ -1,4 +1,4 @@
--- What is written for a list of messages.
+-- Definition: What is written for a list of messages.
 use Rattle.std.specs.Prelude.{ℕ, List, [], ◌∷◌, ◌++◌, Bool, true, false, Option, Some, None, ◌==◌, ◌&&◌, if◌then◌else◌}
 use Rattle.midi_wire.specs.Messages.{StatusClass, Channel, RealTime, begins}
 
@@ -23,19 +23,21 @@ is_real _ = false
 -- the last message before that is not real time has this status (the latest comes first)
 abbrev pub repeats : List (List ℕ) → ℕ → Bool
 repeats [] s = false
-repeats (e ∷ before) s = if is_real (begins (status_of e)) then repeats before s else (status_of e == s)
+repeats (e ∷ before) s =
+    if is_real (begins (status_of e)) then repeats before s else (status_of e == s)
 
 -- a message after those: the status is left out where a channel message repeats it
 abbrev pub written_next : List (List ℕ) → List ℕ → List ℕ
-written_next before m = if is_channel (begins (status_of m)) && repeats before (status_of m) then tail_of m else m
+written_next before m =
+    if is_channel (begins (status_of m)) && repeats before (status_of m) then tail_of m else m
 
 abbrev pub written_on : List (List ℕ) → List (List ℕ) → List ℕ
 written_on before [] = []
 written_on before (m ∷ ms) = written_next before m ++ written_on (m ∷ before) ms
 
 -- the bytes of messages as one stream, from its beginning on
-abbrev pub written : List (List ℕ) → List ℕ
-written ms = written_on [] ms
+abbrev pub wire_bytes : List (List ℕ) → List ℕ
+wire_bytes ms = written_on [] ms
 
 -- a message with a status, or none
 abbrev pub message_with : Option ℕ → List (List ℕ)
@@ -48,7 +50,8 @@ written_after q ms = written_on (message_with q) ms
 
 -- the status in force after a message
 abbrev pub status_after : Option ℕ → List ℕ → Option ℕ
-status_after q m = if is_channel (begins (status_of m)) then Some (status_of m) else (if is_real (begins (status_of m)) then q else None)
+status_after q m = if is_channel (begins (status_of m)) then Some (status_of m)
+    else (if is_real (begins (status_of m)) then q else None)
 
 -- the status in force after messages
 abbrev pub status_after_all : Option ℕ → List (List ℕ) → Option ℕ

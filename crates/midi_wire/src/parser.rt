@@ -112,13 +112,13 @@ fn add_data(payload: &mut Vec<u8>, more: &[u8]) -> Result<bool, OutOfMemory>
 
 /// What of the stream so far still matters.
 #[derive(Drop)]
-struct Pending {
+struct OpenBlock {
     alloc: Global,
     block: LastBlock,
     payload: Vec<u8>,
 }
 
-impl Model for Pending {
+impl Model for OpenBlock {
     ghost use Rattle.std.specs.Prelude.{List, ℕ};
 
     ghost Value = { List ℕ };
@@ -133,11 +133,11 @@ impl Model for Pending {
         × (length p.payload.items ≤ most_data) };
 }
 
-impl Pending {
-    fn new(alloc: Global) -> Pending
+impl OpenBlock {
+    fn new(alloc: Global) -> OpenBlock
         ensures { result ≡ [] }
     {
-        Pending {
+        OpenBlock {
             alloc,
             block: LastBlock::Idle,
             payload: Vec::new(alloc),
@@ -387,7 +387,7 @@ impl Pending {
 /// given.
 #[derive(Drop)]
 pub struct StreamParser {
-    pending: Pending,
+    pending: OpenBlock,
     failed: bool,
 }
 
@@ -409,7 +409,7 @@ impl StreamParser {
         ensures { result ≡ record { rest = []; failed = false } }
     {
         StreamParser {
-            pending: Pending::new(alloc),
+            pending: OpenBlock::new(alloc),
             failed: false,
         }
     }

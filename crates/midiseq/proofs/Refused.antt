@@ -3,9 +3,9 @@ use Rattle.std.proofs.Common.{◌≡◌, ◌⊎◌, ℕ, List, Option, Some, Non
 use Rattle.std.specs.Prelude.{IfErr, IsSome}
 use Rattle.std.proofs.lemmas.Result.{IfErr-weaker}
 use Rattle.script_text.specs.Numbers as says
-use Rattle.session_tools.specs.Words.{IsOfWords}
-use Rattle.session_files.specs.Sessions.{IsNotAMoment}
-use Rattle.tool_text.specs.declared.program_fault.ProgramFault.{ProgramFault}
+use Rattle.program_tasks.specs.Words.{IsOfWords}
+use Rattle.program_tasks.specs.Sessions.{IsNotAMoment}
+use Rattle.program_tasks.specs.declared.program_fault.ProgramFault.{ProgramFault}
 
 of_words : {T : Type 0} (r : Result T ProgramFault) (until : List ℕ) (words : List (List ℕ)) →
     (says.u64 until ≡ None → IfErr r (IsNotAMoment until)) → (IsSome (says.u64 until) → IfErr r (IsOfWords words)) →

@@ -1,47 +1,54 @@
--- What the command line gives the subcommands that run scripts.
+-- Definition: What the command line gives the subcommands that run scripts.
 use Rattle.std.specs.Prelude.{◌≡◌, ◌≢◌, ℕ, Bool, true, false, List, [], Option, Some, None, map, codes, unwrap_or}
 use Rattle.std.specs.Option.{option_map}
 use Rattle.clap.specs.declared.parser.matches.Found.{Found}
 use Rattle.clap.specs.Matches.{first_value, matched_of, one_text, raw_values}
 use Rattle.script_text.specs.Numbers as says
-use Rattle.session_tools.specs.Words.{port_named, scripts_named, scripts_seen}
-use Rattle.session_files.specs.declared.recording.Recording.{Recording}
-use Rattle.session_files.specs.declared.session.Session.{Session}
-use Rattle.session_files.specs.Subcommands.{IsRunPrinted, IsRunRecorded}
-use Rattle.session_files.specs.Tasks.{IsDone}
-use Rattle.tool_text.specs.declared.choice.Task.{Task}
-use Rattle.tool_text.specs.Program.{tool_name, IsNamedBy}
+use Rattle.program_tasks.specs.Words.{port_named, scripts_named, scripts_seen}
+use Rattle.program_tasks.specs.declared.recording.Recording.{Recording}
+use Rattle.program_tasks.specs.declared.session.Session.{Session}
+use Rattle.program_tasks.specs.Subcommands.{IsRunPrinted, IsRunRecorded}
+use Rattle.program_tasks.specs.Tasks.{IsDone}
+use Rattle.program_tasks.specs.declared.choice.Task.{Task}
+use Rattle.program_tasks.specs.Program.{tool_name, IsNamedBy}
 
 -- the first value of an option, and no text where it has none
 abbrev pub text_of : Found → List ℕ → List ℕ
 text_of found id = unwrap_or (first_value found id) []
 
--- the session ends at the moment of --until, and has the folder of --dir and the scripts of the other words
+-- the session ends at the moment of --until, and has the folder of --dir and the scripts of the
+-- other words
 pub record IsGiven (found : Found) (session : Session) : Type 0 where
   pub until : Some session.until ≡ says.u64 (text_of found (codes "until"))
   pub dir : option_map (λ d. d.now) session.dir ≡ first_value found (codes "dir")
   pub scripts : Some (scripts_seen session.scripts.items)
-      ≡ scripts_named (unwrap_or (option_map raw_values (matched_of found (codes "CLIENT=PATH"))) [])
+      ≡ scripts_named (unwrap_or
+      (option_map raw_values (matched_of found (codes "CLIENT=PATH"))) [])
 
 -- whether a flag is given
 pub record IsFlag (found : Found) (id : List ℕ) (given : Bool) : Type 0 where
   pub absent : one_text found id ≡ None → given ≡ false
   pub present : one_text found id ≡ Some (codes "true") → given ≡ true
 
-module _ {R W : Type 0} (IsOpened : List ℕ → R → Type 0) (HasLeft : R → List ℕ → Type 0) (CannotOpen : List ℕ → Type 0)
+module _ {R W : Type 0} (IsOpened : List ℕ → R → Type 0) (HasLeft : R → List ℕ → Type 0)
+    (CannotOpen : List ℕ → Type 0)
     (failed : R → Bool) (HasNames : List ℕ → List (List ℕ) → Type 0) where
   -- The session of these words was printed, with the listing where --list is given.
-  pub record RunsAsGiven {N : Type 0} (HasTaken : W → List ℕ → Type 0) (HasTold : N → List ℕ → Type 0) (found : Found)
+  pub record RunsAsGiven {N : Type 0} (HasTaken : W → List ℕ → Type 0)
+      (HasTold : N → List ℕ → Type 0) (found : Found)
       (old new : W) (before after : N) : Type 0 where
     pub session : Session
     pub given : IsGiven found session
     pub listed : Bool
     pub flag : IsFlag found (codes "list") listed
-    pub printed : IsRunPrinted IsOpened HasLeft CannotOpen failed HasNames HasTaken HasTold session listed
+    pub printed : IsRunPrinted IsOpened HasLeft CannotOpen failed HasNames HasTaken HasTold session
+        listed
         old new before after
 
-  -- The session of these words was recorded: the port of --port, as --raw says, to the file of --out.
-  pub record RecordsAsGiven {N : Type 0} (IsBegun : List ℕ → W → Type 0) (HasTaken : W → List ℕ → Type 0)
+  -- The session of these words was recorded: the port of --port, as --raw says, to the file of
+  -- --out.
+  pub record RecordsAsGiven {N : Type 0} (IsBegun : List ℕ → W → Type 0)
+      (HasTaken : W → List ℕ → Type 0)
       (IsStored : List ℕ → W → Type 0) (HasTold : N → List ℕ → Type 0) (found : Found)
       (before after : N) : Type 0 where
     pub session : Session
@@ -50,12 +57,16 @@ module _ {R W : Type 0} (IsOpened : List ℕ → R → Type 0) (HasLeft : R → 
     pub port : Some recording.port ≡ port_named (text_of found (codes "port"))
     pub flag : IsFlag found (codes "raw") recording.raw
     pub path : recording.path.now ≡ text_of found (codes "out")
-    pub recorded : IsRunRecorded IsOpened HasLeft CannotOpen failed HasNames IsBegun HasTaken IsStored HasTold
+    pub recorded : IsRunRecorded IsOpened HasLeft CannotOpen failed HasNames IsBegun HasTaken
+        IsStored HasTold
         session recording before after
 
--- The tool of this name has done its work on the stream that the word FILE names, or without one on standard input.
-pub record ToolDoesAsGiven {R I W : Type 0} (IsOpened : List ℕ → R → Type 0) (HasLeft : R → List ℕ → Type 0)
-    (HasInput : I → List ℕ → Type 0) (HasTaken : W → List ℕ → Type 0) (name : List ℕ) (found : Found)
+-- The tool of this name has done its work on the stream that the word FILE names, or without one on
+-- standard input.
+pub record ToolDoesAsGiven {R I W : Type 0} (IsOpened : List ℕ → R → Type 0)
+    (HasLeft : R → List ℕ → Type 0)
+    (HasInput : I → List ℕ → Type 0) (HasTaken : W → List ℕ → Type 0) (name : List ℕ)
+    (found : Found)
     (before after : I) (old new : W) : Type 0 where
   pub task : Task
   pub tool : tool_name task.tool ≡ name
@@ -63,14 +74,19 @@ pub record ToolDoesAsGiven {R I W : Type 0} (IsOpened : List ℕ → R → Type 
   pub done : IsDone IsOpened HasLeft HasInput HasTaken task before after old new
 
 -- What each subcommand does: run prints, record writes a file, and each other is a tool's.
-pub record DoesAsGiven {R V I W N : Type 0} (IsOpened : List ℕ → R → Type 0) (HasLeft : R → List ℕ → Type 0)
+pub record DoesAsGiven {R V I W N : Type 0} (IsOpened : List ℕ → R → Type 0)
+    (HasLeft : R → List ℕ → Type 0)
     (CannotOpen : List ℕ → Type 0) (failed : R → Bool) (HasNames : List ℕ → List (List ℕ) → Type 0)
-    (IsBegun : List ℕ → V → Type 0) (HasWritten : V → List ℕ → Type 0) (IsStored : List ℕ → V → Type 0)
-    (HasInput : I → List ℕ → Type 0) (HasTaken : W → List ℕ → Type 0) (HasTold : N → List ℕ → Type 0)
+    (IsBegun : List ℕ → V → Type 0) (HasWritten : V → List ℕ → Type 0)
+    (IsStored : List ℕ → V → Type 0)
+    (HasInput : I → List ℕ → Type 0) (HasTaken : W → List ℕ → Type 0)
+    (HasTold : N → List ℕ → Type 0)
     (name : List ℕ) (found : Found) (asked left : I) (old new : W) (before after : N) : Type 0 where
   pub ran : name ≡ codes "run" →
-      RunsAsGiven IsOpened HasLeft CannotOpen failed HasNames HasTaken HasTold found old new before after
+      RunsAsGiven IsOpened HasLeft CannotOpen failed HasNames HasTaken HasTold found old new before
+      after
   pub recorded : name ≡ codes "record" →
-      RecordsAsGiven IsOpened HasLeft CannotOpen failed HasNames IsBegun HasWritten IsStored HasTold found before after
+      RecordsAsGiven IsOpened HasLeft CannotOpen failed HasNames IsBegun HasWritten IsStored HasTold
+      found before after
   pub tool : name ≢ codes "run" → name ≢ codes "record" →
       ToolDoesAsGiven IsOpened HasLeft HasInput HasTaken name found asked left old new

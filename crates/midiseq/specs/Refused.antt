@@ -1,28 +1,30 @@
--- Why a subcommand stops, from the words that it was given.
+-- Definition: Why a subcommand stops, from the words that it was given.
 use Rattle.std.specs.Prelude.{◌≡◌, ◌≢◌, ◌⊎◌, ℕ, Bool, List, [], Option, None, codes, unwrap_or}
 use Rattle.std.specs.Option.{option_map}
 use Rattle.clap.specs.declared.parser.matches.Found.{Found}
 use Rattle.clap.specs.Matches.{first_value, matched_of, raw_values}
 use Rattle.script_text.specs.Numbers as says
-use Rattle.session_tools.specs.Words.{port_named, IsOfWords}
-use Rattle.session_files.specs.declared.recording.Recording.{Recording}
-use Rattle.session_files.specs.declared.session.Session.{Session}
-use Rattle.session_files.specs.Faults.{IsOfListing, IsOfScripts, IsOfOutput}
-use Rattle.session_files.specs.Sessions.{IsNotAMoment}
-use Rattle.session_files.specs.Subcommands.{IsRecordingStopped}
-use Rattle.session_files.specs.Tasks.{IsTold}
-use Rattle.tool_text.specs.declared.choice.Task.{Task}
-use Rattle.tool_text.specs.declared.choice.Tool.{Tool}
-use Rattle.tool_text.specs.declared.program_fault.ProgramFault.{ProgramFault}
-use Rattle.tool_text.specs.declared.program_fault.ProgramFault.TheVariants.{NoSubcommand, NotAPort}
-use Rattle.tool_text.specs.Program.{tool_name, IsNamedBy}
+use Rattle.program_tasks.specs.Words.{port_named, IsOfWords}
+use Rattle.program_tasks.specs.declared.recording.Recording.{Recording}
+use Rattle.program_tasks.specs.declared.session.Session.{Session}
+use Rattle.program_tasks.specs.Faults.{IsOfListing, IsOfScripts, IsOfOutput}
+use Rattle.program_tasks.specs.Sessions.{IsNotAMoment}
+use Rattle.program_tasks.specs.Subcommands.{IsRecordingStopped}
+use Rattle.program_tasks.specs.Tasks.{IsToolFault}
+use Rattle.program_tasks.specs.declared.choice.Task.{Task}
+use Rattle.program_tasks.specs.declared.choice.Tool.{Tool}
+use Rattle.program_tasks.specs.declared.program_fault.ProgramFault.{ProgramFault}
+use Rattle.program_tasks.specs.declared.program_fault.ProgramFault.TheVariants.{NoSubcommand, NotAPort}
+use Rattle.program_tasks.specs.Program.{tool_name, IsNamedBy}
 use Rattle.midiseq.specs.Given.{text_of, IsGiven}
 
 -- the words name no session: --until says no moment, or some word names no script
 abbrev pub IsOfSessionWords : Found → ProgramFault → Type 0
 IsOfSessionWords found fault =
-    ((says.u64 (text_of found (codes "until")) ≡ None) × IsNotAMoment (text_of found (codes "until")) fault)
-    ⊎ IsOfWords (unwrap_or (option_map raw_values (matched_of found (codes "CLIENT=PATH"))) []) fault
+    ((says.u64 (text_of found (codes "until")) ≡ None)
+    × IsNotAMoment (text_of found (codes "until")) fault)
+    ⊎ IsOfWords (unwrap_or (option_map raw_values (matched_of found (codes "CLIENT=PATH"))) [])
+    fault
 
 -- the word names no port
 abbrev pub IsNotAPort : List ℕ → ProgramFault → Type 0
@@ -30,20 +32,26 @@ IsNotAPort word (NotAPort told) = (told.now ≡ word) × (port_named word ≡ No
 IsNotAPort word _ = ⊥
 
 -- The session of the words was not run, for one of these reasons.
-pub record IsRunStopped {R : Type 0} (IsOpened : List ℕ → R → Type 0) (HasLeft : R → List ℕ → Type 0)
+pub record IsRunStopped {R : Type 0} (IsOpened : List ℕ → R → Type 0)
+    (HasLeft : R → List ℕ → Type 0)
     (CannotOpen CannotList : List ℕ → Type 0) (failed : R → Bool) (stuck : Type 0) (found : Found)
     (fault : ProgramFault) : Type 0 where
   pub session : Session
   pub given : IsGiven found session
   pub why :
       IsOfListing CannotList (option_map (λ d. d.now) session.dir) fault
-      ⊎ (IsOfScripts IsOpened HasLeft CannotOpen failed session.scripts.items fault ⊎ IsOfOutput stuck fault)
+      ⊎ (IsOfScripts IsOpened HasLeft CannotOpen failed session.scripts.items fault
+      ⊎ IsOfOutput stuck fault)
 
 -- The session of the words was not recorded.
-pub record IsRecordStopped {R V N : Type 0} (IsOpened : List ℕ → R → Type 0) (HasLeft : R → List ℕ → Type 0)
-    (CannotOpen CannotList : List ℕ → Type 0) (failed : R → Bool) (HasNames : List ℕ → List (List ℕ) → Type 0)
-    (AreOne : List ℕ → List ℕ → Type 0) (IsBegun : List ℕ → V → Type 0) (writer_failed takes_some : V → Bool)
-    (CannotBegin CannotStore : List ℕ → Type 0) (HasTold : N → List ℕ → Type 0) (found : Found) (before after : N)
+pub record IsRecordStopped {R V N : Type 0} (IsOpened : List ℕ → R → Type 0)
+    (HasLeft : R → List ℕ → Type 0)
+    (CannotOpen CannotList : List ℕ → Type 0) (failed : R → Bool)
+    (HasNames : List ℕ → List (List ℕ) → Type 0)
+    (AreOne : List ℕ → List ℕ → Type 0) (IsBegun : List ℕ → V → Type 0)
+    (writer_failed takes_some : V → Bool)
+    (CannotBegin CannotStore : List ℕ → Type 0) (HasTold : N → List ℕ → Type 0) (found : Found)
+    (before after : N)
     (fault : ProgramFault) : Type 0 where
   pub session : Session
   pub given : IsGiven found session
@@ -51,17 +59,23 @@ pub record IsRecordStopped {R V N : Type 0} (IsOpened : List ℕ → R → Type 
   pub path : recording.path.now ≡ text_of found (codes "out")
   pub why :
       IsOfListing CannotList (option_map (λ d. d.now) session.dir) fault
-      ⊎ IsRecordingStopped IsOpened HasLeft CannotOpen failed HasNames AreOne IsBegun writer_failed takes_some
+      ⊎ IsRecordingStopped IsOpened HasLeft CannotOpen failed HasNames AreOne IsBegun writer_failed
+      takes_some
       CannotBegin CannotStore HasTold session recording before after fault
 
 -- The tool of this name stopped over the stream that FILE names.
-pub record IsToolStopped {R I : Type 0} (IsOpened : List ℕ → R → Type 0) (CannotOpen : List ℕ → Type 0)
-    (HasLeft : R → List ℕ → Type 0) (failed : R → Bool) (HasInput : I → List ℕ → Type 0) (input_failed : I → Bool)
-    (stuck : Type 0) (name : List ℕ) (found : Found) (before after : I) (fault : ProgramFault) : Type 0 where
+pub record IsToolStopped {R I : Type 0} (IsOpened : List ℕ → R → Type 0)
+    (CannotOpen : List ℕ → Type 0)
+    (HasLeft : R → List ℕ → Type 0) (failed : R → Bool) (HasInput : I → List ℕ → Type 0)
+    (input_failed : I → Bool)
+    (stuck : Type 0) (name : List ℕ) (found : Found) (before after : I)
+    (fault : ProgramFault) : Type 0 where
   pub task : Task
   pub tool : tool_name task.tool ≡ name
   pub stream : IsNamedBy task.stream (unwrap_or (first_value found (codes "FILE")) (codes "-"))
-  pub told : IsTold IsOpened CannotOpen HasLeft failed HasInput input_failed stuck task before after fault
+  pub told : IsToolFault IsOpened CannotOpen HasLeft failed HasInput input_failed stuck task before
+      after
+      fault
 
 -- the name is that of no tool
 abbrev pub IsOfNoTool : List ℕ → ProgramFault → Type 0
@@ -69,11 +83,16 @@ IsOfNoTool name NoSubcommand = (t : Tool) → tool_name t ≢ name
 IsOfNoTool name _ = ⊥
 
 -- Why each subcommand stops.
-pub record IsStoppedAsGiven {R V I N : Type 0} (IsOpened : List ℕ → R → Type 0) (HasLeft : R → List ℕ → Type 0)
-    (CannotOpen CannotList : List ℕ → Type 0) (failed : R → Bool) (HasNames : List ℕ → List (List ℕ) → Type 0)
-    (AreOne : List ℕ → List ℕ → Type 0) (IsBegun : List ℕ → V → Type 0) (writer_failed takes_some : V → Bool)
-    (CannotBegin CannotStore : List ℕ → Type 0) (HasInput : I → List ℕ → Type 0) (input_failed : I → Bool)
-    (stuck : Type 0) (HasTold : N → List ℕ → Type 0) (name : List ℕ) (found : Found) (asked left : I)
+pub record IsStoppedAsGiven {R V I N : Type 0} (IsOpened : List ℕ → R → Type 0)
+    (HasLeft : R → List ℕ → Type 0)
+    (CannotOpen CannotList : List ℕ → Type 0) (failed : R → Bool)
+    (HasNames : List ℕ → List (List ℕ) → Type 0)
+    (AreOne : List ℕ → List ℕ → Type 0) (IsBegun : List ℕ → V → Type 0)
+    (writer_failed takes_some : V → Bool)
+    (CannotBegin CannotStore : List ℕ → Type 0) (HasInput : I → List ℕ → Type 0)
+    (input_failed : I → Bool)
+    (stuck : Type 0) (HasTold : N → List ℕ → Type 0) (name : List ℕ) (found : Found)
+    (asked left : I)
     (before after : N) (fault : ProgramFault) : Type 0 where
   pub ran : name ≡ codes "run" →
       IsOfSessionWords found fault
@@ -81,8 +100,10 @@ pub record IsStoppedAsGiven {R V I N : Type 0} (IsOpened : List ℕ → R → Ty
   pub recorded : name ≡ codes "record" →
       IsOfSessionWords found fault
       ⊎ (IsNotAPort (text_of found (codes "port")) fault
-      ⊎ IsRecordStopped IsOpened HasLeft CannotOpen CannotList failed HasNames AreOne IsBegun writer_failed takes_some
+      ⊎ IsRecordStopped IsOpened HasLeft CannotOpen CannotList failed HasNames AreOne IsBegun
+      writer_failed takes_some
       CannotBegin CannotStore HasTold found before after fault)
   pub tool : name ≢ codes "run" → name ≢ codes "record" →
       IsOfNoTool name fault
-      ⊎ IsToolStopped IsOpened CannotOpen HasLeft failed HasInput input_failed stuck name found asked left fault
+      ⊎ IsToolStopped IsOpened CannotOpen HasLeft failed HasInput input_failed stuck name found
+      asked left fault

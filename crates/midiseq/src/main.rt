@@ -9,12 +9,11 @@ use byte_io::{StdSink, StdSource};
 use clap::ArgMatches;
 use clap::error::ErrorKind;
 use file_store::SystemFiles;
-use session_files::perform;
+use program_tasks::{Ended, Notes, ProgramFault, STANDARD, StandardError, Task, finish, perform};
 use std::alloc::{AllocError, Global};
 use std::process::ExitCode;
 use std::rt::{Env, Files};
 use std::{env, io};
-use tool_text::{Ended, Notes, ProgramFault, STANDARD, StandardError, Task, finish};
 
 fn main(rt: HostRuntime) -> ExitCode {
     let mut notes = StandardError::new(&rt);

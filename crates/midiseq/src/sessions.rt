@@ -5,16 +5,14 @@ ghost use Rattle.clap.specs.Matches.{found_of};
 ghost use Rattle.midiseq.specs.Given.{text_of, IsGiven, RunsAsGiven, RecordsAsGiven};
 ghost use Rattle.midiseq.specs.Refused.{IsOfSessionWords, IsNotAPort, IsRunStopped, IsRecordStopped};
 ghost use Rattle.seq_session.specs.Rising.{AreRising};
-ghost use Rattle.session_files.specs.Faults.{IsStuck};
-ghost use Rattle.session_files.specs.Sessions.{owners};
+ghost use Rattle.program_tasks.specs.Faults.{IsStuck};
+ghost use Rattle.program_tasks.specs.Sessions.{owners};
 
 use byte_io::Sink;
 use clap::ArgMatches;
 use file_store::FileStore;
-use session_files::{Recording, Session};
-use session_tools::port_named;
+use program_tasks::{Notes, ProgramFault, Recording, Session, port_named};
 use std::alloc::Global;
-use tool_text::{Notes, ProgramFault};
 
 /// The session that the words of `run` and `record` say alike.
 fn session_of<'a>(alloc: Global, found: &ArgMatches<'a>) -> Result<Session<'a>, ProgramFault<'a>>
@@ -27,7 +25,7 @@ fn session_of<'a>(alloc: Global, found: &ArgMatches<'a>) -> Result<Session<'a>, 
     Session::of_words(alloc, until, found.get_str("dir"), scripts)
 }
 
-/// Runs the scripts, and prints each client's log and, where asked for, who is there at the end.
+/// Runs the scripts, and prints each client's log and, where asked for, the listing at the end.
 pub(crate) fn run<'a, S: FileStore, W: Sink, N: Notes>(
     alloc: Global,
     store: &S,
@@ -45,7 +43,7 @@ pub(crate) fn run<'a, S: FileStore, W: Sink, N: Notes>(
 {
     let session = session_of(alloc, found)?;
     let listed = found.get_flag("list");
-    session_files::run(alloc, store, &session, listed, out, notes)
+    program_tasks::run(alloc, store, &session, listed, out, notes)
 }
 
 /// Runs the scripts, and writes what came to a port to a file, once all else is done.
@@ -74,5 +72,5 @@ pub(crate) fn record<'a, S: FileStore, N: Notes>(
         raw: found.get_flag("raw"),
         path: found.get_str("out").unwrap_or(""),
     };
-    session_files::record(alloc, store, &session, &recording, notes)
+    program_tasks::record(alloc, store, &session, &recording, notes)
 }

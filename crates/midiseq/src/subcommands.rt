@@ -4,14 +4,14 @@ ghost use Rattle.std.specs.Prelude.{◌≡◌, ◌⊎◌, false, IfErr, OnOk};
 ghost use Rattle.clap.specs.Matches.{found_of};
 ghost use Rattle.midiseq.specs.Given.{ToolDoesAsGiven, DoesAsGiven};
 ghost use Rattle.midiseq.specs.Refused.{IsOfNoTool, IsToolStopped, IsStoppedAsGiven};
-ghost use Rattle.session_files.specs.Faults.{IsStuck};
+ghost use Rattle.program_tasks.specs.Faults.{IsStuck};
 
 use crate::sessions;
 use byte_io::{Sink, Source};
 use clap::ArgMatches;
 use file_store::FileStore;
+use program_tasks::{Notes, ProgramFault, STANDARD, Task};
 use std::alloc::Global;
-use tool_text::{Notes, ProgramFault, STANDARD, Task};
 
 /// Does what a subcommand says, with the words that clap has found for it.
 #[inline(never)]
@@ -62,7 +62,7 @@ fn perform_tool<'a, S: FileStore, I: Source, W: Sink>(
 {
     let file = found.get_str("FILE").unwrap_or(STANDARD);
     match Task::of_words(name, file) {
-        Some(task) => session_files::perform(alloc, store, task, input, out),
+        Some(task) => program_tasks::perform(alloc, store, task, input, out),
         None => Err(ProgramFault::NoSubcommand),
     }
 }

@@ -29,8 +29,8 @@ Examples:
 
 Status:
   0  done, or help or the version was asked for
-  1  a fault, told in one line on standard error: a file that cannot be read,
-     output that cannot be written, want of memory, a damaged file, a recording
+  1  a fault, with one line on standard error: a file that cannot be read,
+     output that cannot be written, out of memory, a damaged file, a recording
      that no file can hold
   2  words that midiseq cannot follow";
 
@@ -88,12 +88,12 @@ For each client by number comes a line `client N` and its log: `skip LINE WHY`
 for each line of its script that is skipped; and in the order of the run
 `MOMENT port P HEX` for each message that comes to its port P, and
 `MOMENT line LINE` with `ok` or `refused NUMBER NAME` for each command that it
-said. With --list comes who is there at the end: clients, ports, filters, queues
+said. With --list comes the listing at the end: clients, ports, filters, queues
 and subscriptions.
 
 The files in D whose names end in .mid can be played by these names; the first
-256 in byte order are taken. One that cannot be read, or is no Standard MIDI File,
-is left out, and `midiseq: left out NAME` on standard error tells so.
+256 in byte order are taken. One that cannot be read, or is no Standard MIDI
+File, is left out, and standard error has a line `midiseq: left out NAME`.
 
 Example, with these lines in keys.txt and synth.txt:
   0 open keys 100 100             0 open synth 100 100
@@ -112,7 +112,7 @@ note of half a second, without system common and real time messages, or with
 file without messages. FILE is made or replaced when all else is done; until
 the new one is whole, what was there stays. It can be none of the scripts and
 none of the files of D that scripts may play.
-`cannot record` is told where more than 268,435,455 ticks lie between two
+`cannot record` comes where more than 268,435,455 ticks lie between two
 messages, or the file would have more than 16,777,216 bytes.
 
 Example:
@@ -181,7 +181,7 @@ fn list<'a>(alloc: Global) -> Arg<'a> {
     Arg::new(alloc, "list")
         .long("list")
         .action(ArgAction::SetTrue)
-        .help("print who is there at the end, too")
+        .help("print the listing at the end, too")
 }
 
 fn raw<'a>(alloc: Global) -> Arg<'a> {

@@ -10,7 +10,7 @@ use Rattle.std.proofs.lemmas.Bool.Decides.{leb_tells}
 use Rattle.node_table.specs.declared.number.Node.{Node}
 use Rattle.node_table.specs.declared.number.Node.TheVariants.{Port, Filter}
 use Rattle.node_table.specs.Nodes.{NodeSeen, ClientNodes, empty_client, node_in, put_node, drop_node, put_client, name_of}
-use Rattle.node_table.specs.Kept.{numbered, place_in, is_small, client_kept, clients_kept}
+use Rattle.node_table.specs.Kept.{numbered_map, place_in, is_small, client_kept, clients_kept}
 use Rattle.node_table.proofs.Numbered.{get-numbered, get-from_zero, insert-from_zero, remove-from_zero, numbered_same, numbered_none, numbered_insert, numbered_remove, remove_absent, get-insert_same, get-insert_other}
 
 pub small_place : (nd : Node) → is_small nd → place_in nd < 32
@@ -37,10 +37,10 @@ module _ {P : Type 0} where
   client_same : (node node' : ℕ → Option (NodeSeen P)) (row : ℕ) (name : Option (List ℕ)) → ((p : ℕ) → p < 32 → node' (row * 32 + p) ≡ node (row * 32 + p)) → option_map (client_kept node' row) name ≡ option_map (client_kept node row) name
   client_same node node' row None h = refl
   client_same node node' row (Some nm) h =
-      let ports : numbered 0 16 (λ n. node' (row * 32 + n)) ≡ numbered 0 16 (λ n. node (row * 32 + n)) = numbered_same 0 16 _ _ (λ i l. h i (omega arith)) in
-      let filters : numbered 0 16 (λ n. node' (row * 32 + (16 + n))) ≡ numbered 0 16 (λ n. node (row * 32 + (16 + n))) = numbered_same 0 16 _ _ (λ i l. h (16 + i) (omega arith)) in
-      ap (λ (m : FinMap nat_cmp (NodeSeen P)). Some (record { name = nm; ports = m; filters = numbered 0 16 (λ n. node' (row * 32 + (16 + n))) })) ports
-      ∙ ap (λ (m : FinMap nat_cmp (NodeSeen P)). Some (record { name = nm; ports = numbered 0 16 (λ n. node (row * 32 + n)); filters = m })) filters
+      let ports : numbered_map 0 16 (λ n. node' (row * 32 + n)) ≡ numbered_map 0 16 (λ n. node (row * 32 + n)) = numbered_same 0 16 _ _ (λ i l. h i (omega arith)) in
+      let filters : numbered_map 0 16 (λ n. node' (row * 32 + (16 + n))) ≡ numbered_map 0 16 (λ n. node (row * 32 + (16 + n))) = numbered_same 0 16 _ _ (λ i l. h (16 + i) (omega arith)) in
+      ap (λ (m : FinMap nat_cmp (NodeSeen P)). Some (record { name = nm; ports = m; filters = numbered_map 0 16 (λ n. node' (row * 32 + (16 + n))) })) ports
+      ∙ ap (λ (m : FinMap nat_cmp (NodeSeen P)). Some (record { name = nm; ports = numbered_map 0 16 (λ n. node (row * 32 + n)); filters = m })) filters
 
   -- nothing changed
   pub same_clients : (name name' : ℕ → Option (List ℕ)) (node node' : ℕ → Option (NodeSeen P)) → ((row : ℕ) → row < 64 → name' row ≡ name row) → ((i : ℕ) → node' i ≡ node i) → clients_kept name' node' ≡ clients_kept name node
@@ -66,27 +66,27 @@ module _ {P : Type 0} where
 
   client_put : (node node' : ℕ → Option (NodeSeen P)) (row : ℕ) (nm : List ℕ) (nd : Node) (x : NodeSeen P) → is_small nd → node' (row * 32 + place_in nd) ≡ Some x → ((i : ℕ) → i ≢ row * 32 + place_in nd → node' i ≡ node i) → client_kept node' row nm ≡ put_node nd x (client_kept node row nm)
   client_put node node' row nm (Port n) x l e h =
-      let ports : numbered 0 16 (λ k. node' (row * 32 + k)) ≡ map.insert (numbered 0 16 (λ k. node (row * 32 + k))) n x = insert-from_zero 16 n _ _ x l e (λ j s ne. h (row * 32 + j) (omega arith)) in
-      let filters : numbered 0 16 (λ k. node' (row * 32 + (16 + k))) ≡ numbered 0 16 (λ k. node (row * 32 + (16 + k))) = numbered_same 0 16 _ _ (λ j s. h (row * 32 + (16 + j)) (omega arith)) in
-      ap (λ (m : FinMap nat_cmp (NodeSeen P)). record { name = nm; ports = m; filters = numbered 0 16 (λ k. node' (row * 32 + (16 + k))) }) ports
-      ∙ ap (λ (m : FinMap nat_cmp (NodeSeen P)). record { name = nm; ports = map.insert (numbered 0 16 (λ k. node (row * 32 + k))) n x; filters = m }) filters
+      let ports : numbered_map 0 16 (λ k. node' (row * 32 + k)) ≡ map.insert (numbered_map 0 16 (λ k. node (row * 32 + k))) n x = insert-from_zero 16 n _ _ x l e (λ j s ne. h (row * 32 + j) (omega arith)) in
+      let filters : numbered_map 0 16 (λ k. node' (row * 32 + (16 + k))) ≡ numbered_map 0 16 (λ k. node (row * 32 + (16 + k))) = numbered_same 0 16 _ _ (λ j s. h (row * 32 + (16 + j)) (omega arith)) in
+      ap (λ (m : FinMap nat_cmp (NodeSeen P)). record { name = nm; ports = m; filters = numbered_map 0 16 (λ k. node' (row * 32 + (16 + k))) }) ports
+      ∙ ap (λ (m : FinMap nat_cmp (NodeSeen P)). record { name = nm; ports = map.insert (numbered_map 0 16 (λ k. node (row * 32 + k))) n x; filters = m }) filters
   client_put node node' row nm (Filter n) x l e h =
-      let ports : numbered 0 16 (λ k. node' (row * 32 + k)) ≡ numbered 0 16 (λ k. node (row * 32 + k)) = numbered_same 0 16 _ _ (λ j s. h (row * 32 + j) (omega arith)) in
-      let filters : numbered 0 16 (λ k. node' (row * 32 + (16 + k))) ≡ map.insert (numbered 0 16 (λ k. node (row * 32 + (16 + k)))) n x = insert-from_zero 16 n _ _ x l e (λ j s ne. h (row * 32 + (16 + j)) (omega arith)) in
-      ap (λ (m : FinMap nat_cmp (NodeSeen P)). record { name = nm; ports = m; filters = numbered 0 16 (λ k. node' (row * 32 + (16 + k))) }) ports
-      ∙ ap (λ (m : FinMap nat_cmp (NodeSeen P)). record { name = nm; ports = numbered 0 16 (λ k. node (row * 32 + k)); filters = m }) filters
+      let ports : numbered_map 0 16 (λ k. node' (row * 32 + k)) ≡ numbered_map 0 16 (λ k. node (row * 32 + k)) = numbered_same 0 16 _ _ (λ j s. h (row * 32 + j) (omega arith)) in
+      let filters : numbered_map 0 16 (λ k. node' (row * 32 + (16 + k))) ≡ map.insert (numbered_map 0 16 (λ k. node (row * 32 + (16 + k)))) n x = insert-from_zero 16 n _ _ x l e (λ j s ne. h (row * 32 + (16 + j)) (omega arith)) in
+      ap (λ (m : FinMap nat_cmp (NodeSeen P)). record { name = nm; ports = m; filters = numbered_map 0 16 (λ k. node' (row * 32 + (16 + k))) }) ports
+      ∙ ap (λ (m : FinMap nat_cmp (NodeSeen P)). record { name = nm; ports = numbered_map 0 16 (λ k. node (row * 32 + k)); filters = m }) filters
 
   client_drop : (node node' : ℕ → Option (NodeSeen P)) (row : ℕ) (nm : List ℕ) (nd : Node) → is_small nd → node' (row * 32 + place_in nd) ≡ None → ((i : ℕ) → i ≢ row * 32 + place_in nd → node' i ≡ node i) → client_kept node' row nm ≡ drop_node nd (client_kept node row nm)
   client_drop node node' row nm (Port n) l e h =
-      let ports : numbered 0 16 (λ k. node' (row * 32 + k)) ≡ map.remove (numbered 0 16 (λ k. node (row * 32 + k))) n = remove-from_zero 16 n _ _ l e (λ j s ne. h (row * 32 + j) (omega arith)) in
-      let filters : numbered 0 16 (λ k. node' (row * 32 + (16 + k))) ≡ numbered 0 16 (λ k. node (row * 32 + (16 + k))) = numbered_same 0 16 _ _ (λ j s. h (row * 32 + (16 + j)) (omega arith)) in
-      ap (λ (m : FinMap nat_cmp (NodeSeen P)). record { name = nm; ports = m; filters = numbered 0 16 (λ k. node' (row * 32 + (16 + k))) }) ports
-      ∙ ap (λ (m : FinMap nat_cmp (NodeSeen P)). record { name = nm; ports = map.remove (numbered 0 16 (λ k. node (row * 32 + k))) n; filters = m }) filters
+      let ports : numbered_map 0 16 (λ k. node' (row * 32 + k)) ≡ map.remove (numbered_map 0 16 (λ k. node (row * 32 + k))) n = remove-from_zero 16 n _ _ l e (λ j s ne. h (row * 32 + j) (omega arith)) in
+      let filters : numbered_map 0 16 (λ k. node' (row * 32 + (16 + k))) ≡ numbered_map 0 16 (λ k. node (row * 32 + (16 + k))) = numbered_same 0 16 _ _ (λ j s. h (row * 32 + (16 + j)) (omega arith)) in
+      ap (λ (m : FinMap nat_cmp (NodeSeen P)). record { name = nm; ports = m; filters = numbered_map 0 16 (λ k. node' (row * 32 + (16 + k))) }) ports
+      ∙ ap (λ (m : FinMap nat_cmp (NodeSeen P)). record { name = nm; ports = map.remove (numbered_map 0 16 (λ k. node (row * 32 + k))) n; filters = m }) filters
   client_drop node node' row nm (Filter n) l e h =
-      let ports : numbered 0 16 (λ k. node' (row * 32 + k)) ≡ numbered 0 16 (λ k. node (row * 32 + k)) = numbered_same 0 16 _ _ (λ j s. h (row * 32 + j) (omega arith)) in
-      let filters : numbered 0 16 (λ k. node' (row * 32 + (16 + k))) ≡ map.remove (numbered 0 16 (λ k. node (row * 32 + (16 + k)))) n = remove-from_zero 16 n _ _ l e (λ j s ne. h (row * 32 + (16 + j)) (omega arith)) in
-      ap (λ (m : FinMap nat_cmp (NodeSeen P)). record { name = nm; ports = m; filters = numbered 0 16 (λ k. node' (row * 32 + (16 + k))) }) ports
-      ∙ ap (λ (m : FinMap nat_cmp (NodeSeen P)). record { name = nm; ports = numbered 0 16 (λ k. node (row * 32 + k)); filters = m }) filters
+      let ports : numbered_map 0 16 (λ k. node' (row * 32 + k)) ≡ numbered_map 0 16 (λ k. node (row * 32 + k)) = numbered_same 0 16 _ _ (λ j s. h (row * 32 + j) (omega arith)) in
+      let filters : numbered_map 0 16 (λ k. node' (row * 32 + (16 + k))) ≡ map.remove (numbered_map 0 16 (λ k. node (row * 32 + (16 + k)))) n = remove-from_zero 16 n _ _ l e (λ j s ne. h (row * 32 + (16 + j)) (omega arith)) in
+      ap (λ (m : FinMap nat_cmp (NodeSeen P)). record { name = nm; ports = m; filters = numbered_map 0 16 (λ k. node' (row * 32 + (16 + k))) }) ports
+      ∙ ap (λ (m : FinMap nat_cmp (NodeSeen P)). record { name = nm; ports = numbered_map 0 16 (λ k. node (row * 32 + k)); filters = m }) filters
 
   -- the clients after one of them changed
   changed_by : (name name' : ℕ → Option (List ℕ)) (node node' : ℕ → Option (NodeSeen P)) (row : ℕ) (f : ClientNodes P → ClientNodes P) (nm : List ℕ) → row < 64 → name row ≡ Some nm → name' row ≡ Some nm → client_kept node' row nm ≡ f (client_kept node row nm) →
@@ -136,9 +136,9 @@ module _ {P : Type 0} where
   pub open_kept : (name name' : ℕ → Option (List ℕ)) (node : ℕ → Option (NodeSeen P)) (row : ℕ) (nm : List ℕ) → row < 64 → name' row ≡ Some nm → ((r : ℕ) → r ≢ row → name' r ≡ name r) → ((p : ℕ) → p < 32 → node (row * 32 + p) ≡ None) →
       clients_kept name' node ≡ map.insert (clients_kept name node) (128 + row) (empty_client nm)
   open_kept name name' node row nm b is n none =
-      let ports : numbered 0 16 (λ k. node (row * 32 + k)) ≡ map.empty = numbered_none 0 16 _ (λ i l. none i (omega arith)) in
-      let filters : numbered 0 16 (λ k. node (row * 32 + (16 + k))) ≡ map.empty = numbered_none 0 16 _ (λ i l. none (16 + i) (omega arith)) in
-      let new : client_kept node row nm ≡ empty_client nm = ap (λ (m : FinMap nat_cmp (NodeSeen P)). record { name = nm; ports = m; filters = numbered 0 16 (λ k. node (row * 32 + (16 + k))) }) ports
+      let ports : numbered_map 0 16 (λ k. node (row * 32 + k)) ≡ map.empty = numbered_none 0 16 _ (λ i l. none i (omega arith)) in
+      let filters : numbered_map 0 16 (λ k. node (row * 32 + (16 + k))) ≡ map.empty = numbered_none 0 16 _ (λ i l. none (16 + i) (omega arith)) in
+      let new : client_kept node row nm ≡ empty_client nm = ap (λ (m : FinMap nat_cmp (NodeSeen P)). record { name = nm; ports = m; filters = numbered_map 0 16 (λ k. node (row * 32 + (16 + k))) }) ports
       ∙ ap (λ (m : FinMap nat_cmp (NodeSeen P)). record { name = nm; ports = map.empty; filters = m }) filters in
       numbered_insert 128 64 row _ _ (empty_client nm) b (ap (option_map (client_kept node row)) is ∙ ap Some new)
       (λ r l ne. ap (option_map (client_kept node r)) (n r ne))

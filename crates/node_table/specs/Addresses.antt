@@ -1,4 +1,4 @@
--- Which addresses are one, and what stands there.
+-- Definition: Which addresses are one, and what stands there.
 use Rattle.std.specs.Prelude.{◌==◌, Bool, true, false, ◌&&◌}
 use Rattle.node_table.specs.declared.number.Addr.{Addr}
 use Rattle.node_table.specs.declared.number.Node.{Node}

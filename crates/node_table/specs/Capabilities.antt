@@ -1,4 +1,4 @@
--- What the capabilities of two nodes let an actor do with a subscription between them.
+-- Definition: What the capabilities of two nodes let an actor do with a subscription between them.
 use Rattle.std.specs.Prelude.{ℕ, ◌==◌, Bool, not, ◌&&◌, ◌||◌}
 use Rattle.std.specs.Int.RustNames.{bit_and}
 use Rattle.node_table.specs.declared.number.Addr.{Addr}
@@ -36,4 +36,5 @@ abbrev pub permits : ℕ → Addr → ℕ → Addr → ℕ → Bool
 permits actor source read target write =
     can read_bit read && ((actor == source.client) || can subs_read_bit read)
     && can write_bit write && ((actor == target.client) || can subs_write_bit write)
-    && ((actor == source.client) || (actor == target.client) || not (can no_export_bit read || can no_export_bit write))
+    && ((actor == source.client) || (actor == target.client)
+    || not (can no_export_bit read || can no_export_bit write))

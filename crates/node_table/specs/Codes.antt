@@ -1,4 +1,4 @@
--- The codes of addresses, by which a model may have them in its value.
+-- Representation: The codes of addresses, by which a model may have them in its value.
 use Rattle.std.specs.Prelude.{◌≡◌, ℕ, ◌⊎◌, refl}
 use Rattle.std.proofs.Common.{inl, inr}
 use Rattle.std.specs.Coded.{Coded, code_by, coded×, coded⊎, coded_ℕ}

@@ -1,5 +1,6 @@
--- What comes back with a refusal, and how one is printed.
+-- Definition: What comes back with a refusal, and how one is printed.
 use Rattle.std.specs.Prelude.{ℕ, List, codes}
+use Rattle.memory.specs.Faults.{out_of_memory_text}
 use Rattle.node_table.specs.declared.fault.CreateFault.{CreateFault}
 use Rattle.node_table.specs.declared.fault.CreateFault.TheVariants.{NotOpen, BadName, Exists, OutOfMemory}
 use Rattle.node_table.specs.declared.fault.OpenFault.{OpenFault}
@@ -15,4 +16,4 @@ body_of (OutOfMemory body) = body
 abbrev pub open_fault_text : OpenFault → List ℕ
 open_fault_text open_fault.AlreadyOpen = codes "the client is open already"
 open_fault_text open_fault.BadName = codes "this is no name"
-open_fault_text open_fault.OutOfMemory = codes "out of memory"
+open_fault_text open_fault.OutOfMemory = out_of_memory_text

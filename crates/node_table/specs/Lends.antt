@@ -1,4 +1,4 @@
--- What is left after a `&mut` to a node's body was returned.
+-- Representation: What is left after a `&mut` to a node's body was returned.
 use Rattle.std.specs.Borrow.{Lends, Fml, RattleType, MutBor}
 use Rattle.node_table.specs.Nodes.{NodeSeen, with_its_body}
 use Rattle.node_table.specs.contracts.info.NodeInfo.{the_row}

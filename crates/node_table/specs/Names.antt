@@ -1,4 +1,4 @@
--- Names of clients and ports.
+-- Definition: Names of clients and ports.
 use Rattle.std.specs.Prelude.{ℕ, List, length, Bool, ◌&&◌, nat_le}
 use Rattle.std.specs.List.{list_all}
 

@@ -1,4 +1,4 @@
--- The clients that are open, each with its name and its nodes.
+-- Definition: The clients that are open, each with its name and its nodes.
 use Rattle.std.specs.Prelude.{ℕ, Bool, ◌==◌, List, length, Option, Some, None, is_some, refl}
 use Rattle.std.specs.Option.{option_map}
 use Rattle.std.specs.Ordering.{nat_cmp}
@@ -28,12 +28,18 @@ pub record ClientNodes (P : Type 0) : Type 0 where
   pub filters : FinMap nat_cmp (NodeSeen P)
 
 abbrev pub coded_node_seen : {P : Type 0} → Coded P → Coded (NodeSeen P)
-coded_node_seen {P} body = code_by (List ℕ × (ℕ × P)) (coded× (coded_list coded_ℕ) (coded× coded_ℕ body)) (λ n. (n.name, (n.caps.0, n.body))) (λ p. record { name = p.0; caps = record { 0 = p.1.0 }; body = p.1.1 }) (λ _. refl)
+coded_node_seen {P} body = code_by (List ℕ × (ℕ × P))
+    (coded× (coded_list coded_ℕ) (coded× coded_ℕ body)) (λ n. (n.name, (n.caps.0, n.body)))
+    (λ p. record { name = p.0; caps = record { 0 = p.1.0 }; body = p.1.1 }) (λ _. refl)
 
 abbrev pub coded_client_nodes : {P : Type 0} → Coded P → Coded (ClientNodes P)
 coded_client_nodes {P} body =
-    code_by (List ℕ × (FinMap nat_cmp (NodeSeen P) × FinMap nat_cmp (NodeSeen P))) (coded× (coded_list coded_ℕ) (coded× (FinMap.code coded_ℕ (coded_node_seen body)) (FinMap.code coded_ℕ (coded_node_seen body))))
-    (λ c. (c.name, (c.ports, c.filters))) (λ p. record { name = p.0; ports = p.1.0; filters = p.1.1 }) (λ _. refl)
+    code_by (List ℕ × (FinMap nat_cmp (NodeSeen P) × FinMap nat_cmp (NodeSeen P)))
+    (coded× (coded_list coded_ℕ)
+    (coded× (FinMap.code coded_ℕ (coded_node_seen body))
+    (FinMap.code coded_ℕ (coded_node_seen body))))
+    (λ c. (c.name, (c.ports, c.filters)))
+    (λ p. record { name = p.0; ports = p.1.0; filters = p.1.1 }) (λ _. refl)
 
 -- a port has a name, and a filter has none
 abbrev pub is_name_for : Node → List ℕ → Bool
@@ -71,7 +77,8 @@ module _ {P : Type 0} where
   drop_node (Filter n) c = record c { filters = FinMap.remove c.filters n }
 
   -- the clients after a change of one of them, where it is open
-  abbrev pub put_client : FinMap nat_cmp (ClientNodes P) → ℕ → Option (ClientNodes P) → FinMap nat_cmp (ClientNodes P)
+  abbrev pub put_client : FinMap nat_cmp (ClientNodes P) → ℕ → Option (ClientNodes P)
+      → FinMap nat_cmp (ClientNodes P)
   put_client m client None = m
   put_client m client (Some c) = FinMap.insert m client c
 
@@ -83,18 +90,22 @@ module _ {P : Type 0} where
   node_at m addr = node_in (FinMap.get m addr.client) addr.node
 
   -- the clients with this node at the address, where its client is open
-  abbrev pub with_node : FinMap nat_cmp (ClientNodes P) → Addr → NodeSeen P → FinMap nat_cmp (ClientNodes P)
-  with_node m addr x = put_client m addr.client (option_map (put_node addr.node x) (FinMap.get m addr.client))
+  abbrev pub with_node : FinMap nat_cmp (ClientNodes P) → Addr → NodeSeen P
+      → FinMap nat_cmp (ClientNodes P)
+  with_node m addr x =
+      put_client m addr.client (option_map (put_node addr.node x) (FinMap.get m addr.client))
 
   -- the clients with no node at the address
   abbrev pub without_node : FinMap nat_cmp (ClientNodes P) → Addr → FinMap nat_cmp (ClientNodes P)
-  without_node m addr = put_client m addr.client (option_map (drop_node addr.node) (FinMap.get m addr.client))
+  without_node m addr =
+      put_client m addr.client (option_map (drop_node addr.node) (FinMap.get m addr.client))
 
   -- a node with another body
   abbrev pub with_its_body : P → NodeSeen P → NodeSeen P
   with_its_body body n = record n { body = body }
 
-  abbrev pub put_seen : FinMap nat_cmp (ClientNodes P) → Addr → Option (NodeSeen P) → FinMap nat_cmp (ClientNodes P)
+  abbrev pub put_seen : FinMap nat_cmp (ClientNodes P) → Addr → Option (NodeSeen P)
+      → FinMap nat_cmp (ClientNodes P)
   put_seen m addr None = m
   put_seen m addr (Some x) = with_node m addr x
 

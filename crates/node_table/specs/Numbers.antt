@@ -1,4 +1,4 @@
--- Which numbers clients bear, and how many ports, filters and queues each may have.
+-- Definition: Which numbers clients bear, and how many ports, filters and queues each may have.
 use Rattle.std.specs.Prelude.{ℕ}
 
 abbrev pub first_client : ℕ

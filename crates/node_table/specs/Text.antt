@@ -1,4 +1,4 @@
--- How addresses are printed.
+-- Definition: How addresses are printed.
 use Rattle.std.specs.Prelude.{ℕ, List, ◌++◌, codes}
 use Rattle.std.specs.Fmt.{decimal}
 use Rattle.node_table.specs.declared.number.Node.{Node}

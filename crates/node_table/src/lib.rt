@@ -1,4 +1,4 @@
-//! Who is there: the numbers of clients and nodes, their addresses, their names, and what a node allows.
+//! The open clients: the numbers of clients and nodes, their addresses, their names, and what a node allows.
 //!
 //! The numbers and the capabilities are those of the ALSA sequencer interface, within limits of our own: clients 128 to
 //! 191, ports and filters 0 to 15 of each client.

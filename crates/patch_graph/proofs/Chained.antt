@@ -6,7 +6,7 @@ use Rattle.node_table.specs.Addresses.{same, is_filter}
 use Rattle.node_table.specs.declared.number.Addr.{Addr}
 use Rattle.patch_graph.specs.declared.edge.Edge.{Edge}
 use Rattle.patch_graph.specs.Edges.{edge, is_edge, has_edge}
-use Rattle.patch_graph.specs.Chains.{is_chain, are_edges, Reaches, joined, makes_cycle, JoinedLaw}
+use Rattle.patch_graph.specs.Chains.{is_chain, are_edges, Reaches, is_joined, makes_cycle, JoinedLaw}
 use Rattle.patch_graph.proofs.Lists.{both_left, both_right, and_both, both_ways}
 use Rattle.patch_graph.proofs.Same.{same-is, same-refl, same-from}
 
@@ -101,57 +101,57 @@ module _ (es fs : List Edge) (more : (a b : Addr) → has_edge es a b ≡ true �
 
 -- ---- the test of the definitions
 
-joined-same : (edges : List Edge) (a b : Addr) → same a b ≡ true → joined edges a b ≡ true
-unfolding joined
+joined-same : (edges : List Edge) (a b : Addr) → same a b ≡ true → is_joined edges a b ≡ true
+unfolding is_joined
 joined-same [] a b h = h
-joined-same (e ∷ es) a b h = or_left (joined es a b) (is_filter e.source && is_filter e.target && joined es a e.source && joined es e.target b) (joined-same es a b h)
+joined-same (e ∷ es) a b h = or_left (is_joined es a b) (is_filter e.source && is_filter e.target && is_joined es a e.source && is_joined es e.target b) (joined-same es a b h)
 
-joined-hop : (edges : List Edge) (a b c : Addr) → IsHop edges a b → joined edges b c ≡ true → joined edges a c ≡ true
-unfolding joined
+joined-hop : (edges : List Edge) (a b c : Addr) → IsHop edges a b → is_joined edges b c ≡ true → is_joined edges a c ≡ true
+unfolding is_joined
 joined-hop [] a b c h j = absurd (false≢true h.there)
 joined-hop (e ∷ es) a b c h j =
     by (or_cases (is_edge a b e) (has_edge es a b) h.there)
-    (or_cases (joined es b c) (is_filter e.source && is_filter e.target && joined es b e.source && joined es e.target c) j)
+    (or_cases (is_joined es b c) (is_filter e.source && is_filter e.target && is_joined es b e.source && is_joined es e.target c) j)
     (λ x k. joined-hop es a b x (record { there = k; from_filter = h.from_filter; to_filter = h.to_filter }))
   where
-    around : joined es a e.source ≡ true → joined es e.target c ≡ true → is_filter e.source ≡ true → is_filter e.target ≡ true → (joined es a c || (is_filter e.source && is_filter e.target && joined es a e.source && joined es e.target c)) ≡ true
-    around k l m n = or_right (joined es a c) (is_filter e.source && is_filter e.target && joined es a e.source && joined es e.target c) (all4 (is_filter e.source) (is_filter e.target) (joined es a e.source) (joined es e.target c) m n k l)
+    around : is_joined es a e.source ≡ true → is_joined es e.target c ≡ true → is_filter e.source ≡ true → is_filter e.target ≡ true → (is_joined es a c || (is_filter e.source && is_filter e.target && is_joined es a e.source && is_joined es e.target c)) ≡ true
+    around k l m n = or_right (is_joined es a c) (is_filter e.source && is_filter e.target && is_joined es a e.source && is_joined es e.target c) (all4 (is_filter e.source) (is_filter e.target) (is_joined es a e.source) (is_joined es e.target c) m n k l)
 
-    through : is_edge a b e ≡ true → joined es e.target c ≡ true → (joined es a c || (is_filter e.source && is_filter e.target && joined es a e.source && joined es e.target c)) ≡ true
+    through : is_edge a b e ≡ true → is_joined es e.target c ≡ true → (is_joined es a c || (is_filter e.source && is_filter e.target && is_joined es a e.source && is_joined es e.target c)) ≡ true
     through here k =
         let source : a ≡ e.source = same-is a e.source (both_left (same a e.source) (same b e.target) here) in
         let target : b ≡ e.target = same-is b e.target (both_right (same a e.source) (same b e.target) here) in
         around (joined-same es a e.source (same-from a e.source source)) k (subst (λ x. is_filter x ≡ true) source h.from_filter) (subst (λ x. is_filter x ≡ true) target h.to_filter)
 
-    by : (is_edge a b e ≡ true) ⊎ (has_edge es a b ≡ true) → (joined es b c ≡ true) ⊎ ((is_filter e.source && is_filter e.target && joined es b e.source && joined es e.target c) ≡ true) →
-        ((x : Addr) → has_edge es a b ≡ true → joined es b x ≡ true → joined es a x ≡ true) →
-        (joined es a c || (is_filter e.source && is_filter e.target && joined es a e.source && joined es e.target c)) ≡ true
-    by (inl here) (inl k) more = through here (subst (λ x. joined es x c ≡ true) (same-is b e.target (both_right (same a e.source) (same b e.target) here)) k)
-    by (inl here) (inr k) more = through here (each4 (is_filter e.source) (is_filter e.target) (joined es b e.source) (joined es e.target c) k).3
-    by (inr there) (inl k) more = or_left (joined es a c) (is_filter e.source && is_filter e.target && joined es a e.source && joined es e.target c) (more c there k)
+    by : (is_edge a b e ≡ true) ⊎ (has_edge es a b ≡ true) → (is_joined es b c ≡ true) ⊎ ((is_filter e.source && is_filter e.target && is_joined es b e.source && is_joined es e.target c) ≡ true) →
+        ((x : Addr) → has_edge es a b ≡ true → is_joined es b x ≡ true → is_joined es a x ≡ true) →
+        (is_joined es a c || (is_filter e.source && is_filter e.target && is_joined es a e.source && is_joined es e.target c)) ≡ true
+    by (inl here) (inl k) more = through here (subst (λ x. is_joined es x c ≡ true) (same-is b e.target (both_right (same a e.source) (same b e.target) here)) k)
+    by (inl here) (inr k) more = through here (each4 (is_filter e.source) (is_filter e.target) (is_joined es b e.source) (is_joined es e.target c) k).3
+    by (inr there) (inl k) more = or_left (is_joined es a c) (is_filter e.source && is_filter e.target && is_joined es a e.source && is_joined es e.target c) (more c there k)
     by (inr there) (inr k) more =
-        let q = each4 (is_filter e.source) (is_filter e.target) (joined es b e.source) (joined es e.target c) k in
+        let q = each4 (is_filter e.source) (is_filter e.target) (is_joined es b e.source) (is_joined es e.target c) k in
         around (more e.source there q.2) q.3 q.0 q.1
 
-pub joined-from : (edges : List Edge) (a b : Addr) → Joins edges a b → joined edges a b ≡ true
+pub joined-from : (edges : List Edge) (a b : Addr) → Joins edges a b → is_joined edges a b ≡ true
 joined-from edges a b (inl s) = joined-same edges a b s
-joined-from edges a b (inr r) = along_reached edges b (λ x. joined edges x b ≡ true) (λ x h. joined-hop edges x b b h (joined-same edges b b (same-refl b))) (λ x y h more. joined-hop edges x y b h more) a r
+joined-from edges a b (inr r) = along_reached edges b (λ x. is_joined edges x b ≡ true) (λ x h. joined-hop edges x b b h (joined-same edges b b (same-refl b))) (λ x y h more. joined-hop edges x y b h more) a r
 
 one_more : (e : Edge) (es : List Edge) (a b : Addr) → has_edge es a b ≡ true → has_edge (e ∷ es) a b ≡ true
 one_more e es a b h = or_right (is_edge a b e) (has_edge es a b) h
 
-pub joins-from : (edges : List Edge) (a b : Addr) → joined edges a b ≡ true → Joins edges a b
-unfolding joined
+pub joins-from : (edges : List Edge) (a b : Addr) → is_joined edges a b ≡ true → Joins edges a b
+unfolding is_joined
 joins-from [] a b h = inl h
 joins-from (e ∷ es) a b h =
-    by (or_cases (joined es a b) (is_filter e.source && is_filter e.target && joined es a e.source && joined es e.target b) h)
+    by (or_cases (is_joined es a b) (is_filter e.source && is_filter e.target && is_joined es a e.source && is_joined es e.target b) h)
     (λ x y k. joins_among es (e ∷ es) (one_more e es) x y (joins-from es x y k))
   where
-    by : (joined es a b ≡ true) ⊎ ((is_filter e.source && is_filter e.target && joined es a e.source && joined es e.target b) ≡ true) →
-        ((x y : Addr) → joined es x y ≡ true → Joins (e ∷ es) x y) → Joins (e ∷ es) a b
+    by : (is_joined es a b ≡ true) ⊎ ((is_filter e.source && is_filter e.target && is_joined es a e.source && is_joined es e.target b) ≡ true) →
+        ((x y : Addr) → is_joined es x y ≡ true → Joins (e ∷ es) x y) → Joins (e ∷ es) a b
     by (inl k) more = more a b k
     by (inr k) more =
-        let q = each4 (is_filter e.source) (is_filter e.target) (joined es a e.source) (joined es e.target b) k in
+        let q = each4 (is_filter e.source) (is_filter e.target) (is_joined es a e.source) (is_joined es e.target b) k in
         let here : has_edge (e ∷ es) e.source e.target ≡ true = or_left (is_edge e.source e.target e) (has_edge es e.source e.target) (and_both (same e.source e.source) (same e.target e.target) (same-refl e.source) (same-refl e.target)) in
         let hop : IsHop (e ∷ es) e.source e.target = record { there = here; from_filter = q.0; to_filter = q.1 } in
         inr (join_on (e ∷ es) a e.source b (more a e.source q.2) (hop_to (e ∷ es) e.source e.target b hop (more e.target b q.3)))
@@ -212,7 +212,7 @@ acyclic-added edges s t none clear a r = by (reach_added edges s t a a r)
   where
     by : Reaches edges a a ⊎ Passes edges s t a a → ⊥
     by (inl q) = none a q
-    by (inr p) = false≢true (sym clear ∙ and_both (is_filter s && is_filter t) (joined edges t s) (and_both (is_filter s) (is_filter t) p.from_filter p.to_filter) (joined-from edges t s (joins_on edges t a s p.after p.before)))
+    by (inr p) = false≢true (sym clear ∙ and_both (is_filter s && is_filter t) (is_joined edges t s) (and_both (is_filter s) (is_filter t) p.from_filter p.to_filter) (joined-from edges t s (joins_on edges t a s p.after p.before)))
 
 pub acyclic-fewer : (es fs : List Edge) → ((a b : Addr) → has_edge fs a b ≡ true → has_edge es a b ≡ true) → ((a : Addr) → Reaches es a a → ⊥) → (a : Addr) → Reaches fs a a → ⊥
 acyclic-fewer es fs more none a r = none a (reach_among fs es more a a r)
@@ -228,17 +228,17 @@ reach_end edges a b r = along_reached edges b (λ x. is_filter b ≡ true) (λ x
 -- ---- the test for a cycle
 
 pub cycle_same : (edges : List Edge) (s t : Addr) → is_filter s ≡ true → same t s ≡ true → makes_cycle edges s t ≡ true
-cycle_same edges s t f h = and_both (is_filter s && is_filter t) (joined edges t s) (and_both (is_filter s) (is_filter t) f (ap is_filter (same-is t s h) ∙ f)) (joined-from edges t s (inl h))
+cycle_same edges s t f h = and_both (is_filter s && is_filter t) (is_joined edges t s) (and_both (is_filter s) (is_filter t) f (ap is_filter (same-is t s h) ∙ f)) (joined-from edges t s (inl h))
 
 pub cycle_reached : (edges : List Edge) (s t : Addr) (b : Bool) → is_filter s ≡ true → same t s ≡ false → (b ≡ true) ↔ Reaches edges t s → b ≡ makes_cycle edges s t
 cycle_reached edges s t b f n h =
     both_ways b (makes_cycle edges s t)
-    (λ k. and_both (is_filter s && is_filter t) (joined edges t s) (and_both (is_filter s) (is_filter t) f (reach_start edges t s (h.0 k))) (joined-from edges t s (inr (h.0 k))))
-    (λ k. by (joins-from edges t s (both_right (is_filter s && is_filter t) (joined edges t s) k)))
+    (λ k. and_both (is_filter s && is_filter t) (is_joined edges t s) (and_both (is_filter s) (is_filter t) f (reach_start edges t s (h.0 k))) (joined-from edges t s (inr (h.0 k))))
+    (λ k. by (joins-from edges t s (both_right (is_filter s && is_filter t) (is_joined edges t s) k)))
   where
     by : Joins edges t s → b ≡ true
     by (inl e) = absurd (false≢true (sym n ∙ e))
     by (inr r) = h.1 r
 
 pub no_cycle : (edges : List Edge) (s t : Addr) → is_filter s ≡ false → makes_cycle edges s t ≡ false
-no_cycle edges s t f = ap (λ b. b && is_filter t && joined edges t s) f
+no_cycle edges s t f = ap (λ b. b && is_filter t && is_joined edges t s) f

@@ -1,4 +1,4 @@
--- The code of a subscription, by which a model may have it in its value.
+-- Representation: The code of a subscription, by which a model may have it in its value.
 use Rattle.std.specs.Prelude.{refl}
 use Rattle.std.specs.Coded.{Coded, code_by, coded×}
 use Rattle.node_table.specs.Codes.{coded_addr}

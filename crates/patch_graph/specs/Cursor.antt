@@ -1,4 +1,4 @@
--- Routes, found one after another.
+-- Representation: Routes, found one after another.
 use Rattle.std.specs.Prelude.{◌≡◌, ◌≤◌, ℕ, zero, suc, ◌-◌, Bool, true, false, not, ◌&&◌, if◌then◌else◌, List, [], ◌∷◌, ◌++◌, map, take, length, slice_index_or, Option, None}
 use Rattle.std.specs.Option.{option_map}
 use Rattle.std.specs.List.{flat_map, list_all}
@@ -30,12 +30,16 @@ path_from (a ∷ b ∷ bs) = option_map (past a) (path_from (b ∷ bs))
 -- the routes of at most n nodes that begin at one of these
 unfoldable pub tails : ℕ → List Edge → List Addr → List (List Addr)
 tails zero edges ts = []
-tails (suc n) edges ts = flat_map (λ t. if is_filter t then map (λ r. t ∷ r) (tails n edges (targets_of edges t)) else (t ∷ []) ∷ []) ts
+tails (suc n) edges ts = flat_map
+    (λ t. if is_filter t then map (λ r. t ∷ r) (tails n edges (targets_of edges t))
+    else (t ∷ []) ∷ []) ts
 
--- with the filters `nodes` gone through and, at each depth, these targets left: the routes that are still to come, the deepest first
+-- with the filters `nodes` gone through and, at each depth, these targets left: the routes that are
+-- still to come, the deepest first
 unfoldable pub coming : List Edge → List Addr → List (List Addr) → ℕ → List (List Addr)
 coming edges nodes left zero = []
-coming edges nodes left (suc depth) = map (λ r. take depth nodes ++ r) (tails (hops - depth) edges (slice_index_or left depth [])) ++ coming edges nodes left depth
+coming edges nodes left (suc depth) = map (λ r. take depth nodes ++ r)
+    (tails (hops - depth) edges (slice_index_or left depth [])) ++ coming edges nodes left depth
 
 pub record IsCursor (nodes : List Addr) (left : List (List Addr)) (depth : ℕ) : Type 0 where
   pub node_places : length nodes ≡ HOPS

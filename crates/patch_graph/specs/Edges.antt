@@ -1,4 +1,4 @@
--- Subscriptions, each an edge from a node to a node.
+-- Definition: Subscriptions, each an edge from a node to a node.
 use Rattle.std.specs.Prelude.{ℕ, ◌==◌, Bool, not, ◌&&◌, ◌||◌, List, length}
 use Rattle.std.specs.List.{filter, list_any}
 use Rattle.node_table.specs.Addresses.{same}

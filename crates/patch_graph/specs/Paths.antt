@@ -1,4 +1,4 @@
--- The ways of a message through the edges.
+-- Definition: The paths of a message through the edges.
 use Rattle.std.specs.Prelude.{ℕ, zero, suc, Bool, true, false, ◌&&◌, if◌then◌else◌, List, [], ◌∷◌, map, Option, Some, None}
 use Rattle.std.specs.Option.{option_map}
 use Rattle.std.specs.List.{filter, flat_map}
@@ -18,10 +18,12 @@ abbrev pub is_last : List Edge → Bool
 is_last [] = true
 is_last (e ∷ es) = false
 
--- each edge begins where the one before ends, the first at a; the inner nodes are filters, and the last node is a port
+-- each edge begins where the one before ends, the first at a; the inner nodes are filters, and the
+-- last node is a port
 abbrev pub is_path : Addr → List Edge → Bool
 is_path a [] = false
-is_path a (e ∷ es) = same a e.source && (if is_filter e.target then is_path e.target es else is_last es)
+is_path a (e ∷ es) =
+    same a e.source && (if is_filter e.target then is_path e.target es else is_last es)
 
 -- how many edges a path has at most
 unfoldable pub hops : ℕ
@@ -47,7 +49,8 @@ abbrev pub routes : List Edge → Addr → List (List Addr)
 routes edges a = map nodes_of (paths edges a)
 
 abbrev pub path_at : ℕ → Node → Option Path
-path_at client (Port n) = Some (record { filters = []; last = record { client = client; port = n } })
+path_at client (Port n) =
+    Some (record { filters = []; last = record { client = client; port = n } })
 path_at client (Filter n) = None
 
 -- with one filter more in front

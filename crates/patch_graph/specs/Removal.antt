@@ -1,4 +1,4 @@
--- Which edges go.
+-- Definition: Which edges go.
 use Rattle.std.specs.Prelude.{Bool}
 use Rattle.patch_graph.specs.declared.edge.Edge.{Edge}
 use Rattle.patch_graph.specs.declared.removal.Removal.{Removal}

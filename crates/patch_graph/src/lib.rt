@@ -1,4 +1,4 @@
-//! The graph of subscriptions: who is joined to whom, in order of age, and the ways that a message takes.
+//! The graph of subscriptions: who is joined to whom, in order of age, and the paths that a message takes.
 #![tactic(auto)]
 
 mod edge;

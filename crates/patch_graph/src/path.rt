@@ -1,9 +1,9 @@
-//! The ways of a message.
+//! The paths of a message.
 
 use memory::Items;
 use node_table::{Addr, PortAddr};
 
-/// A way of a message from a node to a port.
+/// The path of a message from a node to a port.
 #[derive(Debug, Drop)]
 pub struct Path {
     /// The filters that it goes through, in order: at most seven.

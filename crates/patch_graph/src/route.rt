@@ -1,4 +1,4 @@
-//! The ways of a message from a node, one by one.
+//! The paths of a message from a node, one by one.
 
 ghost use Rattle.std.specs.Prelude.{◌≡◌, ◌≤◌, ℕ, List, [], ◌∷◌, ◌++◌, true, take, length, Some, IfSome, IfNone, IfOk};
 ghost use Rattle.std.specs.List.{list_all, filter_map};
@@ -18,7 +18,7 @@ use std::marker::Model;
 /// How many edges a message goes along at most.
 pub const HOPS: usize = 8;
 
-/// The nodes of a way behind its beginning: the filters that it goes through, and the port where it ends.
+/// The nodes of a path behind its beginning: the filters that it goes through, and the port where it ends.
 #[derive(Clone, Debug, Drop)]
 pub struct Route {
     nodes: [Addr; HOPS],
@@ -60,7 +60,7 @@ impl Route {
         &self.nodes[..self.count]
     }
 
-    /// The filters on the way, from the first on: all its nodes but the last.
+    /// The filters on the path, from the first on: all its nodes but the last.
     pub fn filters(&self) -> &[Addr]
         ensures front { (last : Addr) × (self.now ≡ result.now ++ last ∷ []) }
         ensures all { list_all is_filter result.now ≡ true }
@@ -68,7 +68,7 @@ impl Route {
         &self.nodes[..self.count - 1]
     }
 
-    /// The same as a path of its own, whose filters lie in a vector.
+    /// The same as a `Path`, whose filters lie in a vector.
     pub fn to_path(&self, alloc: Global) -> Result<Path, OutOfMemory>
         ensures { IfOk result (λ p. path_from self.now ≡ Some p) }
     {
@@ -78,7 +78,7 @@ impl Route {
         })
     }
 
-    /// Where the way ends.
+    /// Where the path ends.
     pub fn last(&self) -> PortAddr
         ensures { (front : List Addr) × (self.now ≡ front ++ at_port result ∷ []) }
     {
@@ -90,7 +90,7 @@ impl Route {
     }
 }
 
-/// The ways from a node that are still to come, the oldest first: by the age of their first edges, then of their second
+/// The paths from a node that are still to come, the oldest first: by the age of their first edges, then of their second
 /// ones, and so on.
 #[derive(Drop)]
 pub struct Routes<'g> {
@@ -114,7 +114,7 @@ impl<'g> Model for Routes<'g> {
 }
 
 impl<'g> Routes<'g> {
-    /// The next way, and `None` when there is none left.
+    /// The next path, and `None` when there is none left.
     pub fn next(&mut self) -> Option<Route>
         ensures given { IfSome result (λ r. self.old ≡ r ∷ self.new) }
         ensures done { IfNone result (self.old ≡ []) }
@@ -148,7 +148,7 @@ impl<'g> Routes<'g> {
 }
 
 impl PatchGraph {
-    /// The ways from a node, one by one. It takes no memory.
+    /// The paths from a node, one by one. It takes no memory.
     pub fn routes(&self, from: &Addr) -> Routes<'_>
         ensures { result ≡ routes self.now from.now }
     {
@@ -160,7 +160,7 @@ impl PatchGraph {
         }
     }
 
-    /// All the ways from a node.
+    /// All the paths from a node.
     pub fn walk(&self, from: &Addr) -> Result<Vec<Path>, OutOfMemory>
         ensures { IfOk result (λ ps. ps.items ≡ filter_map path_of (paths self.now from.now)) }
     {

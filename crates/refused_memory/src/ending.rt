@@ -6,16 +6,16 @@ use std::alloc::{AllocError, AllocFailed};
 
 #[derive(Clone, Copy, Debug)]
 pub enum Ending {
-    /// The words, or what they name, can't be run.
+    /// The words, or what they name, cannot be run.
     Unusable,
-    /// This call told of want of memory, and all was as promised.
+    /// This call ran out of memory, and all was as promised.
     NoMemory(&'static str),
     /// This is otherwise than promised.
     Otherwise(&'static str),
 }
 
 impl Ending {
-    /// The call that told of want of memory, or what is wrong.
+    /// The call that ran out of memory, or what is wrong.
     pub fn told(&self) -> &'static str {
         match *self {
             Ending::Unusable => "the words, or what they name, can't be run",

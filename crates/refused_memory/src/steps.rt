@@ -1,4 +1,4 @@
-//! The calls of an engine, each with what has to hold after want of memory.
+//! The calls of an engine, each with what has to hold after it ran out of memory.
 
 ghost use Rattle.std.specs.Prelude.{◌≡◌};
 
@@ -12,7 +12,7 @@ use seq_session::Merged;
 use smf_files::SmfFile;
 use std::alloc::Global;
 
-/// Gives an engine the inputs one by one, settles it, and asks who is there. All is printed as it comes.
+/// Gives an engine the inputs one by one, settles it, and asks for the listing. All is printed as it comes.
 pub fn play<W: Sink>(
     alloc: Global,
     files: &[SmfFile<'_>],
@@ -89,7 +89,7 @@ fn settle(engine: &mut Engine<'_, '_, HeapAgenda>, until: u64) -> Result<Vec<Del
     }
 }
 
-/// Prints who is there. After want of memory another call may give it.
+/// Prints the listing. After it ran out of memory another call may give it.
 fn list<W: Sink>(engine: &mut Engine<'_, '_, HeapAgenda>, out: &mut W) -> Result<(), Ending> {
     let before = (engine.now(), engine.steps());
     match engine.listing() {
@@ -119,7 +119,7 @@ fn question(engine: &Engine<'_, '_, HeapAgenda>) -> Input
     }
 }
 
-/// After want of memory in a call an engine has its moment and its number of steps, and every call answers `Failed`.
+/// After a call ran out of memory an engine has its moment and its number of steps, and every call answers `Failed`.
 fn failed(
     engine: &mut Engine<'_, '_, HeapAgenda>,
     before: (u64, u64),
@@ -153,7 +153,7 @@ fn all_fail(engine: &mut Engine<'_, '_, HeapAgenda>) -> bool {
     }
 }
 
-/// After want of memory in a listing an engine answers as ever.
+/// After a listing ran out of memory an engine answers as ever.
 fn answers(engine: &mut Engine<'_, '_, HeapAgenda>, call: &'static str) -> Ending {
     if engine.steps() == u64::MAX {
         return Ending::Unusable;

@@ -10,9 +10,9 @@ use Rattle.midi_wire.specs.Kinds.{kind_of, kind_of_status}
 use Rattle.route_filter.specs.declared.kinds.Kinds.{Kinds}
 use Rattle.route_filter.specs.declared.rule_args.RuleArgs.{RuleArgs}
 use Rattle.route_filter.specs.Rules.{has_kind, has_channel, is_rule}
-use Rattle.route_filter.specs.Passing.{has_note, passed}
-use Rattle.route_filter.specs.VoiceBytes.{voice_bytes, IsVoice, moved}
-use Rattle.route_filter.specs.Chains.{raised, moved_twice}
+use Rattle.route_filter.specs.Passing.{has_note, rule_output}
+use Rattle.route_filter.specs.VoiceBytes.{voice_bytes, IsVoice, first_byte_after}
+use Rattle.route_filter.specs.Chains.{note_after, moved_twice}
 use Rattle.route_filter.proofs.Statuses.{kind-stays, note-system}
 use Rattle.route_filter.proofs.Passes.{system-passed}
 use Rattle.route_filter.proofs.Voices.{parts-passed, parts-of, new-channel}
@@ -21,7 +21,7 @@ use Rattle.route_filter.proofs.Sets.{both-kinds, kinds-left}
 -- how the parts of the whole come from those of the one rule and the next
 pub record IsWhole (one next whole : RuleArgs) : Type 0 where
   pub without_note : (k : Kind) → has_note k ≡ false → has_kind whole.kinds.0 k ≡ (has_kind one.kinds.0 k && has_kind next.kinds.0 k)
-  pub with_note : (k : Kind) (n : ℕ) → has_note k ≡ true → (if has_kind whole.kinds.0 k then moved whole true n else None) ≡ (if has_kind one.kinds.0 k && has_kind next.kinds.0 k then moved_twice one next n else None)
+  pub with_note : (k : Kind) (n : ℕ) → has_note k ≡ true → (if has_kind whole.kinds.0 k then first_byte_after whole true n else None) ≡ (if has_kind one.kinds.0 k && has_kind next.kinds.0 k then moved_twice one next n else None)
   pub channels : (n : ℕ) → n < 16 → has_channel whole.channels n ≡ (has_channel one.channels n && has_channel next.channels (unwrap_or one.channel n))
   pub channel : whole.channel ≡ option_or next.channel one.channel
 
@@ -52,14 +52,14 @@ unwrap-twice o None n = refl
 unwrap-twice o (Some k) n = refl
 
 module _ (one next whole : RuleArgs) (known : IsTrue (is_rule one)) (known' : IsTrue (is_rule next)) (rule : IsTrue (is_rule whole)) (is : IsWhole one next whole) where
-  same-given : (k : Kind) (c : Bool) (a : ℕ) (f : ℕ → List ℕ) (v : Bool) → has_note k ≡ v → given (has_kind whole.kinds.0 k) c (moved whole v a) f ≡ given (has_kind one.kinds.0 k && has_kind next.kinds.0 k) c (option_and_then (moved next v) (moved one v a)) f
+  same-given : (k : Kind) (c : Bool) (a : ℕ) (f : ℕ → List ℕ) (v : Bool) → has_note k ≡ v → given (has_kind whole.kinds.0 k) c (first_byte_after whole v a) f ≡ given (has_kind one.kinds.0 k && has_kind next.kinds.0 k) c (option_and_then (first_byte_after next v) (first_byte_after one v a)) f
   same-given k c a f true e =
-      given-by (has_kind whole.kinds.0 k) c (moved whole true a) f
+      given-by (has_kind whole.kinds.0 k) c (first_byte_after whole true a) f
       ∙ ap (λ (o : Option ℕ). if c then option_map f o else None) (is.with_note k a e)
       ∙ sym (given-by (has_kind one.kinds.0 k && has_kind next.kinds.0 k) c (moved_twice one next a) f)
   same-given k c a f false e = ap (λ (t : Bool). given t c (Some a) f) (is.without_note k e)
 
-  voice : (s a b : ℕ) → 128 ≤ s → s < 240 → passed whole (voice_bytes s a b) ≡ option_and_then (passed next) (passed one (voice_bytes s a b))
+  voice : (s a b : ℕ) → 128 ≤ s → s < 240 → rule_output whole (voice_bytes s a b) ≡ option_and_then (rule_output next) (rule_output one (voice_bytes s a b))
   voice s a b h l =
       let k : Kind = kind_of_status s in
       let v : Bool = has_note k in
@@ -74,37 +74,37 @@ module _ (one next whole : RuleArgs) (known : IsTrue (is_rule one)) (known' : Is
       ∙ ap (λ (n : ℕ). n * 16 + unwrap_or next.channel (t % 16)) (sym upper) in
       let then-next = λ (n : ℕ).
       parts-passed next t n b u known' (omega (arith, small)) (omega (arith, small)) at
-      ∙ ap (λ (j : Kind). given (has_kind next.kinds.0 j) (has_channel next.channels (t % 16)) (moved next (has_note j) n) (λ i. voice_bytes u i b)) (kind-stays s t h l upper)
-      ∙ ap (λ (i : ℕ). given (has_kind next.kinds.0 k) (has_channel next.channels i) (moved next v n) (λ i. voice_bytes u i b)) lower in
+      ∙ ap (λ (j : Kind). given (has_kind next.kinds.0 j) (has_channel next.channels (t % 16)) (first_byte_after next (has_note j) n) (λ i. voice_bytes u i b)) (kind-stays s t h l upper)
+      ∙ ap (λ (i : ℕ). given (has_kind next.kinds.0 k) (has_channel next.channels i) (first_byte_after next v n) (λ i. voice_bytes u i b)) lower in
       parts-passed whole s a b u rule h l refl
       ∙ same-given k (has_channel whole.channels (s % 16)) a (λ i. voice_bytes u i b) v refl
-      ∙ ap (λ (c : Bool). given (has_kind one.kinds.0 k && has_kind next.kinds.0 k) c (option_and_then (moved next v) (moved one v a)) (λ i. voice_bytes u i b)) (is.channels (s % 16) (omega arith))
-      ∙ sym (ap (option_and_then (passed next)) (parts-passed one s a b t known h l refl)
-      ∙ given-twice (passed next) (λ i. voice_bytes t i b) (λ i. voice_bytes u i b) (has_kind one.kinds.0 k) (has_channel one.channels (s % 16)) (has_kind next.kinds.0 k) (has_channel next.channels channel) (moved one v a) (moved next v) then-next)
+      ∙ ap (λ (c : Bool). given (has_kind one.kinds.0 k && has_kind next.kinds.0 k) c (option_and_then (first_byte_after next v) (first_byte_after one v a)) (λ i. voice_bytes u i b)) (is.channels (s % 16) (omega arith))
+      ∙ sym (ap (option_and_then (rule_output next)) (parts-passed one s a b t known h l refl)
+      ∙ given-twice (rule_output next) (λ i. voice_bytes t i b) (λ i. voice_bytes u i b) (has_kind one.kinds.0 k) (has_channel one.channels (s % 16)) (has_kind next.kinds.0 k) (has_channel next.channels channel) (first_byte_after one v a) (first_byte_after next v) then-next)
 
-  system : (m : List ℕ) → 240 ≤ status_of m → passed whole m ≡ option_and_then (passed next) (passed one m)
+  system : (m : List ℕ) → 240 ≤ status_of m → rule_output whole m ≡ option_and_then (rule_output next) (rule_output one m)
   system m h =
       system-passed whole m h
       ∙ ap (λ (t : Bool). if t then Some m else None) (is.without_note (kind_of m) (note-system (status_of m) h))
       ∙ go (has_kind one.kinds.0 (kind_of m))
-      ∙ ap (option_and_then (passed next)) (sym (system-passed one m h))
+      ∙ ap (option_and_then (rule_output next)) (sym (system-passed one m h))
     where
-      go : (t : Bool) → (if t && has_kind next.kinds.0 (kind_of m) then Some m else None) ≡ option_and_then (passed next) (if t then Some m else None)
+      go : (t : Bool) → (if t && has_kind next.kinds.0 (kind_of m) then Some m else None) ≡ option_and_then (rule_output next) (if t then Some m else None)
       go true = sym (system-passed next m h)
       go false = refl
 
-  pub passed-twice : (m : List ℕ) → IsMessage m → passed whole m ≡ option_and_then (passed next) (passed one m)
+  pub passed-twice : (m : List ℕ) → IsMessage m → rule_output whole m ≡ option_and_then (rule_output next) (rule_output one m)
   passed-twice m p =
       go (cases_lt (status_of m) 240)
     where
-      go : (status_of m < 240) ⊎ (240 ≤ status_of m) → passed whole m ≡ option_and_then (passed next) (passed one m)
+      go : (status_of m < 240) ⊎ (240 ≤ status_of m) → rule_output whole m ≡ option_and_then (rule_output next) (rule_output one m)
       go (inl l) =
           let first : ℕ = unwrap_or (slice_get m 1) 0 in
           let second : ℕ = unwrap_or (slice_get m 2) 0 in
           let parts : IsVoice (status_of m) first second × (voice_bytes (status_of m) first second ≡ m) = parts-of m (status_of m) first second p l refl refl refl in
-          ap (passed whole) (sym parts.1)
+          ap (rule_output whole) (sym parts.1)
           ∙ voice (status_of m) first second parts.0.least l
-          ∙ ap (λ (n : List ℕ). option_and_then (passed next) (passed one n)) parts.1
+          ∙ ap (λ (n : List ℕ). option_and_then (rule_output next) (rule_output one n)) parts.1
       go (inr h) = system m h
 
 -- ---- the whole, by whether a note passes both
@@ -123,7 +123,7 @@ module _ (one next : RuleArgs) (channels : ℕ) (channel : Option ℕ) (kinds : 
   in-both : (k : Kind) → has_kind kinds.0 k ≡ (has_kind one.kinds.0 k && has_kind next.kinds.0 k)
   in-both k = ap (λ (n : ℕ). has_kind n k) set ∙ both-kinds one.kinds.0 next.kinds.0 k
 
-  pub whole-some : (low high : ℕ) (shift : ℤ) → ((n : ℕ) → raised low high shift n ≡ moved_twice one next n) → IsWhole one next (record { channels = channels; kinds = kinds; low = low; high = high; shift = shift; channel = channel })
+  pub whole-some : (low high : ℕ) (shift : ℤ) → ((n : ℕ) → note_after low high shift n ≡ moved_twice one next n) → IsWhole one next (record { channels = channels; kinds = kinds; low = low; high = high; shift = shift; channel = channel })
   whole-some low high shift e = record {
     without_note = λ k v. in-both k;
     with_note = λ k n v. same-if _ _ _ _ (in-both k) (e n);

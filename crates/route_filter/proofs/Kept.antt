@@ -15,10 +15,10 @@ use Rattle.midi_wire.proofs.Table.{begins-8, begins-C, begins-E, channel-below}
 use Rattle.midi_wire.proofs.WrittenNext.{message-channel}
 use Rattle.route_filter.specs.declared.rule_args.RuleArgs.{RuleArgs}
 use Rattle.route_filter.specs.Rules.{has_kind, has_channel, is_rule}
-use Rattle.route_filter.specs.Passing.{has_note, as_note, redirected, passed}
+use Rattle.route_filter.specs.Passing.{has_note, as_note, on_rule_channel, rule_output}
 use Rattle.route_filter.specs.Laws.{PassesMessages, open_rule, OpenRulePassesAll, KeepsKind, GivesChannel, SystemMessagesStay}
 use Rattle.route_filter.proofs.Statuses.{kind-stays, begins-stays}
-use Rattle.route_filter.specs.VoiceBytes.{moved}
+use Rattle.route_filter.specs.VoiceBytes.{first_byte_after}
 use Rattle.route_filter.proofs.Passes.{no-channel, voice-passed, system-passed}
 use Rattle.route_filter.proofs.Voices.{Voice, OneByte, TwoBytes, voice-of, redirected-to, new-channel, moved-low, taken}
 
@@ -30,13 +30,13 @@ record Passed (rule : RuleArgs) (s : ℕ) (more n : List ℕ) : Type 0 where
   low : first < 128
   is : n ≡ (s / 16 * 16 + unwrap_or rule.channel (s % 16)) ∷ first ∷ more
 
-what-passed : (rule : RuleArgs) (s a : ℕ) (more n : List ℕ) → is_channel (begins s) ≡ true → a < 128 → passed rule (s ∷ a ∷ more) ≡ Some n → Passed rule s more n
+what-passed : (rule : RuleArgs) (s a : ℕ) (more n : List ℕ) → is_channel (begins s) ≡ true → a < 128 → rule_output rule (s ∷ a ∷ more) ≡ Some n → Passed rule s more n
 what-passed rule s a more n c l e =
-    go (has_kind rule.kinds.0 (kind_of_status s) && has_channel rule.channels (s % 16)) (moved rule (has_note (kind_of_status s)) a) refl (sym (voice-passed rule s a more c) ∙ e)
+    go (has_kind rule.kinds.0 (kind_of_status s) && has_channel rule.channels (s % 16)) (first_byte_after rule (has_note (kind_of_status s)) a) refl (sym (voice-passed rule s a more c) ∙ e)
   where
-    go : (t : Bool) (o : Option ℕ) → moved rule (has_note (kind_of_status s)) a ≡ o → (if t then option_map (λ k. redirected rule.channel (s ∷ k ∷ more)) o else None) ≡ Some n → Passed rule s more n
+    go : (t : Bool) (o : Option ℕ) → first_byte_after rule (has_note (kind_of_status s)) a ≡ o → (if t then option_map (λ k. on_rule_channel rule.channel (s ∷ k ∷ more)) o else None) ≡ Some n → Passed rule s more n
     go true (Some first) f g =
-        let h : redirected rule.channel (s ∷ first ∷ more) ≡ n = cc in
+        let h : on_rule_channel rule.channel (s ∷ first ∷ more) ≡ n = cc in
         record { first = first; low = moved-low rule (has_note (kind_of_status s)) a first l f; is = sym h ∙ redirected-to rule.channel s (first ∷ more) c }
     go true None f g = let h : ⊥ = cc in absurd h
     go false o f g = let h : ⊥ = cc in absurd h
@@ -58,7 +58,7 @@ begins-two s h l w =
     go (inl c) = begins-8 s h c
     go (inr c) = begins-E s (w c) l
 
-voice-kept : (rule : RuleArgs) (m n : List ℕ) → IsTrue (is_rule rule) → Voice m → passed rule m ≡ Some n → Kept m n
+voice-kept : (rule : RuleArgs) (m n : List ℕ) → IsTrue (is_rule rule) → Voice m → rule_output rule m ≡ Some n → Kept m n
 voice-kept rule m n p (OneByte s a h l k) e =
     let x : Passed rule s [] n = what-passed rule s a [] n (channel-below s (omega arith) (omega arith)) k e in
     let t : ℕ = s / 16 * 16 + unwrap_or rule.channel (s % 16) in
@@ -78,7 +78,7 @@ voice-kept rule m n p (TwoBytes s a d h l w k g) e =
       kind = ap kind_of x.is ∙ kind-stays s t h l u;
     }
 
-system-same : (rule : RuleArgs) (m n : List ℕ) → 240 ≤ status_of m → passed rule m ≡ Some n → m ≡ n
+system-same : (rule : RuleArgs) (m n : List ℕ) → 240 ≤ status_of m → rule_output rule m ≡ Some n → m ≡ n
 system-same rule m n h e =
     go (has_kind rule.kinds.0 (kind_of m)) (sym (system-passed rule m h) ∙ e)
   where
@@ -86,7 +86,7 @@ system-same rule m n h e =
     go true f = cc
     go false f = let g : ⊥ = cc in absurd g
 
-kept : (rule : RuleArgs) (m n : List ℕ) → IsTrue (is_rule rule) → IsMessage m → passed rule m ≡ Some n → Kept m n
+kept : (rule : RuleArgs) (m n : List ℕ) → IsTrue (is_rule rule) → IsMessage m → rule_output rule m ≡ Some n → Kept m n
 kept rule m n p q e =
     go (cases_lt (status_of m) 240)
   where
@@ -105,7 +105,7 @@ keeps-kind rule m n p q e = (kept rule m n p q e).kind
 some-is : (a b : ℕ) → Some a ≡ Some b → a ≡ b
 some-is a b e = cc
 
-voice-channel : (rule : RuleArgs) (s a : ℕ) (more n : List ℕ) (channel : ℕ) → IsTrue (is_rule rule) → 128 ≤ s → s < 240 → a < 128 → channel_number (s ∷ a ∷ more) ≡ Some channel → passed rule (s ∷ a ∷ more) ≡ Some n → channel_number n ≡ Some (unwrap_or rule.channel channel)
+voice-channel : (rule : RuleArgs) (s a : ℕ) (more n : List ℕ) (channel : ℕ) → IsTrue (is_rule rule) → 128 ≤ s → s < 240 → a < 128 → channel_number (s ∷ a ∷ more) ≡ Some channel → rule_output rule (s ∷ a ∷ more) ≡ Some n → channel_number n ≡ Some (unwrap_or rule.channel channel)
 voice-channel rule s a more n channel p h l k e f =
     let b : is_channel (begins s) ≡ true = channel-below s h l in
     let x : Passed rule s more n = what-passed rule s a more n b k f in
@@ -122,7 +122,7 @@ pub gives-channel : GivesChannel
 gives-channel rule m n channel p q e f =
     go (cases_lt (status_of m) 240)
   where
-    voice : (m : List ℕ) → Voice m → channel_number m ≡ Some channel → passed rule m ≡ Some n → channel_number n ≡ Some (unwrap_or rule.channel channel)
+    voice : (m : List ℕ) → Voice m → channel_number m ≡ Some channel → rule_output rule m ≡ Some n → channel_number n ≡ Some (unwrap_or rule.channel channel)
     voice m (OneByte s a h l k) e f = voice-channel rule s a [] n channel p (omega arith) (omega arith) k e f
     voice m (TwoBytes s a b h l w k g) e f = voice-channel rule s a (b ∷ []) n channel p h l k e f
 
@@ -167,7 +167,7 @@ open-channel n l =
     go true e = let f : bit_and 65535 (2 ^ n) ≡ 0 = eqb-true (bit_and 65535 (2 ^ n)) 0 e in absurd (omega (arith, low-bit n l, pow_pos n))
     go false e = refl
 
-open-moved : (v : Bool) (a : ℕ) → a < 128 → moved open_rule v a ≡ Some a
+open-moved : (v : Bool) (a : ℕ) → a < 128 → first_byte_after open_rule v a ≡ Some a
 open-moved false a l = refl
 open-moved true a l =
     ap (λ (t : Bool). if t && nat_le a 127 then as_note (pos a +ℤ pos 0) else None) (le-leb 0 a (omega arith))
@@ -175,7 +175,7 @@ open-moved true a l =
     ∙ ap (λ (n : ℕ). if nat_lt n 128 then Some n else None) (let e : a + 0 ≡ a = omega arith in e)
     ∙ ap (λ (t : Bool). if t then Some a else None) (lt-ltb a 128 l)
 
-open-voice : (m : List ℕ) → Voice m → passed open_rule m ≡ Some m
+open-voice : (m : List ℕ) → Voice m → rule_output open_rule m ≡ Some m
 open-voice m (OneByte s a h l k) = taken open_rule s a [] (Some a) (channel-below s (omega arith) (omega arith)) (open-kind (kind_of_status s)) (open-channel (s % 16) (omega arith)) (open-moved (has_note (kind_of_status s)) a k)
 open-voice m (TwoBytes s a b h l w k g) = taken open_rule s a (b ∷ []) (Some a) (channel-below s h l) (open-kind (kind_of_status s)) (open-channel (s % 16) (omega arith)) (open-moved (has_note (kind_of_status s)) a k)
 
@@ -183,6 +183,6 @@ pub open-all : OpenRulePassesAll
 open-all m q =
     go (cases_lt (status_of m) 240)
   where
-    go : (status_of m < 240) ⊎ (240 ≤ status_of m) → passed open_rule m ≡ Some m
+    go : (status_of m < 240) ⊎ (240 ≤ status_of m) → rule_output open_rule m ≡ Some m
     go (inl l) = open-voice m (voice-of m q l)
     go (inr h) = system-passed open_rule m h ∙ ap (λ (t : Bool). if t then Some m else None) (open-kind (kind_of m))

@@ -8,7 +8,7 @@ use Rattle.std.proofs.lemmas.Int.{ints, clamps}
 use Rattle.route_filter.specs.declared.rule_args.RuleArgs.{RuleArgs}
 use Rattle.route_filter.specs.Rules.{is_channel_choice, is_rule}
 use Rattle.route_filter.specs.Passing.{as_note}
-use Rattle.route_filter.specs.Chains.{raised, moved_twice}
+use Rattle.route_filter.specs.Chains.{note_after, moved_twice}
 
 -- what the arguments of a rule keep
 pub record Bounds (rule : RuleArgs) : Type 0 where
@@ -55,14 +55,14 @@ same-test a b c d f g = grind (arith, nat_tests)
 module _ (l h l' h' : ℕ) (s s' : ℤ) (most : h ≤ 127) (most' : h' ≤ 127) where
   -- what becomes of a note that is at z after the first shift
   abbrev from : ℤ → Option ℕ
-  from z = option_and_then (raised l' h' s') (as_note z)
+  from z = option_and_then (note_after l' h' s') (as_note z)
 
   module _ (low high : ℕ) (shift : ℤ) (lowest : pos low ≡ int_max (pos l) (pos l' -ℤ s)) (highest : pos high ≡ int_min (pos h) (pos h' -ℤ s)) (sum : shift ≡ s +ℤ s') where
-    inside : (n : ℕ) (z : ℤ) → l ≤ n → n ≤ h → pos n +ℤ s ≡ z → raised low high shift n ≡ from z
+    inside : (n : ℕ) (z : ℤ) → l ≤ n → n ≤ h → pos n +ℤ s ≡ z → note_after low high shift n ≡ from z
     inside n (pos m) a b e =
         go (nat_lt m 128) refl
       where
-        go : (t : Bool) → nat_lt m 128 ≡ t → raised low high shift n ≡ option_and_then (raised l' h' s') (if t then Some m else None)
+        go : (t : Bool) → nat_lt m 128 ≡ t → note_after low high shift n ≡ option_and_then (note_after l' h' s') (if t then Some m else None)
         go true f =
             let p : nat_le low n ≡ nat_le l' m = same-test low n l' m (λ x. omega (arith, ints, clamps)) (λ x. omega (arith, ints, clamps)) in
             let q : nat_le n high ≡ nat_le m h' = same-test n high m h' (λ x. omega (arith, ints, clamps)) (λ x. omega (arith, ints, clamps)) in
@@ -73,11 +73,11 @@ module _ (l h l' h' : ℕ) (s s' : ℤ) (most : h ≤ 127) (most' : h' ≤ 127) 
         go false f = let k : 128 ≤ m = ltb-false m 128 f in outside low high n _ (λ x y. omega (arith, ints, clamps))
     inside n (negsuc m) a b e = outside low high n _ (λ x y. omega (arith, ints, clamps))
 
-    pub raised-twice : (n : ℕ) → raised low high shift n ≡ option_and_then (raised l' h' s') (raised l h s n)
+    pub raised-twice : (n : ℕ) → note_after low high shift n ≡ option_and_then (note_after l' h' s') (note_after l h s n)
     raised-twice n =
         go (nat_le l n && nat_le n h) refl
       where
-        go : (t : Bool) → (nat_le l n && nat_le n h) ≡ t → raised low high shift n ≡ option_and_then (raised l' h' s') (if t then as_note (pos n +ℤ s) else None)
+        go : (t : Bool) → (nat_le l n && nat_le n h) ≡ t → note_after low high shift n ≡ option_and_then (note_after l' h' s') (if t then as_note (pos n +ℤ s) else None)
         go true e = let p = and_parts (nat_le l n) (nat_le n h) e in inside n (pos n +ℤ s) (leb-true l n p.0) (leb-true n h p.1) refl
         go false e = outside low high n _ (λ x y. let p : (nat_le l n && nat_le n h) ≡ true = grind (arith, ints, clamps, nat_tests) in let bad : true ≡ false = sym p ∙ e in cc)
 
@@ -87,7 +87,7 @@ module _ (l h l' h' : ℕ) (s s' : ℤ) (most : h ≤ 127) (most' : h' ≤ 127) 
     lost n (pos m) a b e =
         go (nat_lt m 128)
       where
-        range : (int_min (pos h) (pos h' -ℤ s) <ℤ int_max (pos l) (pos l' -ℤ s)) ⊎ (127 < unsigned_abs (s +ℤ s')) → raised l' h' s' m ≡ None
+        range : (int_min (pos h) (pos h' -ℤ s) <ℤ int_max (pos l) (pos l' -ℤ s)) ⊎ (127 < unsigned_abs (s +ℤ s')) → note_after l' h' s' m ≡ None
         range (inl c) = outside l' h' m _ (λ x y. omega (arith, ints, clamps))
         range (inr c) = ap (λ (o : Option ℕ). if nat_le l' m && nat_le m h' then o else None) (no-note (pos m +ℤ s') (far _ c refl)) ∙ outside-none (nat_le l' m && nat_le m h')
           where
@@ -99,15 +99,15 @@ module _ (l h l' h' : ℕ) (s s' : ℤ) (most : h ≤ 127) (most' : h' ≤ 127) 
             far (pos k) c f = inr (omega (arith, ints))
             far (negsuc k) c f = inl (omega (arith, ints))
 
-        go : (t : Bool) → option_and_then (raised l' h' s') (if t then Some m else None) ≡ None
+        go : (t : Bool) → option_and_then (note_after l' h' s') (if t then Some m else None) ≡ None
         go true = range apart
         go false = refl
 
-    pub lost-twice : (n : ℕ) → option_and_then (raised l' h' s') (raised l h s n) ≡ None
+    pub lost-twice : (n : ℕ) → option_and_then (note_after l' h' s') (note_after l h s n) ≡ None
     lost-twice n =
         go (nat_le l n && nat_le n h) refl
       where
-        go : (t : Bool) → (nat_le l n && nat_le n h) ≡ t → option_and_then (raised l' h' s') (if t then as_note (pos n +ℤ s) else None) ≡ None
+        go : (t : Bool) → (nat_le l n && nat_le n h) ≡ t → option_and_then (note_after l' h' s') (if t then as_note (pos n +ℤ s) else None) ≡ None
         go true e = let p = and_parts (nat_le l n) (nat_le n h) e in lost n (pos n +ℤ s) (leb-true l n p.0) (leb-true n h p.1) refl
         go false e = refl
 
@@ -223,5 +223,5 @@ module _ (one next : RuleArgs) (p : IsTrue (is_rule one)) (q : IsTrue (is_rule n
           at-most : (a h : ℕ) (b : ℤ) → pos a ≡ int_min (pos h) b → h ≤ 127 → a ≤ 127
           at-most a h b u l = omega (arith, ints, clamps)
 
-      pub both : (n : ℕ) → raised (unsigned_abs (in_i16 low)) (unsigned_abs (in_i16 high)) (in_i16 (in_i16 one.shift +ℤ in_i16 next.shift)) n ≡ moved_twice one next n
+      pub both : (n : ℕ) → note_after (unsigned_abs (in_i16 low)) (unsigned_abs (in_i16 high)) (in_i16 (in_i16 one.shift +ℤ in_i16 next.shift)) n ≡ moved_twice one next n
       both = raised-twice one.low one.high next.low next.high one.shift next.shift (bounds-of one p).most (bounds-of next q).most _ _ _ low-cast high-cast sum-is

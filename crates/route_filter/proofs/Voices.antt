@@ -15,8 +15,8 @@ use Rattle.midi_wire.proofs.MessageTests.{message-test}
 use Rattle.midi_wire.proofs.Written.{and_true}
 use Rattle.route_filter.specs.declared.rule_args.RuleArgs.{RuleArgs}
 use Rattle.route_filter.specs.Rules.{has_kind, has_channel, is_channel_choice, is_rule}
-use Rattle.route_filter.specs.Passing.{has_note, in_range, as_note, on_channel, redirected, passed}
-use Rattle.route_filter.specs.VoiceBytes.{has_one_data, voice_bytes, IsVoice, moved}
+use Rattle.route_filter.specs.Passing.{has_note, in_range, as_note, on_channel, on_rule_channel, rule_output}
+use Rattle.route_filter.specs.VoiceBytes.{has_one_data, voice_bytes, IsVoice, first_byte_after}
 use Rattle.route_filter.proofs.Passes.{voice-passed}
 
 -- a message of a channel, by how many data bytes it has
@@ -56,7 +56,7 @@ voice-of (s ∷ tail) p l =
 
 -- ---- the status of what passes
 
-pub redirected-to : (channel : Option ℕ) (s : ℕ) (more : List ℕ) → is_channel (begins s) ≡ true → redirected channel (s ∷ more) ≡ (s / 16 * 16 + unwrap_or channel (s % 16)) ∷ more
+pub redirected-to : (channel : Option ℕ) (s : ℕ) (more : List ℕ) → is_channel (begins s) ≡ true → on_rule_channel channel (s ∷ more) ≡ (s / 16 * 16 + unwrap_or channel (s % 16)) ∷ more
 redirected-to None s more e = ap (λ (t : ℕ). t ∷ more) (let f : s ≡ s / 16 * 16 + s % 16 = omega arith in f)
 redirected-to (Some n) s more e = ap (λ (t : Bool). if t then on_channel n (s ∷ more) else s ∷ more) (ap (λ (t : Bool). is_some (if t then Some (s % 16) else None)) e)
 
@@ -85,7 +85,7 @@ as_note-low (pos k) n e =
     go false f g = let h : ⊥ = cc in absurd h
 as_note-low (negsuc k) n e = let f : ⊥ = cc in absurd f
 
-pub moved-low : (rule : RuleArgs) (v : Bool) (a n : ℕ) → a < 128 → moved rule v a ≡ Some n → n < 128
+pub moved-low : (rule : RuleArgs) (v : Bool) (a n : ℕ) → a < 128 → first_byte_after rule v a ≡ Some n → n < 128
 moved-low rule false a n l e = let f : a ≡ n = cc in omega arith
 moved-low rule true a n l e =
     go (in_range rule a) e
@@ -100,17 +100,17 @@ and-false : (t u : Bool) (m : Option (List ℕ)) → u ≡ false → None ≡ (i
 and-false true u m e = ap (λ (v : Bool). if v then m else None) (sym e)
 and-false false u m e = refl
 
-dropped : (rule : RuleArgs) (s a : ℕ) (more : List ℕ) → is_channel (begins s) ≡ true → has_channel rule.channels (s % 16) ≡ false → None ≡ passed rule (s ∷ a ∷ more)
+dropped : (rule : RuleArgs) (s a : ℕ) (more : List ℕ) → is_channel (begins s) ≡ true → has_channel rule.channels (s % 16) ≡ false → None ≡ rule_output rule (s ∷ a ∷ more)
 dropped rule s a more p e = and-false (has_kind rule.kinds.0 (kind_of_status s)) (has_channel rule.channels (s % 16)) _ e ∙ sym (voice-passed rule s a more p)
 
 and-true : (t u : Bool) (m : Option (List ℕ)) → t ≡ true → u ≡ true → (if t && u then m else None) ≡ m
 and-true t u m e f = ap (λ (v : Bool). if v && u then m else None) e ∙ ap (λ (v : Bool). if v then m else None) f
 
-pub taken : (rule : RuleArgs) (s a : ℕ) (more : List ℕ) (o : Option ℕ) → is_channel (begins s) ≡ true → has_kind rule.kinds.0 (kind_of_status s) ≡ true → has_channel rule.channels (s % 16) ≡ true → moved rule (has_note (kind_of_status s)) a ≡ o → passed rule (s ∷ a ∷ more) ≡ option_map (λ n. redirected rule.channel (s ∷ n ∷ more)) o
+pub taken : (rule : RuleArgs) (s a : ℕ) (more : List ℕ) (o : Option ℕ) → is_channel (begins s) ≡ true → has_kind rule.kinds.0 (kind_of_status s) ≡ true → has_channel rule.channels (s % 16) ≡ true → first_byte_after rule (has_note (kind_of_status s)) a ≡ o → rule_output rule (s ∷ a ∷ more) ≡ option_map (λ n. on_rule_channel rule.channel (s ∷ n ∷ more)) o
 taken rule s a more o p e f g =
     voice-passed rule s a more p
     ∙ and-true (has_kind rule.kinds.0 (kind_of_status s)) (has_channel rule.channels (s % 16)) _ e f
-    ∙ ap (λ (q : Option ℕ). option_map (λ n. redirected rule.channel (s ∷ n ∷ more)) q) g
+    ∙ ap (λ (q : Option ℕ). option_map (λ n. on_rule_channel rule.channel (s ∷ n ∷ more)) q) g
 
 -- ---- a message by its parts
 
@@ -128,21 +128,21 @@ maps-same f g None same = refl
 maps-same f g (Some n) same = ap (λ (m : List ℕ). Some m) (same n)
 
 -- what a rule makes of a channel message
-pub parts-passed : (rule : RuleArgs) (s a b t : ℕ) → IsTrue (is_rule rule) → 128 ≤ s → s < 240 → t ≡ s / 16 * 16 + unwrap_or rule.channel (s % 16) → passed rule (voice_bytes s a b) ≡ (if has_kind rule.kinds.0 (kind_of_status s) && has_channel rule.channels (s % 16) then option_map (λ n. voice_bytes t n b) (moved rule (has_note (kind_of_status s)) a) else None)
+pub parts-passed : (rule : RuleArgs) (s a b t : ℕ) → IsTrue (is_rule rule) → 128 ≤ s → s < 240 → t ≡ s / 16 * 16 + unwrap_or rule.channel (s % 16) → rule_output rule (voice_bytes s a b) ≡ (if has_kind rule.kinds.0 (kind_of_status s) && has_channel rule.channels (s % 16) then option_map (λ n. voice_bytes t n b) (first_byte_after rule (has_note (kind_of_status s)) a) else None)
 parts-passed rule s a b t p h l e =
     go (cases_lt s 192) (cases_lt s 224)
   where
     small : unwrap_or rule.channel (s % 16) < 16
     small = new-channel rule s p
 
-    made : (more : List ℕ) → voice_bytes s a b ≡ s ∷ a ∷ more → ((n : ℕ) → voice_bytes t n b ≡ t ∷ n ∷ more) → passed rule (voice_bytes s a b) ≡ (if has_kind rule.kinds.0 (kind_of_status s) && has_channel rule.channels (s % 16) then option_map (λ n. voice_bytes t n b) (moved rule (has_note (kind_of_status s)) a) else None)
+    made : (more : List ℕ) → voice_bytes s a b ≡ s ∷ a ∷ more → ((n : ℕ) → voice_bytes t n b ≡ t ∷ n ∷ more) → rule_output rule (voice_bytes s a b) ≡ (if has_kind rule.kinds.0 (kind_of_status s) && has_channel rule.channels (s % 16) then option_map (λ n. voice_bytes t n b) (first_byte_after rule (has_note (kind_of_status s)) a) else None)
     made more f g =
-        ap (passed rule) f ∙ voice-passed rule s a more (channel-below s h l)
+        ap (rule_output rule) f ∙ voice-passed rule s a more (channel-below s h l)
         ∙ ap (λ (o : Option (List ℕ)). if has_kind rule.kinds.0 (kind_of_status s) && has_channel rule.channels (s % 16) then o else None)
-        (maps-same (λ n. redirected rule.channel (s ∷ n ∷ more)) (λ n. voice_bytes t n b) (moved rule (has_note (kind_of_status s)) a)
+        (maps-same (λ n. on_rule_channel rule.channel (s ∷ n ∷ more)) (λ n. voice_bytes t n b) (first_byte_after rule (has_note (kind_of_status s)) a)
         (λ n. redirected-to rule.channel s (n ∷ more) (channel-below s h l) ∙ ap (λ (k : ℕ). k ∷ n ∷ more) (sym e) ∙ sym (g n)))
 
-    go : (s < 192) ⊎ (192 ≤ s) → (s < 224) ⊎ (224 ≤ s) → passed rule (voice_bytes s a b) ≡ (if has_kind rule.kinds.0 (kind_of_status s) && has_channel rule.channels (s % 16) then option_map (λ n. voice_bytes t n b) (moved rule (has_note (kind_of_status s)) a) else None)
+    go : (s < 192) ⊎ (192 ≤ s) → (s < 224) ⊎ (224 ≤ s) → rule_output rule (voice_bytes s a b) ≡ (if has_kind rule.kinds.0 (kind_of_status s) && has_channel rule.channels (s % 16) then option_map (λ n. voice_bytes t n b) (first_byte_after rule (has_note (kind_of_status s)) a) else None)
     go (inl c) y = made (b ∷ []) (bytes-low s a b c) (λ n. bytes-low t n b (omega (arith, small)))
     go (inr c) (inl d) = made [] (bytes-one s a b c d) (λ n. bytes-one t n b (omega (arith, small)) (omega (arith, small)))
     go (inr c) (inr d) = made (b ∷ []) (bytes-high s a b d) (λ n. bytes-high t n b (omega (arith, small)))

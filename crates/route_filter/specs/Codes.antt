@@ -1,4 +1,4 @@
--- The code of a rule, by which a model may have it in its value.
+-- Representation: The code of a rule, by which a model may have it in its value.
 use Rattle.std.specs.Prelude.{ℕ, ℤ, Option, refl}
 use Rattle.std.specs.Coded.{Coded, code_by, coded×, coded_option, coded_ℕ, coded_ℤ}
 use Rattle.route_filter.specs.declared.rule_args.RuleArgs.{RuleArgs}

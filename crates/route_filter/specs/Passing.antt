@@ -1,4 +1,4 @@
--- What a filter rule makes of a message.
+-- Definition: What a filter rule makes of a message.
 use Rattle.std.specs.Prelude.{ℕ, ◌+◌, ◌*◌, ◌/◌, ℤ, pos, negsuc, ◌+ℤ◌, Bool, true, false, ◌&&◌, nat_lt, nat_le, List, [], ◌∷◌, Option, Some, None, is_some, option_map, slice_index, if◌then◌else◌}
 use Rattle.midi_wire.specs.declared.kind.Kind.{Kind}
 use Rattle.midi_wire.specs.declared.kind.Kind.TheVariants.{NoteOff, NoteOn, PolyPressure}
@@ -34,7 +34,8 @@ takes_note rule (Some note) = in_range rule note
 -- the rule takes the kind of the message, and its own channel and its own note where it has them
 abbrev pub is_taken : RuleArgs → List ℕ → Bool
 is_taken rule m =
-    has_kind rule.kinds.0 (kind_of m) && (takes_channel rule (channel_number m) && takes_note rule (note_of m))
+    has_kind rule.kinds.0 (kind_of m)
+    && (takes_channel rule (channel_number m) && takes_note rule (note_of m))
 
 -- a number as a note, 0 to 127
 abbrev pub as_note : ℤ → Option ℕ
@@ -51,8 +52,8 @@ abbrev pub shifted_by : ℤ → Option ℕ → List ℕ → Option (List ℕ)
 shifted_by shift None m = Some m
 shifted_by shift (Some note) m = option_map (with_first m) (as_note (pos note +ℤ shift))
 
-abbrev pub shifted : ℤ → List ℕ → Option (List ℕ)
-shifted shift m = shifted_by shift (note_of m) m
+abbrev pub with_shift : ℤ → List ℕ → Option (List ℕ)
+with_shift shift m = shifted_by shift (note_of m) m
 
 -- a message whose status has this channel in its lower four bits
 abbrev pub on_channel : ℕ → List ℕ → List ℕ
@@ -60,10 +61,12 @@ on_channel n [] = []
 on_channel n (status ∷ data_bytes) = (status / 16 * 16 + n) ∷ data_bytes
 
 -- the message on this channel, where there is one and the message has a channel
-abbrev pub redirected : Option ℕ → List ℕ → List ℕ
-redirected None m = m
-redirected (Some n) m = if is_some (channel_number m) then on_channel n m else m
+abbrev pub on_rule_channel : Option ℕ → List ℕ → List ℕ
+on_rule_channel None m = m
+on_rule_channel (Some n) m = if is_some (channel_number m) then on_channel n m else m
 
--- a message that is taken passes with its note shifted, on the rule's channel; all others are dropped
-abbrev pub passed : RuleArgs → List ℕ → Option (List ℕ)
-passed rule m = if is_taken rule m then option_map (redirected rule.channel) (shifted rule.shift m) else None
+-- a message that is taken passes with its note shifted, on the rule's channel; all others are
+-- dropped
+abbrev pub rule_output : RuleArgs → List ℕ → Option (List ℕ)
+rule_output rule m = if is_taken rule m
+    then option_map (on_rule_channel rule.channel) (with_shift rule.shift m) else None

@@ -1,4 +1,4 @@
--- Which arguments make a filter rule, and the sets in them.
+-- Definition: Which arguments make a filter rule, and the sets in them.
 use Rattle.std.specs.Prelude.{ℕ, ◌^◌, Bool, true, not, ◌==◌, ◌&&◌, nat_le, Option, Some, None, bit_and, unsigned_abs}
 use Rattle.midi_wire.specs.declared.kind.Kind.{Kind}
 use Rattle.midi_wire.specs.declared.kind.Kind.TheVariants.{NoteOff, NoteOn, PolyPressure, ControlChange, ProgramChange, ChannelPressure, PitchBend, SystemCommon, RealTime, Exclusive}
@@ -30,7 +30,8 @@ abbrev pub is_channel_choice : Option ℕ → Bool
 is_channel_choice None = true
 is_channel_choice (Some n) = nat_le n 15
 
--- no bit above that of the last kind, a lowest note that is not above the highest, both 0 to 127, a shift from -127 to 127
+-- no bit above that of the last kind, a lowest note that is not above the highest, both 0 to 127, a
+-- shift from -127 to 127
 abbrev pub is_rule : RuleArgs → Bool
 is_rule rule =
     nat_le rule.kinds.0 1023 && (nat_le rule.low rule.high && (nat_le rule.high 127

@@ -1,4 +1,4 @@
--- Channel messages by their parts.
+-- Representation: Channel messages by their parts.
 use Rattle.std.specs.Prelude.{ℕ, ◌≤◌, ◌<◌, pos, ◌+ℤ◌, Bool, ◌&&◌, nat_lt, nat_le, List, [], ◌∷◌, Option, Some, None, if◌then◌else◌}
 use Rattle.route_filter.specs.declared.rule_args.RuleArgs.{RuleArgs}
 use Rattle.route_filter.specs.Passing.{in_range, as_note}
@@ -19,6 +19,7 @@ pub record IsVoice (status first second : ℕ) : Type 0 where
   pub second_low : second < 128
 
 -- where the first data byte goes, which is a note or is none
-abbrev pub moved : RuleArgs → Bool → ℕ → Option ℕ
-moved rule is_note first =
-    if is_note then (if in_range rule first then as_note (pos first +ℤ rule.shift) else None) else Some first
+abbrev pub first_byte_after : RuleArgs → Bool → ℕ → Option ℕ
+first_byte_after rule is_note first =
+    if is_note then (if in_range rule first then as_note (pos first +ℤ rule.shift) else None)
+    else Some first

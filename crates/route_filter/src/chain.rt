@@ -4,8 +4,8 @@ ghost use Rattle.std.specs.Prelude.{◌≡◌, ◌≤◌, ◌<◌, ◌&&◌, ℕ
 ghost use Rattle.midi_wire.specs.Kinds.{channels};
 ghost use Rattle.midi_wire.specs.Messages.{IsMessage};
 ghost use Rattle.route_filter.specs.Rules.{has_channel, is_channel_choice, is_rule};
-ghost use Rattle.route_filter.specs.Passing.{passed};
-ghost use Rattle.route_filter.specs.Chains.{raised, moved_twice};
+ghost use Rattle.route_filter.specs.Passing.{rule_output};
+ghost use Rattle.route_filter.specs.Chains.{note_after, moved_twice};
 
 use crate::kinds::Kinds;
 use crate::rule_args::RuleArgs;
@@ -26,7 +26,7 @@ impl RuleArgs {
         requires second { IsTrue (is_rule next.now) }
         ensures rule { IsTrue (is_rule result) }
         ensures passed { (m : List ℕ) → IsMessage m
-            → passed result m ≡ option_and_then (passed next.now) (passed self.now m) }
+            → rule_output result m ≡ option_and_then (rule_output next.now) (rule_output self.now m) }
     {
         let channels = self.channels_then(next);
         let kinds = self.kinds.intersection(next.kinds);
@@ -75,7 +75,7 @@ impl RuleArgs {
         ensures range { IfSome result (λ r. (r.low ≤ r.high) × (r.high ≤ 127)) }
         ensures shift { IfSome result (λ r. unsigned_abs r.shift ≤ 127) }
         ensures both { IfSome result (λ r. (n : ℕ) →
-            raised r.low r.high r.shift n ≡ moved_twice self.now next.now n) }
+            note_after r.low r.high r.shift n ≡ moved_twice self.now next.now n) }
         ensures none { IfNone result ((n : ℕ) → moved_twice self.now next.now n ≡ None) }
     {
         let low = i16::from(self.low).max(i16::from(next.low) - self.shift);

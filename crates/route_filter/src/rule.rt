@@ -4,8 +4,8 @@ ghost use Rattle.std.specs.Prelude.{◌≡◌, ℕ, List, IsTrue, Some, None, op
 ghost use Rattle.midi_wire.specs.Messages.{IsMessage};
 ghost use Rattle.midi_wire.specs.Kinds.{kind_of_status};
 ghost use Rattle.route_filter.specs.Rules.{is_rule};
-ghost use Rattle.route_filter.specs.Passing.{has_note, passed};
-ghost use Rattle.route_filter.specs.VoiceBytes.{moved};
+ghost use Rattle.route_filter.specs.Passing.{has_note, rule_output};
+ghost use Rattle.route_filter.specs.VoiceBytes.{first_byte_after};
 
 use crate::rule_args::RuleArgs;
 use crate::voice::VoiceMessage;
@@ -56,7 +56,7 @@ impl Rule {
     /// A message is tested by its own channel and note, before it gets others (MIDI 1.0 Detailed Specification,
     /// "Channel Voice Messages"). A system message has neither.
     pub fn pass(&self, message: Message) -> Option<Message>
-        ensures { result ≡ passed self.now message }
+        ensures { result ≡ rule_output self.now message }
     {
         if let Some(voice) = VoiceMessage::of(&message) {
             let passed = self.pass_voice(voice)?;
@@ -71,7 +71,7 @@ impl Rule {
     /// The rule that makes of each message what `next` makes of what this one lets through.
     pub fn then(&self, next: &Rule) -> Rule
         ensures { (m : List ℕ) → IsMessage m
-            → passed result m ≡ option_and_then (passed next.now) (passed self.now m) }
+            → rule_output result m ≡ option_and_then (rule_output next.now) (rule_output self.now m) }
     {
         Rule {
             args: self.args.then(&next.args),
@@ -81,7 +81,7 @@ impl Rule {
     /// What it makes of a channel message, as `pass` does.
     #[inline]
     pub fn pass_voice(&self, voice: VoiceMessage) -> Option<VoiceMessage>
-        ensures { result ≡ passed self.now voice }
+        ensures { result ≡ rule_output self.now voice }
     {
         let status = voice.status;
         let channel = status % CHANNELS;
@@ -102,7 +102,7 @@ impl Rule {
     /// Where the first data byte of a channel message goes. A note in the range is shifted, if that leaves a note.
     #[inline]
     fn moved(&self, is_note: bool, first: u8) -> Option<u8>
-        ensures { result ≡ moved self.now is_note first }
+        ensures { result ≡ first_byte_after self.now is_note first }
     {
         if !is_note {
             return Some(first);

@@ -5,7 +5,7 @@ ghost use Rattle.midi_wire.specs.Messages.{IsMessage};
 ghost use Rattle.midi_wire.specs.Writings.{status_of};
 ghost use Rattle.route_filter.specs.VoiceBytes.{has_one_data};
 
-use midi_wire::Message;
+use midi_wire::{EXCLUSIVE, Message};
 use std::marker::Model;
 
 /// A channel message as a status and its data, which cost nothing to pass on. It is seen as its full bytes.
@@ -37,7 +37,7 @@ impl VoiceMessage {
         ensures message { IsMessage message.now }
     {
         let status = message.status();
-        if status >= 0xF0 {
+        if status >= EXCLUSIVE {
             return None;
         }
         Some(VoiceMessage {

@@ -9,7 +9,7 @@ use Rattle.script_text.specs.declared.reading.ScriptInput.{ScriptInput}
 use Rattle.script_text.specs.declared.reading.ScriptRead.{ScriptRead}
 use Rattle.script_text.specs.declared.reading.Skip.{Skip}
 use Rattle.script_text.specs.declared.reading.SkipReason.{SkipReason}
-use Rattle.script_text.specs.Parsing.{after, IsLineRead}
+use Rattle.script_text.specs.Parsing.{with_fate, IsLineRead}
 use Rattle.script_text.specs.Scripts.{read_from, with_line, fate, latest_after}
 use Rattle.script_text.specs.Words.{is_line_end, lines}
 use Rattle.script_text.proofs.Places.{uncut}
@@ -30,13 +30,13 @@ module _ (client : ℕ) (names : List (List ℕ)) (end : ℕ) (line : List ℕ) 
       ∙ ap (λ n. with_line (number + 1) f (read_from client names end (latest_after latest f) n ls)) two_more
 
   pub passed_over : PassedOver ≡ fate names end latest line → IsLineRead client names end line inputs skips latest number inputs skips latest
-  passed_over e ls = ap (after inputs skips) (first_line PassedOver ls e)
+  passed_over e ls = ap (with_fate inputs skips) (first_line PassedOver ls e)
 
   pub one_skipped : (why : SkipReason) (skips' : List Skip) → Skipped why ≡ fate names end latest line → skips' ≡ skips ++ record { line = number + 1; why = why } ∷ [] → IsLineRead client names end line inputs skips latest number inputs skips' latest
   one_skipped why skips' e f ls =
       let s : Skip = record { line = number + 1; why = why } in
       let r : ScriptRead = rest_from latest ls in
-      ap (after inputs skips) (first_line (Skipped why) ls e)
+      ap (with_fate inputs skips) (first_line (Skipped why) ls e)
       ∙ ap (λ (ss : List Skip). let x : ScriptRead = record { client = r.client; inputs = inputs ++ r.inputs; skips = ss } in x) (sym (append_assoc skips (s ∷ []) r.skips) ∙ ap (λ ss. ss ++ r.skips) (sym f))
 
   pub one_taken : (moment : ℕ) (c : Command) (inputs' : List ScriptInput) → Taken moment c ≡ fate names end latest line → inputs' ≡ inputs ++ record { line = number + 1; input = record { moment = moment; actor = client; command = c } } ∷ [] →
@@ -44,7 +44,7 @@ module _ (client : ℕ) (names : List (List ℕ)) (end : ℕ) (line : List ℕ) 
   one_taken moment c inputs' e f ls =
       let x : ScriptInput = record { line = number + 1; input = record { moment = moment; actor = client; command = c } } in
       let r : ScriptRead = rest_from moment ls in
-      ap (after inputs skips) (first_line (Taken moment c) ls e)
+      ap (with_fate inputs skips) (first_line (Taken moment c) ls e)
       ∙ ap (λ a. let y : ScriptRead = record { client = r.client; inputs = inputs ++ record { line = number + 1; input = record { moment = moment; actor = a; command = c } } ∷ r.inputs; skips = skips ++ r.skips } in y) (read_from-client client names end moment (number + 2) ls)
       ∙ ap (λ (xs : List ScriptInput). let y : ScriptRead = record { client = r.client; inputs = xs; skips = skips ++ r.skips } in y) (sym (append_assoc inputs (x ∷ []) r.inputs) ∙ ap (λ xs. xs ++ r.inputs) (sym f))
 
@@ -53,12 +53,12 @@ module _ (client : ℕ) (names : List (List ℕ)) (end : ℕ) (line : List ℕ) 
 module _ (client : ℕ) (names : List (List ℕ)) (end : ℕ) (rest line : List ℕ) (n : ℕ) (inputs inputs' : List ScriptInput) (skips skips' : List Skip) (latest latest' number number' : ℕ) (whole : ScriptRead) where
   pub next_line : (next : List ℕ) → n ≡ position_or_len is_line_end rest → n < length rest → line ≡ take n rest → next ≡ drop (n + 1) rest → number' ≡ number + 1 →
       IsLineRead client names end line inputs skips latest number inputs' skips' latest' →
-      after inputs skips (read_from client names end latest (number + 1) (lines rest)) ≡ whole → after inputs' skips' (read_from client names end latest' (number' + 1) (lines next)) ≡ whole
+      with_fate inputs skips (read_from client names end latest (number + 1) (lines rest)) ≡ whole → with_fate inputs' skips' (read_from client names end latest' (number' + 1) (lines next)) ≡ whole
   next_line next e l f g m on h =
-      ap (λ k. after inputs' skips' (read_from client names end latest' (k + 1) (lines next))) m
-      ∙ ap (λ k. after inputs' skips' (read_from client names end latest' k (lines next))) (add_assoc number 1 1)
+      ap (λ k. with_fate inputs' skips' (read_from client names end latest' (k + 1) (lines next))) m
+      ∙ ap (λ k. with_fate inputs' skips' (read_from client names end latest' k (lines next))) (add_assoc number 1 1)
       ∙ sym (on (lines next))
-      ∙ ap (λ ls. after inputs skips (read_from client names end latest (number + 1) ls)) same
+      ∙ ap (λ ls. with_fate inputs skips (read_from client names end latest (number + 1) ls)) same
       ∙ h
     where
       same : line ∷ lines next ≡ lines rest
@@ -69,11 +69,11 @@ module _ (client : ℕ) (names : List (List ℕ)) (end : ℕ) (rest line : List 
 
   pub last_line : n ≡ position_or_len is_line_end rest → n ≤ length rest → length rest ≤ n → line ≡ rest →
       IsLineRead client names end line inputs skips latest number inputs' skips' latest' →
-      after inputs skips (read_from client names end latest (number + 1) (lines rest)) ≡ whole → (let r : ScriptRead = record { client = client; inputs = inputs'; skips = skips' } in r ≡ whole)
+      with_fate inputs skips (read_from client names end latest (number + 1) (lines rest)) ≡ whole → (let r : ScriptRead = record { client = client; inputs = inputs'; skips = skips' } in r ≡ whole)
   last_line e l k f on h =
       ap (λ xs. let r : ScriptRead = record { client = client; inputs = xs; skips = skips' } in r) (sym (append-nil inputs'))
       ∙ ap (λ ss. let r : ScriptRead = record { client = client; inputs = inputs' ++ []; skips = ss } in r) (sym (append-nil skips'))
       ∙ sym (on [])
-      ∙ ap (λ x. after inputs skips (read_from client names end latest (number + 1) (x ∷ []))) f
-      ∙ ap (λ ls. after inputs skips (read_from client names end latest (number + 1) ls)) (sym (uncut is_line_end rest (omega arith)))
+      ∙ ap (λ x. with_fate inputs skips (read_from client names end latest (number + 1) (x ∷ []))) f
+      ∙ ap (λ ls. with_fate inputs skips (read_from client names end latest (number + 1) ls)) (sym (uncut is_line_end rest (omega arith)))
       ∙ h

@@ -19,8 +19,8 @@ place_or {X = X} p xs = go (ltb (position_or_len p xs) (length xs)) refl
     go false e = let h : length xs ≤ position_or_len p xs = ltb-false (position_or_len p xs) (length xs) e in omega (arith, prefix_len-le-length (λ x. not (p x)) xs)
 
 -- the first place, or past the last
-pub place_of : {X : Type 0} (p : X → Bool) (xs : List X) (first : Option ℕ) (n : ℕ) → n ≡ unwrap_or first (length xs) → first ≡ position p xs → n ≡ position_or_len p xs
-place_of p xs first n e h = e ∙ ap (λ o. unwrap_or o (length xs)) h ∙ place_or p xs
+pub place_is : {X : Type 0} (p : X → Bool) (xs : List X) (first : Option ℕ) (n : ℕ) → n ≡ unwrap_or first (length xs) → first ≡ position p xs → n ≡ position_or_len p xs
+place_is p xs first n e h = e ∙ ap (λ o. unwrap_or o (length xs)) h ∙ place_or p xs
 
 pub place_within : {X : Type 0} (p : X → Bool) (xs : List X) (n : ℕ) → n ≡ position_or_len p xs → n ≤ length xs
 place_within p xs n e = omega (arith, prefix_len-le-length (λ x. not (p x)) xs)

@@ -13,7 +13,7 @@ use Rattle.script_text.specs.declared.script.TheConstants.{MOST_SCRIPT}
 use Rattle.script_text.specs.Words.{words, lines, is_line_end, without_return}
 use Rattle.script_text.specs.declared.line.Fate.{Fate}
 use Rattle.script_text.specs.declared.line.Fate.TheVariants.{PassedOver, Skipped, Taken}
-use Rattle.script_text.specs.Scripts.{fate, fate_of, timed, timed_command, is_remark, latest_after, with_line, read_from, script, too_long_script}
+use Rattle.script_text.specs.Scripts.{fate, fate_of, fate_in_time, timed_command, is_remark, latest_after, with_line, read_from, script, too_long_script}
 
 -- ---- whose it is
 
@@ -69,7 +69,7 @@ abbrev fits : ℕ → ℕ → Fate → Bool
 fits end latest (Taken moment c) = nat_le moment end && nat_le latest moment
 fits end latest _ = true
 
-timed-fits : (end latest : ℕ) (s : Option (ℕ × Command)) → fits end latest (timed end latest s) ≡ true
+timed-fits : (end latest : ℕ) (s : Option (ℕ × Command)) → fits end latest (fate_in_time end latest s) ≡ true
 timed-fits end latest None = refl
 timed-fits end latest (Some s) = go (nat_lt end s.0) refl (nat_lt s.0 latest) refl
   where
@@ -85,7 +85,7 @@ fate-fits names end latest line = go (words (without_return line))
     go [] = refl
     go (w ∷ rest) = remark (is_remark w)
       where
-        remark : (b : Bool) → fits end latest (cond b PassedOver (timed end latest (timed_command names (w ∷ rest)))) ≡ true
+        remark : (b : Bool) → fits end latest (cond b PassedOver (fate_in_time end latest (timed_command names (w ∷ rest)))) ≡ true
         remark true = refl
         remark false = timed-fits end latest (timed_command names (w ∷ rest))
 

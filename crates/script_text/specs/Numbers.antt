@@ -1,4 +1,4 @@
--- What a word says: numbers, bytes, addresses and times.
+-- Definition: What a word says: numbers, bytes, addresses and times.
 use Rattle.std.specs.Prelude.{ℕ, ℤ, pos, neg_ℤ, ◌+◌, ◌-◌, ◌*◌, ◌==◌, nat_le, Bool, ◌&&◌, if◌then◌else◌, List, [], ◌∷◌, length, Option, Some, None}
 use Rattle.std.specs.List.{list_all, slice_split, position_or_len}
 use Rattle.std.specs.Option.{option_map, option_and_then}
@@ -158,5 +158,5 @@ due_word _ = None
 -- ---- files
 
 -- the place of the first with this name; where there is none, one past the last
-abbrev pub place_of : List ℕ → List (List ℕ) → ℕ
-place_of name names = position_or_len (λ n. bytes_eq n name) names
+abbrev pub number_of_name : List ℕ → List (List ℕ) → ℕ
+number_of_name name names = position_or_len (λ n. bytes_eq n name) names

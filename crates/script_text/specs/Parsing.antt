@@ -1,4 +1,4 @@
--- A script read line by line.
+-- Representation: A script read line by line.
 use Rattle.std.specs.Prelude.{◌≡◌, ◌+◌, ℕ, List, ◌∷◌, ◌++◌}
 use Rattle.script_text.specs.declared.reading.ScriptInput.{ScriptInput}
 use Rattle.script_text.specs.declared.reading.ScriptRead.{ScriptRead}
@@ -6,8 +6,8 @@ use Rattle.script_text.specs.declared.reading.Skip.{Skip}
 use Rattle.script_text.specs.Scripts.{read_from}
 
 -- a reading, with what was read before it
-abbrev pub after : List ScriptInput → List Skip → ScriptRead → ScriptRead
-after inputs skips r = record {
+abbrev pub with_fate : List ScriptInput → List Skip → ScriptRead → ScriptRead
+with_fate inputs skips r = record {
   client = r.client;
   inputs = inputs ++ r.inputs;
   skips = skips ++ r.skips;
@@ -20,5 +20,5 @@ abbrev pub IsLineRead :
     List ScriptInput → List Skip → ℕ → Type 0
 IsLineRead client names end line inputs skips latest number inputs' skips' latest' =
     (ls : List (List ℕ)) →
-    after inputs skips (read_from client names end latest (number + 1) (line ∷ ls))
-    ≡ after inputs' skips' (read_from client names end latest' (number + 2) ls)
+    with_fate inputs skips (read_from client names end latest (number + 1) (line ∷ ls))
+    ≡ with_fate inputs' skips' (read_from client names end latest' (number + 2) ls)

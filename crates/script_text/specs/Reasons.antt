@@ -1,4 +1,4 @@
--- How the reasons are printed.
+-- Definition: How the reasons are printed.
 use Rattle.std.specs.Prelude.{ℕ, List, codes}
 use Rattle.script_text.specs.declared.reading.SkipReason.{SkipReason}
 use Rattle.script_text.specs.declared.reading.SkipReason.TheVariants.{Unreadable, PastEnd, Late, TooLong}

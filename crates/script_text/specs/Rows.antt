@@ -1,4 +1,4 @@
--- Words, lines and scripts worked out from the definitions.
+-- Worked rows: Words, lines and scripts worked out from the definitions.
 use Rattle.std.specs.Prelude.{◌≡◌, ℕ, pos, negsuc, List, [], ◌∷◌, ◌++◌, Option, Some, None, codes}
 use Rattle.node_table.specs.declared.number.Addr.{Addr}
 use Rattle.node_table.specs.declared.number.QueueAddr.{QueueAddr}
@@ -83,7 +83,8 @@ pub record AddressForms : Type 0 where
   pub tick : due_word (codes "t480") ≡ Some (Tick 480)
   pub tick_after : due_word (codes "t+480") ≡ Some (TickAfter 480)
   pub nanos : due_word (codes "n100") ≡ Some (Nanos 100)
-  pub nanos_after : due_word (codes "n+18446744073709551615") ≡ Some (NanosAfter 18446744073709551615)
+  pub nanos_after : due_word (codes "n+18446744073709551615")
+      ≡ Some (NanosAfter 18446744073709551615)
   pub due_past : due_word (codes "n18446744073709551616") ≡ None
   pub due_alone : due_word (codes "t") ≡ None
   pub due_minus : due_word (codes "t-1") ≡ None
@@ -141,7 +142,8 @@ pub record CommandForms : Type 0 where
       said_by (codes "setfilter 15 65535 1023 0 127 -61 255")
       ≡ Some (SetFilter 15 (some_rule (Some 255)))
   pub connect :
-      said_by (codes "connect 131:p0 131:f0") ≡ Some (Connect (port_addr 131 0) (numbered_filter 131 0))
+      said_by (codes "connect 131:p0 131:f0")
+      ≡ Some (Connect (port_addr 131 0) (numbered_filter 131 0))
   pub bytes : said_by (codes "bytes 0 7D 40") ≡ Some (Bytes 0 (0x7D ∷ 0x40 ∷ []))
   pub no_bytes : said_by (codes "bytes 0") ≡ None
   pub send : said_by (codes "send 0 f8") ≡ Some (Send 0 (0xF8 ∷ []))
@@ -154,7 +156,8 @@ pub record CommandForms : Type 0 where
   pub delete_port : said_by (codes "unport 15") ≡ Some (DeletePort 15)
   pub delete_filter : said_by (codes "unfilter 0") ≡ Some (DeleteFilter 0)
   pub disconnect :
-      said_by (codes "disconnect 128:f1 191:p2") ≡ Some (Disconnect (numbered_filter 128 1) (port_addr 191 2))
+      said_by (codes "disconnect 128:f1 191:p2")
+      ≡ Some (Disconnect (numbered_filter 128 1) (port_addr 191 2))
   pub queue : said_by (codes "queue 7 480 500000") ≡ Some (CreateQueue 7 480 500000)
   pub delete_queue : said_by (codes "unqueue 128:q3") ≡ Some (DeleteQueue (numbered_queue 128 3))
   pub start : said_by (codes "start 128:q0") ≡ Some (Start (numbered_queue 128 0))
@@ -167,17 +170,17 @@ pub record CommandForms : Type 0 where
 
 -- ---- scripts
 
-abbrev pub skipped : ℕ → SkipReason → Skip
-skipped line why = record { line = line; why = why }
+abbrev pub skip_of : ℕ → SkipReason → Skip
+skip_of line why = record { line = line; why = why }
 
--- A script of a client with a line that can't be read, one that comes too late, and one past the
+-- A script of a client with a line that cannot be read, one that comes too late, and one past the
 -- end. A line past the end leaves no moment behind: the last line is taken.
 abbrev pub hostile_text : List ℕ
 hostile_text =
     codes "0 open x 1 1\nzzz\n1 port 0 in 66\n0 close\n"
     ++ codes "2 connect 128:p0 131:p0\n99 close\n3 connect 131:p0 131:f0"
 
--- Each reason comes before those after it: what can't be read is never late, and what is past the
+-- Each reason comes before those after it: what cannot be read is never late, and what is past the
 -- end neither. Remarks and lines without words are no lines of the reading, and keep their number;
 -- nothing but # begins a remark, and only at the beginning of a line.
 abbrev pub remarks_text : List ℕ
@@ -194,20 +197,20 @@ pub record ScriptForms : Type 0 where
             ∷ input_at 3 1 131 (CreatePort 0 (codes "in") (record { 0 = 66 }))
             ∷ input_at 5 2 131 (Connect (port_addr 128 0) (port_addr 131 0))
             ∷ input_at 7 3 131 (Connect (port_addr 131 0) (numbered_filter 131 0)) ∷ [];
-        skips = skipped 2 Unreadable ∷ skipped 4 Late ∷ skipped 6 PastEnd ∷ [];
+        skips = skip_of 2 Unreadable ∷ skip_of 4 Late ∷ skip_of 6 PastEnd ∷ [];
       }
   pub remarks : script 128 [] 8 remarks_text ≡
       record {
         client = 128;
         inputs = input_at 4 7 128 Close ∷ input_at 7 8 128 PoolStatus ∷ [];
         skips =
-            skipped 5 Unreadable ∷ skipped 6 Late ∷ skipped 8 Unreadable ∷ skipped 9 PastEnd
-            ∷ skipped 11 Unreadable ∷ [];
+            skip_of 5 Unreadable ∷ skip_of 6 Late ∷ skip_of 8 Unreadable ∷ skip_of 9 PastEnd
+            ∷ skip_of 11 Unreadable ∷ [];
       }
   pub empty : script 128 [] 8 [] ≡ record { client = 128; inputs = []; skips = [] }
   pub semicolon : script 128 [] 8 (codes "; a remark\n7 pools ; another\n7 pools\n") ≡
       record {
         client = 128;
         inputs = input_at 3 7 128 PoolStatus ∷ [];
-        skips = skipped 1 Unreadable ∷ skipped 2 Unreadable ∷ [];
+        skips = skip_of 1 Unreadable ∷ skip_of 2 Unreadable ∷ [];
       }

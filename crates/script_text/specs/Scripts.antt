@@ -1,4 +1,4 @@
--- A script: its inputs with their lines, and the lines that are skipped.
+-- Definition: A script: its inputs with their lines, and the lines that are skipped.
 use Rattle.std.specs.Prelude.{ℕ, ◌+◌, ◌==◌, nat_le, nat_lt, Bool, false, if◌then◌else◌, List, [], ◌∷◌, length, Option, Some, None}
 use Rattle.std.specs.Option.{option_map, option_and_then}
 use Rattle.std.specs.Str.{byte}
@@ -22,9 +22,9 @@ timed_command names (moment ∷ rest) =
     option_and_then (λ m. option_map (λ c. (m, c)) (command names rest)) (u64 moment)
 
 -- a command is taken where its moment is not past the end, and not below that of the last one taken
-abbrev pub timed : ℕ → ℕ → Option (ℕ × Command) → Fate
-timed end latest None = Skipped Unreadable
-timed end latest (Some s) =
+abbrev pub fate_in_time : ℕ → ℕ → Option (ℕ × Command) → Fate
+fate_in_time end latest None = Skipped Unreadable
+fate_in_time end latest (Some s) =
     if nat_lt end s.0 then Skipped PastEnd
     else (if nat_lt s.0 latest then Skipped Late else Taken s.0 s.1)
 
@@ -36,7 +36,7 @@ is_remark (b ∷ word) = b == byte "#"
 abbrev pub fate_of : List (List ℕ) → ℕ → ℕ → List (List ℕ) → Fate
 fate_of names end latest [] = PassedOver
 fate_of names end latest (w ∷ rest) =
-    if is_remark w then PassedOver else timed end latest (timed_command names (w ∷ rest))
+    if is_remark w then PassedOver else fate_in_time end latest (timed_command names (w ∷ rest))
 
 abbrev pub fate : List (List ℕ) → ℕ → ℕ → List ℕ → Fate
 fate names end latest line = fate_of names end latest (words (without_return line))

@@ -1,11 +1,11 @@
--- The commands of a script: a row for each.
+-- Definition: The commands of a script: a row for each.
 use Rattle.std.specs.Prelude.{ℕ, Bool, true, false, if◌then◌else◌, List, [], ◌∷◌, Option, Some, None, codes}
 use Rattle.std.specs.Option.{option_map, option_and_then}
 use Rattle.std.specs.Str.{bytes_eq}
 use Rattle.route_filter.specs.declared.rule_args.RuleArgs.{RuleArgs}
 use Rattle.seq_state.specs.declared.input.Command.{Command}
 use Rattle.seq_state.specs.declared.input.Command.TheVariants.{Open, Close, CreatePort, DeletePort, CreateFilter, SetFilter, DeleteFilter, Connect, Disconnect, Bytes, Send, CreateQueue, CreateQueueFrom, DeleteQueue, Start, Stop, Continue, Tempo, QueueStatus, Share, Schedule, Play, DropOutput, Receive, PoolStatus}
-use Rattle.script_text.specs.Numbers.{any, u8, u16, u32, shift, node_number, queue_number, caps, some_bytes, message, addr, queue, due_word, place_of}
+use Rattle.script_text.specs.Numbers.{any, u8, u16, u32, shift, node_number, queue_number, caps, some_bytes, message, addr, queue, due_word, number_of_name}
 
 -- what all of the words say
 abbrev pub Reads : Type 0 → Type 0
@@ -16,8 +16,8 @@ abbrev pub no_more : List (List ℕ) → Bool
 no_more [] = true
 no_more (w ∷ words) = false
 
-abbrev pub done : {A : Type 0} → A → Reads A
-done x words = if no_more words then Some x else None
+abbrev pub at_end : {A : Type 0} → A → Reads A
+at_end x words = if no_more words then Some x else None
 
 -- what the next word says, and the words after it
 abbrev pub word_as : {A : Type 0} → (List ℕ → Option A) → List (List ℕ) → Option (A × List (List ℕ))
@@ -62,7 +62,7 @@ command_form word says = record { word = word; says = says }
 
 -- the number of a file by its name
 abbrev pub file : List (List ℕ) → List ℕ → Option ℕ
-file names word = Some (place_of word names)
+file names word = Some (number_of_name word names)
 
 -- the table of commands; a word is looked up from the front, so those of long scripts come first
 abbrev pub table : List (List ℕ) → List CommandForm
@@ -71,30 +71,35 @@ table names =
     (queue ▸ λ q. node_number ▸ λ p. due_word ▸ λ at. all message (Schedule q p at))
     ∷ command_form (codes "send") (node_number ▸ λ p. all message (Send p))
     ∷ command_form (codes "bytes") (node_number ▸ λ p. all some_bytes (Bytes p))
-    ∷ command_form (codes "play") (queue ▸ λ q. node_number ▸ λ p. file names ▸ λ f. done (Play q p f))
-    ∷ command_form (codes "receive") (u32 ▸ λ max. done (Receive max))
+    ∷ command_form (codes "play")
+    (queue ▸ λ q. node_number ▸ λ p. file names ▸ λ f. at_end (Play q p f))
+    ∷ command_form (codes "receive") (u32 ▸ λ max. at_end (Receive max))
     ∷ command_form (codes "open")
-    (any ▸ λ name. u32 ▸ λ in_size. u32 ▸ λ out_size. done (Open name in_size out_size))
-    ∷ command_form (codes "close") (done Close)
-    ∷ command_form (codes "port") (node_number ▸ λ p. any ▸ λ name. caps ▸ λ c. done (CreatePort p name c))
-    ∷ command_form (codes "unport") (node_number ▸ λ p. done (DeletePort p))
+    (any ▸ λ name. u32 ▸ λ in_size. u32 ▸ λ out_size. at_end (Open name in_size out_size))
+    ∷ command_form (codes "close") (at_end Close)
+    ∷ command_form (codes "port")
+    (node_number ▸ λ p. any ▸ λ name. caps ▸ λ c. at_end (CreatePort p name c))
+    ∷ command_form (codes "unport") (node_number ▸ λ p. at_end (DeletePort p))
     ∷ command_form (codes "filter") (node_number ▸ λ f. caps ▸ λ c. rule (CreateFilter f c))
     ∷ command_form (codes "setfilter") (node_number ▸ λ f. rule (SetFilter f))
-    ∷ command_form (codes "unfilter") (node_number ▸ λ f. done (DeleteFilter f))
-    ∷ command_form (codes "connect") (addr ▸ λ source. addr ▸ λ target. done (Connect source target))
-    ∷ command_form (codes "disconnect") (addr ▸ λ source. addr ▸ λ target. done (Disconnect source target))
+    ∷ command_form (codes "unfilter") (node_number ▸ λ f. at_end (DeleteFilter f))
+    ∷ command_form (codes "connect")
+    (addr ▸ λ source. addr ▸ λ target. at_end (Connect source target))
+    ∷ command_form (codes "disconnect")
+    (addr ▸ λ source. addr ▸ λ target. at_end (Disconnect source target))
     ∷ command_form (codes "queue")
-    (queue_number ▸ λ n. u32 ▸ λ ppq. u32 ▸ λ tempo. done (CreateQueue n ppq tempo))
-    ∷ command_form (codes "queuefrom") (queue_number ▸ λ n. file names ▸ λ f. done (CreateQueueFrom n f))
-    ∷ command_form (codes "unqueue") (queue ▸ λ q. done (DeleteQueue q))
-    ∷ command_form (codes "start") (queue ▸ λ q. done (Start q))
-    ∷ command_form (codes "stop") (queue ▸ λ q. done (Stop q))
-    ∷ command_form (codes "continue") (queue ▸ λ q. done (Continue q))
-    ∷ command_form (codes "tempo") (queue ▸ λ q. u32 ▸ λ tempo. done (Tempo q tempo))
-    ∷ command_form (codes "status") (queue ▸ λ q. done (QueueStatus q))
-    ∷ command_form (codes "share") (queue ▸ λ q. done (Share q))
-    ∷ command_form (codes "drop") (done DropOutput)
-    ∷ command_form (codes "pools") (done PoolStatus)
+    (queue_number ▸ λ n. u32 ▸ λ ppq. u32 ▸ λ tempo. at_end (CreateQueue n ppq tempo))
+    ∷ command_form (codes "queuefrom")
+    (queue_number ▸ λ n. file names ▸ λ f. at_end (CreateQueueFrom n f))
+    ∷ command_form (codes "unqueue") (queue ▸ λ q. at_end (DeleteQueue q))
+    ∷ command_form (codes "start") (queue ▸ λ q. at_end (Start q))
+    ∷ command_form (codes "stop") (queue ▸ λ q. at_end (Stop q))
+    ∷ command_form (codes "continue") (queue ▸ λ q. at_end (Continue q))
+    ∷ command_form (codes "tempo") (queue ▸ λ q. u32 ▸ λ tempo. at_end (Tempo q tempo))
+    ∷ command_form (codes "status") (queue ▸ λ q. at_end (QueueStatus q))
+    ∷ command_form (codes "share") (queue ▸ λ q. at_end (Share q))
+    ∷ command_form (codes "drop") (at_end DropOutput)
+    ∷ command_form (codes "pools") (at_end PoolStatus)
     ∷ []
 
 -- the row of a word, and what the words after it say

@@ -26,7 +26,7 @@ fn before_colon(word: &[u8]) -> usize
     first_colon(word).unwrap_or(word.len())
 }
 
-/// The front of a word up to its one colon, the letter after it, and what follows.
+/// The part of a word up to its one colon, the letter after it, and what follows.
 fn parts(word: &[u8]) -> Option<(&[u8], u8, &[u8])>
     ensures { option_map (λ p. (p.0.now, (p.1, p.2.now))) result ≡ says.parts word.now }
 {
@@ -134,9 +134,9 @@ pub(crate) fn hex_byte(word: &[u8]) -> Option<u8>
 }
 
 /// The place of the first file with this name; where there is none, one past the last.
-pub(crate) fn place_of(names: &[Vec<u8>], name: &[u8]) -> u32
+pub(crate) fn number_of_name(names: &[Vec<u8>], name: &[u8]) -> u32
     requires { length names.now ≤ MOST_FILES }
-    ensures { result ≡ says.place_of name.now (map (λ n. n.items) names.now) }
+    ensures { result ≡ says.number_of_name name.now (map (λ n. n.items) names.now) }
 {
     first_named(names, name).unwrap_or(names.len()) as u32
 }

@@ -8,7 +8,7 @@ ghost use Rattle.script_text.specs.Numbers.{some_bytes};
 ghost use Rattle.script_text.specs.Numbers as says;
 ghost use Rattle.script_text.specs.declared.script.TheConstants.{MOST_FILES};
 
-use crate::address::{addr_of, due_of, hex_byte, place_of, queue_of};
+use crate::address::{addr_of, due_of, hex_byte, number_of_name, queue_of};
 use crate::number::{
     caps_of, filter_of, number_of, port_of, queue_no_of, shift_of, u8_of, u16_of, u32_of,
 };
@@ -253,7 +253,7 @@ impl<'b> Words<'b> {
         ensures only { IfErr result (λ e. e ≡ Unread.Unreadable) }
     {
         let word = self.word().ok_or(Unread::Unreadable)?;
-        Ok(place_of(names, word))
+        Ok(number_of_name(names, word))
     }
 
     /// A last number of 8 bits, or nothing.

@@ -5,13 +5,13 @@ use Rattle.std.proofs.lemmas.Bool.Decides.{nat_tests}
 use Rattle.std.specs.Ordering.{nat_cmp}
 use Rattle.std.specs.FinMap
 use Rattle.std.specs.FinMap.{FinMap, get}
-use Rattle.node_table.specs.Kept.{numbered}
+use Rattle.node_table.specs.Kept.{numbered_map}
 use Rattle.node_table.proofs.Numbered.{get-numbered, get-above, numbered_none, numbered_insert, numbered_remove}
 
 module _ {A X : Type 0} (g : Option A → Option X) (base n : ℕ) where
   -- what is seen of what stands there
   abbrev pub seen : List (Option A) → FinMap nat_cmp X
-  seen slots = numbered base n (λ r. g (get_or slots r None))
+  seen slots = numbered_map base n (λ r. g (get_or slots r None))
 
   pub empty_seen : (slots : List (Option A)) → ((i : ℕ) → get_or slots i None ≡ None) → g None ≡ None → seen slots ≡ FinMap.empty
   empty_seen slots none e = numbered_none base n _ (λ i l. ap g (none i) ∙ e)
@@ -39,7 +39,7 @@ module _ {A X : Type 0} (g : Option A → Option X) (base n : ℕ) where
         ∙ ap (λ (t : FinMap nat_cmp X). FinMap.remove t (base + i)) view ∙ ap (λ (k : ℕ). FinMap.remove m k) (sym at)
 
 -- what is there has a number of the array
-pub under : {X : Type 0} (n : ℕ) (slots : List (Option X)) (m : FinMap nat_cmp X) → numbered 0 n (λ r. get_or slots r None) ≡ m → (key : ℕ) (x : X) → get m key ≡ Some x → key < n
+pub under : {X : Type 0} (n : ℕ) (slots : List (Option X)) (m : FinMap nat_cmp X) → numbered_map 0 n (λ r. get_or slots r None) ≡ m → (key : ℕ) (x : X) → get m key ≡ Some x → key < n
 under {X = X} n slots m view key x at = go (nat_lt key n) refl
   where
     some_none : None ≡ Some x → key < n

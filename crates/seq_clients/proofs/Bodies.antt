@@ -10,7 +10,7 @@ use Rattle.node_table.specs.declared.number.Node.{Node}
 use Rattle.node_table.specs.declared.number.Node.TheVariants.{Port}
 use Rattle.route_filter.specs.declared.rule_args.RuleArgs.{RuleArgs}
 use Rattle.seq_state.specs.State.{PortInfo, FilterInfo}
-use Rattle.seq_state.specs.Own.{has_port, has_filter, port_of, filter_of, with_change, put_port, put_filter, fed_of, port_fed, filter_ruled}
+use Rattle.seq_state.specs.Effect.{has_port, has_filter, port_of, filter_of, with_change, put_port, put_filter, fed_of, port_fed, filter_ruled}
 use Rattle.seq_state.specs.Step.{port_addr, filter_addr}
 use Rattle.seq_clients.specs.Bodies.{stream_of, is_body_for, is_stream}
 use Rattle.seq_clients.specs.Kept.{Nodes, Rows, port_seen, filter_seen, roster, AreRowsKept}

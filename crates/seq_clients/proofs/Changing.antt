@@ -14,8 +14,8 @@ use Rattle.node_table.specs.declared.number.Node.{Node}
 use Rattle.node_table.specs.declared.number.Node.TheVariants.{Port, Filter}
 use Rattle.node_table.proofs.Numbered.{get-insert_same, get-insert_other, get-remove_same, get-remove_other, remove_absent}
 use Rattle.seq_state.specs.declared.log.Arrival.{Arrival}
-use Rattle.seq_state.specs.State.{Client, ClientPool, PortInfo, FilterInfo, put}
-use Rattle.seq_state.specs.Own.{has_port, has_filter, queue_of, with_change, put_port, put_filter, new_client, without_oldest}
+use Rattle.seq_state.specs.State.{Client, ClientPool, PortInfo, FilterInfo, with_entry}
+use Rattle.seq_state.specs.Effect.{has_port, has_filter, queue_of, with_change, put_port, put_filter, new_client, without_oldest}
 use Rattle.seq_state.specs.Step.{port_addr, filter_addr}
 use Rattle.seq_clients.specs.Bodies.{is_body_for}
 use Rattle.seq_clients.specs.Kept.{Nodes, Rows, port_seen, filter_seen, client_seen, row_at, roster, AreRowsKept}
@@ -24,32 +24,32 @@ use Rattle.seq_clients.specs.Rows.{new_row, row_offered}
 use Rattle.seq_clients.specs.declared.body.NodeBody.{NodeBody}
 use Rattle.seq_clients.specs.declared.body.NodeBody.TheVariants.{Stream, Rule}
 use Rattle.seq_clients.specs.declared.row.ClientRow.{ClientRow}
-use Rattle.seq_clients.specs.Mapped.{mapped}
+use Rattle.seq_clients.specs.Mapped.{with_values}
 use Rattle.seq_clients.proofs.Mapped.{by_key, get-mapped, mapped-empty, mapped-insert, mapped-remove}
 use Rattle.seq_clients.proofs.Seeing.{get-client, get-pool, none_in, by_row, no_row, open-client, port-there, filter-there}
 
 -- ---- maps
 
 module _ {X : Type 0} where
-  pub is_put : (m n : FinMap nat_cmp X) (k : ℕ) (o : Option X) → get n k ≡ o → ((q : ℕ) → q ≢ k → get n q ≡ get m q) → n ≡ put m k o
+  pub is_put : (m n : FinMap nat_cmp X) (k : ℕ) (o : Option X) → get n k ≡ o → ((q : ℕ) → q ≢ k → get n q ≡ get m q) → n ≡ with_entry m k o
   is_put m n k None e h = by_key n (FinMap.remove m k) k (e ∙ sym (get-remove_same m k)) (λ q ne. h q ne ∙ sym (get-remove_other m k q ne))
   is_put m n k (Some x) e h = by_key n (FinMap.insert m k x) k (e ∙ sym (get-insert_same m k x)) (λ q ne. h q ne ∙ sym (get-insert_other m k x q ne))
 
-  pub get-put_same : (m : FinMap nat_cmp X) (k : ℕ) (o : Option X) → get (put m k o) k ≡ o
+  pub get-put_same : (m : FinMap nat_cmp X) (k : ℕ) (o : Option X) → get (with_entry m k o) k ≡ o
   get-put_same m k None = get-remove_same m k
   get-put_same m k (Some x) = get-insert_same m k x
 
-  pub get-put_other : (m : FinMap nat_cmp X) (k : ℕ) (o : Option X) (q : ℕ) → q ≢ k → get (put m k o) q ≡ get m q
+  pub get-put_other : (m : FinMap nat_cmp X) (k : ℕ) (o : Option X) (q : ℕ) → q ≢ k → get (with_entry m k o) q ≡ get m q
   get-put_other m k None q ne = get-remove_other m k q ne
   get-put_other m k (Some x) q ne = get-insert_other m k x q ne
 
   -- what is put where it stands
-  pub put_again : (m : FinMap nat_cmp X) (k : ℕ) (o : Option X) → get m k ≡ o → m ≡ put m k o
+  pub put_again : (m : FinMap nat_cmp X) (k : ℕ) (o : Option X) → get m k ≡ o → m ≡ with_entry m k o
   put_again m k o e = is_put m m k o e (λ q ne. refl)
 
   -- what is put later stays
-  pub put_later : (m : FinMap nat_cmp X) (k : ℕ) (o p : Option X) → put (put m k o) k p ≡ put m k p
-  put_later m k o p = is_put m (put (put m k o) k p) k p (get-put_same (put m k o) k p) (λ q ne. get-put_other (put m k o) k p q ne ∙ get-put_other m k o q ne)
+  pub put_later : (m : FinMap nat_cmp X) (k : ℕ) (o p : Option X) → with_entry (with_entry m k o) k p ≡ with_entry m k p
+  put_later m k o p = is_put m (with_entry (with_entry m k o) k p) k p (get-put_same (with_entry m k o) k p) (λ q ne. get-put_other (with_entry m k o) k p q ne ∙ get-put_other m k o q ne)
 
 -- the same apart from a key
 abbrev pub SameApart : {X : Type 0} → ℕ → FinMap nat_cmp X → FinMap nat_cmp X → Type 0
@@ -125,33 +125,33 @@ module _ (table : Nodes) (rows : Rows) (s : Roster) (kept : AreRowsKept table ro
   abbrev pub seen_in : Nodes → Rows → ℕ → Option Client
   seen_in ns rs client = option_map (client_seen (row_at rs client)) (get ns client)
 
-  clients-put : (ns : Nodes) (rs : Rows) (client : ℕ) (o : Option Client) → SameApart client table ns → SameApart client rows rs → seen_in ns rs client ≡ o → (roster ns rs).clients ≡ put s.clients client o
+  clients-put : (ns : Nodes) (rs : Rows) (client : ℕ) (o : Option Client) → SameApart client table ns → SameApart client rows rs → seen_in ns rs client ≡ o → (roster ns rs).clients ≡ with_entry s.clients client o
   clients-put ns rs client o others row_others e =
       is_put s.clients (roster ns rs).clients client o (get-mapped (λ k c. client_seen (row_at rs k) c) ns client ∙ e)
       (λ q ne. get-mapped (λ k c. client_seen (row_at rs k) c) ns q
       ∙ ap (λ (r : Option ClientRow). option_map (client_seen (unwrap_or r (new_row 0 0))) (get ns q)) (row_others q ne)
       ∙ ap (option_map (client_seen (row_at rows q))) (others q ne) ∙ sym (get-client table rows s kept view q))
 
-  pools-put : (rs : Rows) (client : ℕ) (o : Option ClientPool) → SameApart client rows rs → option_map (λ r. r.pool) (get rs client) ≡ o → mapped (λ k r. r.pool) rs ≡ put s.pools client o
+  pools-put : (rs : Rows) (client : ℕ) (o : Option ClientPool) → SameApart client rows rs → option_map (λ r. r.pool) (get rs client) ≡ o → with_values (λ k r. r.pool) rs ≡ with_entry s.pools client o
   pools-put rs client o row_others e =
-      is_put s.pools (mapped (λ k r. r.pool) rs) client o (get-mapped (λ k r. r.pool) rs client ∙ e)
+      is_put s.pools (with_values (λ k r. r.pool) rs) client o (get-mapped (λ k r. r.pool) rs client ∙ e)
       (λ q ne. get-mapped (λ k r. r.pool) rs q ∙ ap (option_map (λ r. r.pool)) (row_others q ne) ∙ sym (get-pool table rows s kept view q))
 
   pub both-put : (ns : Nodes) (rs : Rows) (client : ℕ) (o : Option Client) (p : Option ClientPool) → SameApart client table ns → SameApart client rows rs → seen_in ns rs client ≡ o → option_map (λ r. r.pool) (get rs client) ≡ p →
       roster ns rs ≡ with_pool (with_client s client o) client p
   both-put ns rs client o p others row_others e h =
-      ap (λ (m : FinMap nat_cmp Client). record { clients = m; pools = mapped (λ k r. r.pool) rs }) (clients-put ns rs client o others row_others e)
-      ∙ ap (λ (m : FinMap nat_cmp ClientPool). record { clients = put s.clients client o; pools = m }) (pools-put rs client p row_others h)
+      ap (λ (m : FinMap nat_cmp Client). record { clients = m; pools = with_values (λ k r. r.pool) rs }) (clients-put ns rs client o others row_others e)
+      ∙ ap (λ (m : FinMap nat_cmp ClientPool). record { clients = with_entry s.clients client o; pools = m }) (pools-put rs client p row_others h)
 
   pub client-put : (ns : Nodes) (client : ℕ) (o : Option Client) → SameApart client table ns → seen_in ns rows client ≡ o → roster ns rows ≡ with_client s client o
   client-put ns client o others e =
-      ap (λ (m : FinMap nat_cmp Client). record { clients = m; pools = mapped (λ k r. r.pool) rows }) (clients-put ns rows client o others (λ q ne. refl) e)
-      ∙ ap (λ (r : Roster). record { clients = put s.clients client o; pools = r.pools }) view
+      ap (λ (m : FinMap nat_cmp Client). record { clients = m; pools = with_values (λ k r. r.pool) rows }) (clients-put ns rows client o others (λ q ne. refl) e)
+      ∙ ap (λ (r : Roster). record { clients = with_entry s.clients client o; pools = r.pools }) view
 
   pub pool-put : (rs : Rows) (client : ℕ) (p : Option ClientPool) → SameApart client rows rs → seen_in table rs client ≡ get s.clients client → option_map (λ r. r.pool) (get rs client) ≡ p → roster table rs ≡ with_pool s client p
   pool-put rs client p row_others e h =
       both-put table rs client (get s.clients client) p (λ q ne. refl) row_others e h
-      ∙ ap (λ (m : FinMap nat_cmp Client). record { clients = m; pools = put s.pools client p }) (sym (put_again s.clients client (get s.clients client) refl))
+      ∙ ap (λ (m : FinMap nat_cmp Client). record { clients = m; pools = with_entry s.pools client p }) (sym (put_again s.clients client (get s.clients client) refl))
 
   -- who has nodes has a row still, and each node has what is for it
   pub kept-both : (ns : Nodes) (rs : Rows) (client : ℕ) → SameApart client table ns → SameApart client rows rs → is_some (get rs client) ≡ is_some (get ns client) → Fits (get ns client) → AreRowsKept ns rs
@@ -265,7 +265,7 @@ module _ (table : Nodes) (rows : Rows) (s : Roster) (kept : AreRowsKept table ro
 
     opened-seen : client_seen (new_row in_size out_size) (nodes.empty_client name) ≡ new_client name in_size out_size
     opened-seen =
-        ap (λ (ps : FinMap nat_cmp PortInfo). record { name = name; in_size = in_size; out_size = out_size; ports = ps; filters = mapped (λ n y. filter_seen y) FinMap.empty; queues = FinMap.empty }) (mapped-empty (λ n y. port_seen y))
+        ap (λ (ps : FinMap nat_cmp PortInfo). record { name = name; in_size = in_size; out_size = out_size; ports = ps; filters = with_values (λ n y. filter_seen y) FinMap.empty; queues = FinMap.empty }) (mapped-empty (λ n y. port_seen y))
         ∙ ap (λ (fs : FinMap nat_cmp FilterInfo). record { name = name; in_size = in_size; out_size = out_size; ports = FinMap.empty; filters = fs; queues = FinMap.empty }) (mapped-empty (λ n y. filter_seen y))
 
     opened-roster : roster opened_nodes opened_rows ≡ with_pool (with_client s client (Some (new_client name in_size out_size))) client (Some (empty_pool in_size))
@@ -342,7 +342,7 @@ module _ (table : Nodes) (rows : Rows) (s : Roster) (kept : AreRowsKept table ro
     row-seen g alike same =
         both-put table rs client (with_change (get s.clients client) g) (get s.pools client) (λ q ne. refl) back_apart (seen-with g alike)
         (ap (option_map (λ q. q.pool)) back_here ∙ ap Some same ∙ ap (option_map (λ q. q.pool)) was ∙ sym (get-pool table rows s kept view client))
-        ∙ ap (λ (m : FinMap nat_cmp ClientPool). record { clients = put s.clients client (with_change (get s.clients client) g); pools = m }) (sym (put_again s.pools client (get s.pools client) refl))
+        ∙ ap (λ (m : FinMap nat_cmp ClientPool). record { clients = with_entry s.clients client (with_change (get s.clients client) g); pools = m }) (sym (put_again s.pools client (get s.pools client) refl))
 
     -- the client is seen as it was, with another pool
     pub pool-seen : (f : ClientPool → ClientPool) → ((c : ClientNodes NodeBody) → client_seen with c ≡ client_seen r c) → with.pool ≡ f r.pool → roster table rs ≡ with_pool s client (option_map f (get s.pools client))
@@ -398,9 +398,9 @@ module _ (table : Nodes) (rows : Rows) (s : Roster) (kept : AreRowsKept table ro
         ∙ ap (with_pool s client) (sym e ∙ ap f absent-pool)
 
   -- a message is offered to the pool of a row, if it is there
-  module _ (client : ℕ) (arrival : Arrival) (rs : Rows) (after : rs ≡ put rows client (option_map (row_offered arrival) (get rows client))) where
-    with_row : (o : Option ClientRow) → o ≡ get rows client → rs ≡ put rows client (option_map (row_offered arrival) o)
-    with_row o e = after ∙ ap (λ (x : Option ClientRow). put rows client (option_map (row_offered arrival) x)) (sym e)
+  module _ (client : ℕ) (arrival : Arrival) (rs : Rows) (after : rs ≡ with_entry rows client (option_map (row_offered arrival) (get rows client))) where
+    with_row : (o : Option ClientRow) → o ≡ get rows client → rs ≡ with_entry rows client (option_map (row_offered arrival) o)
+    with_row o e = after ∙ ap (λ (x : Option ClientRow). with_entry rows client (option_map (row_offered arrival) x)) (sym e)
 
     put-back : (r : ClientRow) → Some r ≡ get rows client → rs ≡ FinMap.insert (FinMap.remove rows client) client (row_offered arrival r)
     put-back r e = with_row (Some r) e ∙ sym (put_later rows client None (Some (row_offered arrival r)))

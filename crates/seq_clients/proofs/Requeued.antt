@@ -3,7 +3,7 @@ use Rattle.std.proofs.Common.{◌≡◌, ◌∙◌, ℕ, Option, Some, None, ref
 use Rattle.std.specs.Ordering.{nat_cmp}
 use Rattle.std.specs.FinMap.{FinMap, get}
 use Rattle.seq_state.specs.State.{Queue, Client}
-use Rattle.seq_state.specs.Own.{with_change, queue_of, put_queue, queue_map, queue_changed}
+use Rattle.seq_state.specs.Effect.{with_change, queue_of, put_queue, queue_map, queue_changed}
 use Rattle.seq_clients.specs.Roster.{Roster, with_client}
 use Rattle.seq_clients.proofs.Changing.{get-put_same, put_later, put_again}
 

@@ -11,9 +11,9 @@ use Rattle.node_table.specs.declared.number.Addr.{Addr}
 use Rattle.node_table.specs.declared.number.Node.{Node}
 use Rattle.node_table.specs.declared.number.Node.TheVariants.{Port, Filter}
 use Rattle.seq_state.specs.State.{Client, ClientPool}
-use Rattle.seq_state.specs.Own.{port_of, filter_of, node_caps, port_caps, filter_caps}
+use Rattle.seq_state.specs.Effect.{port_of, filter_of, node_caps, port_caps, filter_caps}
 use Rattle.seq_state.specs.Step.{port_addr, filter_addr}
-use Rattle.seq_clients.specs.Bodies.{rule_in, rule_of, is_body_for}
+use Rattle.seq_clients.specs.Bodies.{rule_in, rule_of_body, is_body_for}
 use Rattle.seq_clients.specs.Kept.{Nodes, Rows, port_seen, filter_seen, client_seen, row_at, roster, AreRowsKept}
 use Rattle.seq_clients.specs.Roster.{Roster, nobody}
 use Rattle.seq_clients.specs.Rows.{new_row}
@@ -119,7 +119,7 @@ module _ (table : Nodes) (rows : Rows) (s : Roster) (kept : AreRowsKept table ro
       is n.body (kept.fitting client (Filter filter) n (sym e)) ∙ ap (λ (o : Option (NodeSeen NodeBody)). option_map (λ f. f.rule) (option_map filter_seen o)) e
       ∙ ap (option_map (λ f. f.rule)) (get-filter client filter)
     where
-      is : (b : NodeBody) → is_body_for (Filter filter) b ≡ true → rule_in b ≡ Some (rule_of b)
+      is : (b : NodeBody) → is_body_for (Filter filter) b ≡ true → rule_in b ≡ Some (rule_of_body b)
       is (bodies.Stream fed) h = cc
       is (bodies.Rule rule) h = refl
 

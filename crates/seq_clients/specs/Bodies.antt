@@ -1,4 +1,5 @@
--- What a node has beside its name and its capabilities: a port the end of its stream, a filter its rule.
+-- Representation: What a node has beside its name and its capabilities: a port the end of its
+-- stream, a filter its rule.
 use Rattle.std.specs.Prelude.{ℕ, Bool, true, false, List, [], Option, Some, None, pos}
 use Rattle.node_table.specs.declared.number.Node.{Node}
 use Rattle.node_table.specs.declared.number.Node.TheVariants.{Port, Filter}
@@ -13,11 +14,18 @@ stream_of (Rule rule) = []
 
 -- a rule that takes nothing
 abbrev pub no_rule : RuleArgs
-no_rule = record { channels = 0; kinds = record { 0 = 0 }; low = 0; high = 0; shift = pos 0; channel = None }
+no_rule = record {
+  channels = 0;
+  kinds = record { 0 = 0 };
+  low = 0;
+  high = 0;
+  shift = pos 0;
+  channel = None;
+}
 
-abbrev pub rule_of : NodeBody → RuleArgs
-rule_of (Stream fed) = no_rule
-rule_of (Rule rule) = rule
+abbrev pub rule_of_body : NodeBody → RuleArgs
+rule_of_body (Stream fed) = no_rule
+rule_of_body (Rule rule) = rule
 
 -- the rule, where it is one
 abbrev pub rule_in : NodeBody → Option RuleArgs

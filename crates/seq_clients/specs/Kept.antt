@@ -1,4 +1,4 @@
--- How the clients are kept: their nodes in a table, and their rows beside it.
+-- Representation: How the clients are kept: their nodes in a table, and their rows beside it.
 use Rattle.std.specs.Prelude.{◌≡◌, ℕ, true, Some, is_some, unwrap_or}
 use Rattle.std.specs.Ordering.{nat_cmp}
 use Rattle.std.specs.FinMap
@@ -6,8 +6,8 @@ use Rattle.std.specs.FinMap.{FinMap}
 use Rattle.node_table.specs.Nodes.{NodeSeen, ClientNodes, node_in}
 use Rattle.node_table.specs.declared.number.Node.{Node}
 use Rattle.seq_state.specs.State.{PortInfo, FilterInfo, Client}
-use Rattle.seq_clients.specs.Bodies.{stream_of, rule_of, is_body_for}
-use Rattle.seq_clients.specs.Mapped.{mapped}
+use Rattle.seq_clients.specs.Bodies.{stream_of, rule_of_body, is_body_for}
+use Rattle.seq_clients.specs.Mapped.{with_values}
 use Rattle.seq_clients.specs.Roster.{Roster}
 use Rattle.seq_clients.specs.Rows.{new_row}
 use Rattle.seq_clients.specs.declared.body.NodeBody.{NodeBody}
@@ -25,7 +25,7 @@ abbrev pub port_seen : NodeSeen NodeBody → PortInfo
 port_seen n = record { name = n.name; caps = n.caps; fed = stream_of n.body }
 
 abbrev pub filter_seen : NodeSeen NodeBody → FilterInfo
-filter_seen n = record { caps = n.caps; rule = rule_of n.body }
+filter_seen n = record { caps = n.caps; rule = rule_of_body n.body }
 
 -- a client, of its row and its nodes
 abbrev pub client_seen : ClientRow → ClientNodes NodeBody → Client
@@ -34,8 +34,8 @@ client_seen r c =
       name = c.name;
       in_size = r.in_size;
       out_size = r.out_size;
-      ports = mapped (λ n x. port_seen x) c.ports;
-      filters = mapped (λ n x. filter_seen x) c.filters;
+      ports = with_values (λ n x. port_seen x) c.ports;
+      filters = with_values (λ n x. filter_seen x) c.filters;
       queues = r.queues;
     }
 
@@ -47,8 +47,8 @@ row_at rows client = unwrap_or (FinMap.get rows client) (new_row 0 0)
 abbrev pub roster : Nodes → Rows → Roster
 roster nodes rows =
     record {
-      clients = mapped (λ client c. client_seen (row_at rows client) c) nodes;
-      pools = mapped (λ client r. r.pool) rows;
+      clients = with_values (λ client c. client_seen (row_at rows client) c) nodes;
+      pools = with_values (λ client r. r.pool) rows;
     }
 
 -- Who has nodes has a row, and each node has what is for it.

@@ -1,11 +1,12 @@
--- Who is open, and what waits for each client: what the calls of `Clients` change.
+-- Definition: Who is open, and what waits for each client: what the calls of `Clients` change.
 use Rattle.std.specs.Prelude.{◌≡◌, ℕ, true, false, [], length, Option, Some, None, refl}
 use Rattle.std.specs.Ordering.{nat_cmp}
 use Rattle.std.specs.Coded.{Coded, code_by, coded×, coded_ℕ}
 use Rattle.std.specs.FinMap
 use Rattle.std.specs.FinMap.{FinMap}
 use Rattle.cell_pools.specs.Pools.{coded_pool}
-use Rattle.seq_state.specs.State.{Client, ClientPool, PortInfo, Queue, coded_client, coded_arrival, put}
+use Rattle.seq_state.specs.State.{Client, ClientPool, PortInfo, Queue, with_entry}
+use Rattle.seq_state.specs.Codes.{coded_client, coded_arrival}
 
 -- the open clients, and their input pools
 pub record Roster : Type 0 where
@@ -18,11 +19,11 @@ nobody = record { clients = FinMap.empty; pools = FinMap.empty }
 
 -- with this under the client's number, or with no such client
 abbrev pub with_client : Roster → ℕ → Option Client → Roster
-with_client r n c = record r { clients = put r.clients n c }
+with_client r n c = record r { clients = with_entry r.clients n c }
 
 -- the same of its input pool
 abbrev pub with_pool : Roster → ℕ → Option ClientPool → Roster
-with_pool r n p = record r { pools = put r.pools n p }
+with_pool r n p = record r { pools = with_entry r.pools n p }
 
 -- a port whose stream begins anew
 abbrev pub port_begun : Option PortInfo → Option PortInfo
@@ -47,9 +48,9 @@ waiting None = 0
 waiting (Some p) = length p.waiting
 
 -- how many found no room there
-abbrev pub lost : Option ClientPool → ℕ
-lost None = 0
-lost (Some p) = p.lost
+abbrev pub lost_count : Option ClientPool → ℕ
+lost_count None = 0
+lost_count (Some p) = p.lost
 
 -- ---- queues that others may use
 

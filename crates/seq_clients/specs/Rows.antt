@@ -1,11 +1,12 @@
--- What a client has beside its name and its nodes.
+-- Representation: What a client has beside its name and its nodes.
 use Rattle.std.specs.Prelude.{ℕ, refl}
 use Rattle.std.specs.Ordering.{nat_cmp}
 use Rattle.std.specs.Coded.{Coded, code_by, coded×, coded_ℕ}
 use Rattle.std.specs.FinMap
 use Rattle.std.specs.FinMap.{FinMap}
 use Rattle.cell_pools.specs.Pools.{coded_pool, empty_pool, after_offer}
-use Rattle.seq_state.specs.State.{Queue, ClientPool, coded_queue, coded_arrival}
+use Rattle.seq_state.specs.State.{Queue, ClientPool}
+use Rattle.seq_state.specs.Codes.{coded_queue, coded_arrival}
 use Rattle.seq_state.specs.declared.log.Arrival.{Arrival}
 use Rattle.seq_clients.specs.declared.row.ClientRow.{ClientRow}
 

@@ -7,9 +7,9 @@ ghost use Rattle.cell_pools.specs.Pools.{is_size, empty_pool, after_offer};
 ghost use Rattle.midi_wire.specs.Parsing.{GainsPrefix};
 ghost use Rattle.midi_wire.specs.Readings.{reading};
 ghost use Rattle.node_table.specs.Names.{is_name};
-ghost use Rattle.tempo_clock.specs.Clocks.{started, stopped, resumed, with_tempo};
+ghost use Rattle.tempo_clock.specs.Clocks.{running_from_zero, at_rest, running_on, with_tempo};
 ghost use Rattle.tempo_clock.specs.Entries.{is_tempo};
-ghost use Rattle.seq_state.specs.Own.{has_port, has_filter, port_of, filter_of, queue_of, with_change, put_port, put_filter, put_queue, new_client, new_port, new_filter, filter_ruled, fed_of, port_fed, held_queue, clocked, public, queue_changed, oldest, without_oldest};
+ghost use Rattle.seq_state.specs.Effect.{has_port, has_filter, port_of, filter_of, queue_of, with_change, put_port, put_filter, put_queue, new_client, new_port, new_filter, filter_ruled, fed_of, port_fed, held_queue, with_clock, public, queue_changed, oldest, without_oldest};
 ghost use Rattle.seq_state.specs.State as state;
 ghost use Rattle.seq_state.specs.Step.{pool_has_room};
 ghost use Rattle.seq_clients.specs.Roster.{port_begun, with_client, with_pool};
@@ -184,7 +184,7 @@ impl Clients {
     pub fn start(&mut self, client: ClientId, queue: QueueNo, moment: u64)
         requires held { let c = get self.old.clients client in
             (q : state.Queue) → queue_of c queue ≡ Some q → q.clock.since ≡ None }
-        ensures { let then = clocked (λ k. started k moment) in
+        ensures { let then = with_clock (λ k. running_from_zero k moment) in
             let c = queue_changed (get self.old.clients client) queue then in
             self.new ≡ with_client self.old client c }
     {
@@ -198,7 +198,7 @@ impl Clients {
     pub fn stop(&mut self, client: ClientId, queue: QueueNo, moment: u64)
         requires running { let c = get self.old.clients client in
             (q : state.Queue) → queue_of c queue ≡ Some q → IsSome q.clock.since }
-        ensures { let then = clocked (λ k. stopped k moment) in
+        ensures { let then = with_clock (λ k. at_rest k moment) in
             let c = queue_changed (get self.old.clients client) queue then in
             self.new ≡ with_client self.old client c }
     {
@@ -214,7 +214,7 @@ impl Clients {
             (q : state.Queue) → queue_of c queue ≡ Some q → q.clock.since ≡ None }
         requires later { let c = get self.old.clients client in
             (q : state.Queue) → queue_of c queue ≡ Some q → q.clock.time ≤ moment }
-        ensures { let then = clocked (λ k. resumed k moment) in
+        ensures { let then = with_clock (λ k. running_on k moment) in
             let c = queue_changed (get self.old.clients client) queue then in
             self.new ≡ with_client self.old client c }
     {
@@ -236,7 +236,7 @@ impl Clients {
         requires tempo { is_tempo tempo ≡ true }
         requires metrical { let c = get self.old.clients client in
             (q : state.Queue) → queue_of c queue ≡ Some q → q.clock.map.division < 32768 }
-        ensures ok { let then = clocked (λ k. with_tempo k moment tempo) in
+        ensures ok { let then = with_clock (λ k. with_tempo k moment tempo) in
             let c = queue_changed (get self.old.clients client) queue then in
             OnOk result (self.new ≡ with_client self.old client c) }
         ensures err { OnErr result (self.new ≡ self.old) }

@@ -3,10 +3,10 @@
 ghost use Rattle.std.specs.Prelude.{◌≡◌, true, false, is_some};
 ghost use Rattle.std.specs.FinMap.{get};
 ghost use Rattle.std.specs.Option.{option_copied, option_map};
-ghost use Rattle.seq_state.specs.Own.{has_port, has_filter, has_queue, node_caps, port_of, filter_of, queue_of, out_size};
+ghost use Rattle.seq_state.specs.Effect.{has_port, has_filter, has_queue, node_caps, port_of, filter_of, queue_of, out_size};
 ghost use Rattle.seq_state.specs.State.{queues_of};
 ghost use Rattle.seq_state.specs.Step.{port_addr, filter_addr};
-ghost use Rattle.seq_clients.specs.Roster.{nobody, input_size, waiting, lost, NoneShared, SomeShared};
+ghost use Rattle.seq_clients.specs.Roster.{nobody, input_size, waiting, lost_count, NoneShared, SomeShared};
 
 use crate::body::NodeBody;
 use crate::queue::Queue;
@@ -19,7 +19,7 @@ use std::marker::Model;
 /// The open clients, each with its ports, filters and queues, the sizes of its pools, and its input pool.
 ///
 /// What a call asks for is found in constant time. What a call needs of its arguments stands in its contract, so no
-/// call refuses: `Err` is want of memory.
+/// call refuses: `Err` is out of memory.
 #[derive(Drop)]
 pub struct Clients {
     pub(crate) alloc: Global,
@@ -201,7 +201,7 @@ impl Clients {
 
     /// How many messages found no room in the client's input pool; 0 where it is not open. The count stays at 2^64 - 1.
     pub fn lost(&self, client: ClientId) -> u64
-        ensures { result ≡ lost (get self.now.pools client) }
+        ensures { result ≡ lost_count (get self.now.pools client) }
     {
         match self.rows.get(client) {
             Some(row) => row.pool.lost(),

@@ -2,8 +2,8 @@
 
 ghost use Rattle.std.specs.Prelude.{◌≡◌, ◌≤◌, ◌<◌, true, None, IsSome, OnOk, OnErr};
 ghost use Rattle.tempo_clock.specs.Entries.{is_tempo};
-ghost use Rattle.tempo_clock.specs.Clocks.{started, stopped, resumed, with_tempo};
-ghost use Rattle.seq_state.specs.Own.{held_queue, clocked, public};
+ghost use Rattle.tempo_clock.specs.Clocks.{running_from_zero, at_rest, running_on, with_tempo};
+ghost use Rattle.seq_state.specs.Effect.{held_queue, with_clock, public};
 
 use memory::OutOfMemory;
 use std::marker::Model;
@@ -18,10 +18,11 @@ pub struct Queue {
 
 impl Model for Queue {
     ghost use Rattle.seq_state.specs.State as state;
+    ghost use Rattle.seq_state.specs.Codes.{coded_queue};
 
     ghost Value = { state.Queue };
 
-    ghost coded = { state.coded_queue };
+    ghost coded = { coded_queue };
 
     ghost view = { λ q. record { clock = q.clock; shared = q.shared } };
 }
@@ -53,14 +54,14 @@ impl Queue {
 
     pub(crate) fn start(&mut self, moment: u64)
         requires { self.old.clock.since ≡ None }
-        ensures { self.new ≡ clocked (λ k. started k moment) self.old }
+        ensures { self.new ≡ with_clock (λ k. running_from_zero k moment) self.old }
     {
         self.clock.start(moment);
     }
 
     pub(crate) fn stop(&mut self, moment: u64)
         requires { IsSome self.old.clock.since }
-        ensures { self.new ≡ clocked (λ k. stopped k moment) self.old }
+        ensures { self.new ≡ with_clock (λ k. at_rest k moment) self.old }
     {
         self.clock.stop(moment);
     }
@@ -68,7 +69,7 @@ impl Queue {
     pub(crate) fn resume(&mut self, moment: u64)
         requires held { self.old.clock.since ≡ None }
         requires later { self.old.clock.time ≤ moment }
-        ensures { self.new ≡ clocked (λ k. resumed k moment) self.old }
+        ensures { self.new ≡ with_clock (λ k. running_on k moment) self.old }
     {
         self.clock.resume(moment);
     }
@@ -77,7 +78,7 @@ impl Queue {
     pub(crate) fn set_tempo(&mut self, moment: u64, tempo: u32) -> Result<(), OutOfMemory>
         requires tempo { is_tempo tempo ≡ true }
         requires metrical { self.old.clock.map.division < 32768 }
-        ensures ok { OnOk result (self.new ≡ clocked (λ k. with_tempo k moment tempo) self.old) }
+        ensures ok { OnOk result (self.new ≡ with_clock (λ k. with_tempo k moment tempo) self.old) }
         ensures err { OnErr result (self.new ≡ self.old) }
     {
         self.clock.set_tempo(moment, tempo)

@@ -26,14 +26,15 @@ impl Model for QueueTable {
     ghost use Rattle.std.specs.Coded.{coded_ℕ};
     ghost use Rattle.std.specs.FinMap as map;
     ghost use Rattle.node_table.specs.Numbers.{most_queues};
-    ghost use Rattle.node_table.specs.Kept.{numbered};
+    ghost use Rattle.node_table.specs.Kept.{numbered_map};
     ghost use Rattle.seq_state.specs.State as state;
+    ghost use Rattle.seq_state.specs.Codes.{coded_queue};
 
     ghost Value = { map.FinMap nat_cmp state.Queue };
 
-    ghost coded = { map.code coded_ℕ state.coded_queue };
+    ghost coded = { map.code coded_ℕ coded_queue };
 
-    ghost view = { λ t. numbered 0 most_queues (λ number. slice_index_or t.queues number None) };
+    ghost view = { λ t. numbered_map 0 most_queues (λ number. slice_index_or t.queues number None) };
 
     ghost invariant = { λ t. length t.queues ≡ most_queues };
 }

@@ -3,7 +3,7 @@
 ghost use Rattle.std.specs.Prelude.{◌≡◌, ◌+◌, ◌<◌, OnOk, OnErr};
 ghost use Rattle.std.specs.Option.{option_copied, option_map};
 ghost use Rattle.std.specs.FinMap as map;
-ghost use Rattle.seq_state.specs.State.{put};
+ghost use Rattle.seq_state.specs.State.{with_entry};
 ghost use Rattle.seq_state.specs.Step.{pool_has_room};
 ghost use Rattle.seq_clients.specs.Rows.{row_offered};
 
@@ -27,7 +27,7 @@ impl Model for RowTable {
     ghost use Rattle.std.specs.Coded.{coded_ℕ};
     ghost use Rattle.std.specs.FinMap as map;
     ghost use Rattle.node_table.specs.Numbers.{first_client, most_clients};
-    ghost use Rattle.node_table.specs.Kept.{numbered};
+    ghost use Rattle.node_table.specs.Kept.{numbered_map};
     ghost use Rattle.seq_clients.specs.Rows.{coded_row};
     ghost use Rattle.seq_clients.specs.declared.row.ClientRow.{ClientRow};
 
@@ -36,7 +36,7 @@ impl Model for RowTable {
     ghost coded = { map.code coded_ℕ coded_row };
 
     ghost view = { λ t.
-        numbered first_client most_clients
+        numbered_map first_client most_clients
         (λ row. option_map (λ b. b.value) (slice_index_or t.rows row None)) };
 
     ghost invariant = { λ t. length t.rows ≡ most_clients };
@@ -77,7 +77,7 @@ impl RowTable {
         ensures kept { let pool = option_map (λ r. r.pool) (map.get self.old client) in
             result ≡ pool_has_room pool }
         ensures after { let row = option_map (row_offered arrival) (map.get self.old client) in
-            self.new ≡ put self.old client row }
+            self.new ≡ with_entry self.old client row }
     {
         match &mut self.rows[row_of(client)] {
             Some(row) => row.pool.offer(arrival),

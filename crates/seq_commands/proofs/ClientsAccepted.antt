@@ -11,9 +11,9 @@ use Rattle.node_table.specs.Names.{is_name}
 use Rattle.node_table.specs.declared.caps.Caps.{Caps}
 use Rattle.seq_state.specs.declared.input.Command.{Command}
 use Rattle.seq_state.specs.declared.input.Command.TheVariants.{Open, CreatePort, CreateFilter, SetFilter}
-use Rattle.seq_state.specs.Files.{File}
+use Rattle.smf_grammar.specs.Played.{PlayedFile}
 use Rattle.seq_state.specs.State.{Client, State}
-use Rattle.seq_state.specs.Own.{has_port, has_filter}
+use Rattle.seq_state.specs.Effect.{has_port, has_filter}
 use Rattle.seq_state.specs.Table.{Condition, first_refusal, command_row}
 use Rattle.seq_state.specs.Step.{row_of, refusal_of}
 use Rattle.seq_clients.proofs.Tested.{none_if_not}
@@ -28,7 +28,7 @@ pub none-hold : (cs : List Condition) → first_refusal cs ≡ None → NoneHold
 none-hold [] e = tt
 none-hold (c ∷ cs) e = let h = none-holds c.0 c.1 cs e in (h.0, none-hold cs h.1)
 
-module _ (files : List File) (s : State) (moment actor : ℕ) where
+module _ (files : List PlayedFile) (s : State) (moment actor : ℕ) where
   abbrev client : Option Client
   client = FinMap.get s.clients actor
 

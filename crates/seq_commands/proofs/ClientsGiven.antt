@@ -1,5 +1,5 @@
 -- What a sequencer gives whose clients changed, and nothing else but pools and subscriptions.
-use Rattle.std.proofs.Common.{◌≡◌, ℕ, not, List, [], Option, Some, None, refl, sym, ap, ◌∙◌}
+use Rattle.std.proofs.Common.{◌≡◌, ℕ, not, List, [], Option, Some, None, refl, sym, ap, subst, ◌∙◌}
 use Rattle.std.specs.List.{filter}
 use Rattle.std.specs.FinMap
 use Rattle.cell_pools.specs.Pools.{empty_pool}
@@ -12,12 +12,12 @@ use Rattle.seq_state.specs.declared.input.Command.{Command}
 use Rattle.seq_state.specs.declared.input.Command.TheVariants.{Open, DeleteFilter}
 use Rattle.seq_state.specs.declared.log.Reply.{Reply}
 use Rattle.seq_state.specs.declared.log.Reply.TheVariants.{Done}
-use Rattle.seq_state.specs.State.{PortInfo, FilterInfo, Client, State, put, queues_of}
-use Rattle.seq_state.specs.Own.{with_change, put_port, put_filter, new_client}
+use Rattle.seq_state.specs.State.{PortInfo, FilterInfo, Client, State, with_entry, queues_of}
+use Rattle.seq_state.specs.Effect.{with_change, put_port, put_filter, new_client}
 use Rattle.seq_state.specs.Step.{Stepped, loses, unless}
 use Rattle.seq_state.proofs.Done.{done, opens, deletes-filter, lost-with-node}
 use Rattle.seq_settle.specs.Moments.{moment_at, SameMoments}
-use Rattle.seq_settle.specs.Cells.{seen, AreCells, AreFirstKeys}
+use Rattle.seq_settle.specs.Cells.{seen_state, AreCells, AreFirstKeys}
 use Rattle.seq_settle.proofs.NewKeys.{keys_stay}
 use Rattle.seq_settle.proofs.Elsewhere.{queues_same}
 use Rattle.seq_clients.specs.Roster.{Roster, with_client, with_pool}
@@ -33,7 +33,7 @@ with_roster s r edges = record s { patchbay = record { clients = r; graph = edge
 
 -- its state
 abbrev pub state_with : Sequencer → Roster → List Edge → State
-state_with s r edges = seen r.clients r.pools edges s.cells.cells s.steps
+state_with s r edges = seen_state r.clients r.pools edges s.cells.cells s.steps
 
 pub gives : (old : Sequencer) (r : Roster) (edges : List Edge) (agenda : Keys) (step : Stepped) (reply : Reply) → step ≡ done (state_with old r edges) reply →
     AreCells old.cells.cells old.steps → AreFirstKeys r.clients old.cells.cells agenda → IsStepTaken old (with_roster old r edges) agenda step reply []
@@ -78,22 +78,28 @@ module _ (old : Sequencer) (turn : Turn) (command : Command) (made r : Roster) (
 
 -- ---- one client is another
 
+-- what a command comes to, where the subscriptions are as they were
+over-edges : (old : Sequencer) (turn : Turn) (command : Command) (made : Roster) (edges : List Edge) →
+    step_in old turn command ≡ unless (refusal_in old turn command) (state_of old) (done (state_with old made old.patchbay.graph) Done) → edges ≡ old.patchbay.graph →
+    step_in old turn command ≡ unless (refusal_in old turn command) (state_of old) (done (state_with old made edges) Done)
+over-edges old turn command made edges is same = subst (λ es. step_in old turn command ≡ unless (refusal_in old turn command) (state_of old) (done (state_with old made es) Done)) (sym same) is
+
 -- the actor has this, and all else is as it was
 abbrev pub has_client : Sequencer → ℕ → Option Client → Stepped
-has_client s actor c = done (record (state_of s) { clients = put (clients_of s) actor c }) Done
+has_client s actor c = done (record (state_of s) { clients = with_entry (clients_of s) actor c }) Done
 
-module _ (old : Sequencer) (turn : Turn) (command : Command) (c : Option Client) (r : Roster) (accepted : refusal_in old turn command ≡ None)
-    (is : step_in old turn command ≡ unless (refusal_in old turn command) (state_of old) (has_client old turn.actor c)) (e : r ≡ with_client old.patchbay.clients turn.actor c) where
+module _ (old : Sequencer) (turn : Turn) (command : Command) (c : Option Client) (r : Roster) (edges : List Edge) (accepted : refusal_in old turn command ≡ None)
+    (is : step_in old turn command ≡ unless (refusal_in old turn command) (state_of old) (has_client old turn.actor c)) (e : r ≡ with_client old.patchbay.clients turn.actor c) (same_edges : edges ≡ old.patchbay.graph) where
   pub client-given : (agenda : Keys) → AreCells old.cells.cells old.steps → AreFirstKeys r.clients old.cells.cells agenda →
-      IsStepTaken old (with_roster old r old.patchbay.graph) agenda (step_in old turn command) Done []
-  client-given agenda are keys = roster-given old turn command (with_client old.patchbay.clients turn.actor c) r old.patchbay.graph accepted is e agenda are keys
+      IsStepTaken old (with_roster old r edges) agenda (step_in old turn command) Done []
+  client-given agenda are keys = roster-given old turn command (with_client old.patchbay.clients turn.actor c) r edges accepted (over-edges old turn command (with_client old.patchbay.clients turn.actor c) edges is same_edges) e agenda are keys
 
   -- its queues give the same moments
-  pub client-kept : ((q : QueueAddr) → SameMoments (clients_of old) (put (clients_of old) turn.actor c) q) → IsStepTakenUnkeyed old (with_roster old r old.patchbay.graph) (step_in old turn command) Done []
-  client-kept same = roster-kept old turn command (with_client old.patchbay.clients turn.actor c) r old.patchbay.graph accepted is e same
+  pub client-kept : ((q : QueueAddr) → SameMoments (clients_of old) (with_entry (clients_of old) turn.actor c) q) → IsStepTakenUnkeyed old (with_roster old r edges) (step_in old turn command) Done []
+  client-kept same = roster-kept old turn command (with_client old.patchbay.clients turn.actor c) r edges accepted (over-edges old turn command (with_client old.patchbay.clients turn.actor c) edges is same_edges) e same
 
   -- its queues are as they were
-  pub nodes-kept : queues_of c ≡ queues_of (FinMap.get (clients_of old) turn.actor) → IsStepTakenUnkeyed old (with_roster old r old.patchbay.graph) (step_in old turn command) Done []
+  pub nodes-kept : queues_of c ≡ queues_of (FinMap.get (clients_of old) turn.actor) → IsStepTakenUnkeyed old (with_roster old r edges) (step_in old turn command) Done []
   nodes-kept queues = client-kept (queues_same (clients_of old) turn.actor c queues)
 
 -- ---- whose queues are as they were
@@ -118,14 +124,15 @@ queues-filter n p o = queues-changed (put_filter n p) (go p) o
 
 -- ---- a client is opened
 
-pub opened-kept : (old : Sequencer) (turn : Turn) (name : List ℕ) (in_size out_size : ℕ) (r : Roster) → refusal_in old turn (Open name in_size out_size) ≡ None →
-    r ≡ with_pool (with_client old.patchbay.clients turn.actor (Some (new_client name in_size out_size))) turn.actor (Some (empty_pool in_size)) →
-    IsStepTakenUnkeyed old (with_roster old r old.patchbay.graph) (step_in old turn (Open name in_size out_size)) Done []
-opened-kept old turn name in_size out_size r accepted e =
+pub opened-kept : (old : Sequencer) (turn : Turn) (name : List ℕ) (in_size out_size : ℕ) (r : Roster) (edges : List Edge) → refusal_in old turn (Open name in_size out_size) ≡ None →
+    r ≡ with_pool (with_client old.patchbay.clients turn.actor (Some (new_client name in_size out_size))) turn.actor (Some (empty_pool in_size)) → edges ≡ old.patchbay.graph →
+    IsStepTakenUnkeyed old (with_roster old r edges) (step_in old turn (Open name in_size out_size)) Done []
+opened-kept old turn name in_size out_size r edges accepted e same_edges =
     let c : Option Client = Some (new_client name in_size out_size) in
     let made : Roster = with_pool (with_client old.patchbay.clients turn.actor c) turn.actor (Some (empty_pool in_size)) in
     let fresh : FinMap.get (clients_of old) turn.actor ≡ None = (accepted-open old.files (state_of old) turn.moment turn.actor name in_size out_size accepted).0 in
-    roster-kept old turn (Open name in_size out_size) made r old.patchbay.graph accepted (opens old.files (state_of old) turn.moment turn.actor name in_size out_size) e
+    roster-kept old turn (Open name in_size out_size) made r edges accepted
+    (over-edges old turn (Open name in_size out_size) made edges (opens old.files (state_of old) turn.moment turn.actor name in_size out_size) same_edges) e
     (queues_same (clients_of old) turn.actor c (sym (ap queues_of fresh)))
 
 -- ---- a filter goes with its subscriptions

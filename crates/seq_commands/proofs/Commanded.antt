@@ -11,10 +11,10 @@ use Rattle.seq_state.specs.declared.log.Reply.{Reply}
 use Rattle.seq_state.specs.declared.log.Reply.TheVariants.{Refused}
 use Rattle.seq_state.specs.declared.refusal.Refusal.{Refusal}
 use Rattle.seq_state.specs.Refusals.{number_of}
-use Rattle.seq_state.specs.State.{State, Pending, start}
-use Rattle.seq_state.specs.Step.{IsRefusal, Stepped, unless, asked, refusal_of, effect_of, command_step, settle, step}
+use Rattle.seq_state.specs.State.{State, OwnedPlayback, start}
+use Rattle.seq_state.specs.Step.{IsRefusal, Stepped, unless, view_of, refusal_of, effect_of, command_step, settle, step}
 use Rattle.seq_state.proofs.Refused.{row_tells}
-use Rattle.seq_settle.specs.Cells.{Cell, key_of, AreCells, AreFirstKeys}
+use Rattle.seq_settle.specs.Cells.{PlaybackCell, key_of, AreCells, AreFirstKeys}
 use Rattle.seq_settle.proofs.Stores.{playbacks-later}
 use Rattle.seq_settle.proofs.Added.{later_cells}
 use Rattle.seq_commands.specs.declared.sequencer.Sequencer.{Sequencer}
@@ -28,7 +28,7 @@ abbrev pub counted : Sequencer → Sequencer
 counted s = record s { steps = s.steps + 1 }
 
 pub counted-state : (s : Sequencer) → AreCells s.cells.cells s.steps → state_of (counted s) ≡ state_of s
-counted-state s are = ap (λ (ps : List Pending). let t : State = record (state_of s) { pending = ps } in t) (playbacks-later s.cells.cells s.steps are)
+counted-state s are = ap (λ (ps : List OwnedPlayback). let t : State = record (state_of s) { pending = ps } in t) (playbacks-later s.cells.cells s.steps are)
 
 pub counted-step : (s : Sequencer) (t : Turn) (command : Command) → AreCells s.cells.cells s.steps → step_in (counted s) t command ≡ step_in s t command
 counted-step s t command are = ap (λ x. command_step s.files x t.moment t.actor command) (counted-state s are)
@@ -58,7 +58,7 @@ refused-step s t command r are e =
 -- it has no refusal for its reply
 pub accepted-tells : (s : Sequencer) (t : Turn) (command : Command) → AreCells s.cells.cells s.steps → None ≡ refusal_in (counted s) t command → IsRefusal (step_in s t command).reply → ⊥
 accepted-tells s t command are e h =
-    row_tells (asked s.files (state_of s) t.moment t.actor command) command (FinMap.get (state_of s).pools t.actor)
+    row_tells (view_of s.files (state_of s) t.moment t.actor command) command (FinMap.get (state_of s).pools t.actor)
     (subst (λ o. IsRefusal (unless o (state_of s) (effect_of s.files (state_of s) t.moment t.actor command)).reply) (sym (e ∙ same)) h)
   where
     same : refusal_in (counted s) t command ≡ refusal_in s t command
@@ -123,6 +123,6 @@ new-whole s agenda ticks state steps are none = record {
     absent : (q : ℕ) → FinMap.get s.cells.cells q ≡ None
     absent q = go (FinMap.get s.cells.cells q) refl
       where
-        go : (o : Option Cell) → FinMap.get s.cells.cells q ≡ o → o ≡ None
+        go : (o : Option PlaybackCell) → FinMap.get s.cells.cells q ≡ o → o ≡ None
         go None e = refl
         go (Some c) e = let l : c.1.rank < 0 = are.early q c e in absurd (omega arith)

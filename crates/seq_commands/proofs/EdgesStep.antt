@@ -10,9 +10,9 @@ use Rattle.seq_patchbay.specs.Network.{Network}
 use Rattle.seq_state.specs.declared.input.Command.TheVariants.{Connect, Disconnect}
 use Rattle.seq_state.specs.declared.log.Reply.{Reply}
 use Rattle.seq_state.specs.declared.log.Reply.TheVariants.{Done}
-use Rattle.seq_state.specs.Files.{File}
+use Rattle.smf_grammar.specs.Played.{PlayedFile}
 use Rattle.seq_state.specs.State.{State}
-use Rattle.seq_state.specs.Table.{Condition, first_refusal, command_row, connected, disconnected}
+use Rattle.seq_state.specs.Table.{Condition, first_refusal, command_row, with_edge, without_edge_of}
 use Rattle.seq_state.specs.Step.{Stepped, row_of, refusal_of}
 use Rattle.seq_state.proofs.Done.{done}
 use Rattle.seq_state.proofs.Effects.{patched, step-connects, step-parts}
@@ -51,15 +51,15 @@ none-at (c ∷ cs) e (suc i) = none-at cs (none-holds c.0 c.1 cs e).1 i
 below : (most n : ℕ) → nat_le most n ≡ false → n < most
 below most n e = grind (arith, nat_tests, e)
 
-pub connects-fresh : (files : List File) (s : State) (moment actor : ℕ) (source target : Addr) → refusal_of files s moment actor (Connect source target) ≡ None → has_edge s.edges source target ≡ false
+pub connects-fresh : (files : List PlayedFile) (s : State) (moment actor : ℕ) (source target : Addr) → refusal_of files s moment actor (Connect source target) ≡ None → has_edge s.edges source target ≡ false
 unfolding command_row
 connects-fresh files s moment actor source target e = none-at (row_of files s moment actor (Connect source target)).conditions e 4
 
-pub connects-room : (files : List File) (s : State) (moment actor : ℕ) (source target : Addr) → refusal_of files s moment actor (Connect source target) ≡ None → sources_of s.edges target < most_sources
+pub connects-room : (files : List PlayedFile) (s : State) (moment actor : ℕ) (source target : Addr) → refusal_of files s moment actor (Connect source target) ≡ None → sources_of s.edges target < most_sources
 unfolding command_row
 connects-room files s moment actor source target e = below most_sources (sources_of s.edges target) (none-at (row_of files s moment actor (Connect source target)).conditions e 5)
 
-pub connects-clear : (files : List File) (s : State) (moment actor : ℕ) (source target : Addr) → refusal_of files s moment actor (Connect source target) ≡ None → makes_cycle s.edges source target ≡ false
+pub connects-clear : (files : List PlayedFile) (s : State) (moment actor : ℕ) (source target : Addr) → refusal_of files s moment actor (Connect source target) ≡ None → makes_cycle s.edges source target ≡ false
 unfolding command_row
 connects-clear files s moment actor source target e = none-at (row_of files s moment actor (Connect source target)).conditions e 6
 
@@ -69,12 +69,12 @@ pub connect-gives : (old : Sequencer) (turn : Turn) (source target : Addr) (grap
     IsStepTakenUnkeyed old (record old { patchbay = record old.patchbay { graph = graph } }) (step_in old turn (Connect source target)) Done []
 connect-gives old turn source target graph e is =
     kept-gives old (record old.patchbay { graph = graph }) _ Done refl
-    (step-connects old.files (state_of old) turn.moment turn.actor source target ∙ unless-none _ (state_of old) (patched (state_of old) (connected source target)) e
+    (step-connects old.files (state_of old) turn.moment turn.actor source target ∙ unless-none _ (state_of old) (patched (state_of old) (with_edge source target)) e
     ∙ ap (λ x. done (record (state_of old) { edges = x }) Done) (sym is))
 
 pub disconnect-gives : (old : Sequencer) (turn : Turn) (source target : Addr) (graph : List Edge) → refusal_in old turn (Disconnect source target) ≡ None → graph ≡ without_edge old.patchbay.graph source target →
     IsStepTakenUnkeyed old (record old { patchbay = record old.patchbay { graph = graph } }) (step_in old turn (Disconnect source target)) Done []
 disconnect-gives old turn source target graph e is =
     kept-gives old (record old.patchbay { graph = graph }) _ Done refl
-    (step-parts old.files (state_of old) turn.moment turn.actor source target ∙ unless-none _ (state_of old) (patched (state_of old) (disconnected source target)) e
+    (step-parts old.files (state_of old) turn.moment turn.actor source target ∙ unless-none _ (state_of old) (patched (state_of old) (without_edge_of source target)) e
     ∙ ap (λ x. done (record (state_of old) { edges = x }) Done) (sym is))

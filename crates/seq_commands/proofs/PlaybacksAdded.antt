@@ -5,7 +5,7 @@ use Rattle.std.specs.List.{filter, list_all}
 use Rattle.std.proofs.lemmas.Bool.{false≢true}
 use Rattle.std.proofs.lemmas.List.Folds.{list_all-map}
 use Rattle.std.specs.FinMap.{get}
-use Rattle.cell_pools.specs.Cells.{Held, Store, keys_in, no_cells, size_of, used_by, with_size}
+use Rattle.cell_pools.specs.Cells.{Holding, Store, keys_in, no_cells, size_of, used_by, with_size}
 use Rattle.node_table.specs.declared.number.QueueAddr.{QueueAddr}
 use Rattle.node_table.proofs.Numbered.{get-insert_same}
 use Rattle.seq_clients.proofs.Tested.{some_if}
@@ -14,21 +14,21 @@ use Rattle.smf_files.specs.Rising.{ticks_rise}
 use Rattle.seq_state.specs.declared.input.Command.TheVariants.{Play, Schedule}
 use Rattle.seq_state.specs.declared.input.DueAt.{DueAt}
 use Rattle.seq_state.specs.declared.log.Reply.TheVariants.{Done}
-use Rattle.seq_state.specs.Files.{File}
-use Rattle.seq_state.specs.State.{Event, Pending, Queue, State}
-use Rattle.seq_state.specs.Own.{due_of, file_at, file_events, out_size, passes_end, queue_is, scheduled}
+use Rattle.smf_grammar.specs.Played.{PlayedFile}
+use Rattle.seq_state.specs.State.{DueMessage, OwnedPlayback, Queue, State}
+use Rattle.seq_state.specs.Effect.{due_of, file_at, file_events, out_size, passes_end, queue_is, scheduled_events}
 use Rattle.seq_state.specs.Table.{command_row, visible}
-use Rattle.seq_state.specs.Step.{Stepped, is_left, row_of, used}
+use Rattle.seq_state.specs.Step.{Stepped, is_left, row_of, playback_count}
 use Rattle.seq_state.proofs.Done.{done, plays, schedules}
 use Rattle.tempo_clock.specs.declared.due.Due.{Due}
-use Rattle.seq_settle.specs.Cells.{AreCells, AreFirstKeys, Left, are_in_order, due_le, playbacks}
+use Rattle.seq_settle.specs.Cells.{AreCells, AreFirstKeys, RankedPlayback, are_in_order, due_le, playbacks}
 use Rattle.seq_settle.specs.Events.{file_event}
-use Rattle.seq_settle.specs.Moments.{queue_at}
+use Rattle.seq_settle.specs.Moments.{queue_in}
 use Rattle.seq_settle.proofs.Counting.{used_is}
 use Rattle.seq_settle.proofs.Stores.{playbacks-later}
 use Rattle.seq_commands.specs.declared.sequencer.Sequencer.{Sequencer}
 use Rattle.seq_commands.specs.declared.sequencer.Turn.{Turn}
-use Rattle.seq_commands.specs.Added.{added, playing}
+use Rattle.seq_commands.specs.Added.{adding_step, playing}
 use Rattle.seq_commands.specs.Whole.{Keys, clients_of, state_of, refusal_in, step_in, IsWhole, IsStepTaken}
 use Rattle.seq_commands.proofs.Accepted.{unless-none}
 use Rattle.seq_commands.proofs.EdgesStep.{none-at}
@@ -37,22 +37,22 @@ use Rattle.seq_commands.proofs.PlaybacksGone.{gone-gives, with_pending}
 -- ---- a playback more
 
 -- a store of which a client's size was set has room where the client has
-pub room-left : (old : Sequencer) (agenda : Keys) (now actor size : ℕ) (cells : Store Left) → IsWhole old agenda now → used (state_of old) actor ≢ out_size (get (clients_of old) actor) →
+pub room-left : (old : Sequencer) (agenda : Keys) (now actor size : ℕ) (cells : Store RankedPlayback) → IsWhole old agenda now → playback_count (state_of old) actor ≢ out_size (get (clients_of old) actor) →
     size ≡ out_size (get (clients_of old) actor) → cells ≡ with_size old.cells actor size → used_by cells.cells actor < size_of cells actor
 room-left old agenda now actor size cells whole apart is set =
-    let count : used_by old.cells.cells actor ≡ used (state_of old) actor = used_is old.cells.cells old.steps actor whole.cells in
-    let most : used (state_of old) actor ≤ out_size (get (clients_of old) actor) = whole.sound.bounded.used actor in
-    let mine : Held = record { size = size; keys = keys_in old.cells.clients actor } in
+    let count : used_by old.cells.cells actor ≡ playback_count (state_of old) actor = used_is old.cells.cells old.steps actor whole.cells in
+    let most : playback_count (state_of old) actor ≤ out_size (get (clients_of old) actor) = whole.sound.bounded.used actor in
+    let mine : Holding = record { size = size; keys = keys_in old.cells.clients actor } in
     let sized : size_of (with_size old.cells actor size) actor ≡ size = ap (λ o. (unwrap_or o no_cells).size) (get-insert_same old.cells.clients actor mine) in
     let less : used_by old.cells.cells actor < size_of (with_size old.cells actor size) actor = omega (arith, count, most, apart, is, sized) in
-    subst (λ (s : Store Left). used_by s.cells actor < size_of s actor) (sym set) less
+    subst (λ (s : Store RankedPlayback). used_by s.cells actor < size_of s actor) (sym set) less
 
 -- the step of a new playback, or of none where there is no event
-pub added-gives : (old : Sequencer) (turn : Turn) (rank : ℕ) (queue : QueueAddr) (port : ℕ) (events : List Event) (cells : Store Left) (agenda : Keys) → old.steps ≡ rank + 1 → AreCells old.cells.cells rank →
+pub added-gives : (old : Sequencer) (turn : Turn) (rank : ℕ) (queue : QueueAddr) (port : ℕ) (events : List DueMessage) (cells : Store RankedPlayback) (agenda : Keys) → old.steps ≡ rank + 1 → AreCells old.cells.cells rank →
     playbacks cells.cells (rank + 1) ≡ playbacks old.cells.cells rank ++ filter is_left (playing turn queue port events ∷ []) → AreCells cells.cells (rank + 1) → AreFirstKeys (clients_of old) cells.cells agenda →
-    IsStepTaken old (record old { cells = cells }) agenda (added old turn queue port events) Done []
+    IsStepTaken old (record old { cells = cells }) agenda (adding_step old turn queue port events) Done []
 added-gives old turn rank queue port events cells agenda counted fresh more are keys =
-    let new : List Pending = filter is_left (playing turn queue port events ∷ []) in
+    let new : List OwnedPlayback = filter is_left (playing turn queue port events ∷ []) in
     let listed : playbacks old.cells.cells old.steps ++ new ≡ playbacks cells.cells old.steps =
     ap (λ n. playbacks old.cells.cells n ++ new) counted ∙ ap (λ ps. ps ++ new) (playbacks-later old.cells.cells rank fresh) ∙ sym more ∙ ap (playbacks cells.cells) (sym counted) in
     gone-gives old old.patchbay cells agenda _ (ap (λ ps. done (with_pending (state_of old) ps) Done) listed) (subst (AreCells cells.cells) (sym counted) are) keys
@@ -76,31 +76,31 @@ apart-if m n e same = false≢true (sym e ∙ eq-eqb m n same)
 
 module _ (old : Sequencer) (turn : Turn) (queue : QueueAddr) (port : ℕ) where
   module _ (due : DueAt) (message : List ℕ) (e : refusal_in old turn (Schedule queue port due message) ≡ None) where
-    its-queue : (x : Queue) × (queue_at (clients_of old) queue ≡ Some x) × (visible turn.actor queue.client (queue_at (clients_of old) queue) ≡ Some x)
+    its-queue : (x : Queue) × (queue_in (clients_of old) queue ≡ Some x) × (visible turn.actor queue.client (queue_in (clients_of old) queue) ≡ Some x)
     unfolding command_row
-    its-queue = visible-there turn.actor queue.client (queue_at (clients_of old) queue) (none-at (row_of old.files (state_of old) turn.moment turn.actor (Schedule queue port due message)).conditions e 3)
+    its-queue = visible-there turn.actor queue.client (queue_in (clients_of old) queue) (none-at (row_of old.files (state_of old) turn.moment turn.actor (Schedule queue port due message)).conditions e 3)
 
-    pub schedule-there : IsSome (queue_at (clients_of old) queue)
-    schedule-there = some_if (queue_at (clients_of old) queue) (ap is_some its-queue.1)
+    pub schedule-there : IsSome (queue_in (clients_of old) queue)
+    schedule-there = some_if (queue_in (clients_of old) queue) (ap is_some its-queue.1)
 
-    pub schedule-early : (x : Queue) → queue_at (clients_of old) queue ≡ Some x → passes_end turn.moment due x ≡ false
+    pub schedule-early : (x : Queue) → queue_in (clients_of old) queue ≡ Some x → passes_end turn.moment due x ≡ false
     unfolding command_row
     schedule-early x at =
         sym (ap (queue_is (passes_end turn.moment due)) (its-queue.2 ∙ sym its-queue.1 ∙ at)) ∙ none-at (row_of old.files (state_of old) turn.moment turn.actor (Schedule queue port due message)).conditions e 4
 
-    pub schedule-room : used (state_of old) turn.actor ≢ out_size (get (clients_of old) turn.actor)
+    pub schedule-room : playback_count (state_of old) turn.actor ≢ out_size (get (clients_of old) turn.actor)
     unfolding command_row
     schedule-room = apart-if _ _ (none-at (row_of old.files (state_of old) turn.moment turn.actor (Schedule queue port due message)).conditions e 5)
 
-    pub schedule-step : (d : Due) (events : List Event) → ((x : Queue) → queue_at (clients_of old) queue ≡ Some x → d ≡ due_of turn.moment x due) → events ≡ record { due = d; message = message } ∷ [] →
-        added old turn queue port events ≡ step_in old turn (Schedule queue port due message)
+    pub schedule-step : (d : Due) (events : List DueMessage) → ((x : Queue) → queue_in (clients_of old) queue ≡ Some x → d ≡ due_of turn.moment x due) → events ≡ record { due = d; message = message } ∷ [] →
+        adding_step old turn queue port events ≡ step_in old turn (Schedule queue port due message)
     schedule-step d events is are =
         let s : State = state_of old in
-        let to : List Event → Stepped = added old turn queue port in
+        let to : List DueMessage → Stepped = adding_step old turn queue port in
         let x : Queue = its-queue.0 in
         sym (schedules old.files s turn.moment turn.actor queue port due message
-        ∙ unless-none _ s (to (scheduled turn.moment (visible turn.actor queue.client (queue_at (clients_of old) queue)) due message)) e
-        ∙ ap (λ o. to (scheduled turn.moment o due message)) its-queue.2 ∙ ap (λ n. to (record { due = n; message = message } ∷ [])) (sym (is x its-queue.1)) ∙ ap to (sym are))
+        ∙ unless-none _ s (to (scheduled_events turn.moment (visible turn.actor queue.client (queue_in (clients_of old) queue)) due message)) e
+        ∙ ap (λ o. to (scheduled_events turn.moment o due message)) its-queue.2 ∙ ap (λ n. to (record { due = n; message = message } ∷ [])) (sym (is x its-queue.1)) ∙ ap to (sym are))
 
   module _ (file : ℕ) (e : refusal_in old turn (Play queue port file) ≡ None) where
     pub play-there : file_at old.files file ≢ None
@@ -108,14 +108,14 @@ module _ (old : Sequencer) (turn : Turn) (queue : QueueAddr) (port : ℕ) where
     play-there none =
         absent (file_at old.files file) none (none-at (row_of old.files (state_of old) turn.moment turn.actor (Play queue port file)).conditions e 4)
 
-    pub play-room : used (state_of old) turn.actor ≢ out_size (get (clients_of old) turn.actor)
+    pub play-room : playback_count (state_of old) turn.actor ≢ out_size (get (clients_of old) turn.actor)
     unfolding command_row
     play-room = apart-if _ _ (none-at (row_of old.files (state_of old) turn.moment turn.actor (Play queue port file)).conditions e 6)
 
-    pub play-step : (f : File) (events : List Event) → file_at old.files file ≡ Some f → events ≡ map file_event f.events → added old turn queue port events ≡ step_in old turn (Play queue port file)
+    pub play-step : (f : PlayedFile) (events : List DueMessage) → file_at old.files file ≡ Some f → events ≡ map file_event f.events → adding_step old turn queue port events ≡ step_in old turn (Play queue port file)
     play-step f events at are =
         let s : State = state_of old in
-        let to : List Event → Stepped = added old turn queue port in
+        let to : List DueMessage → Stepped = adding_step old turn queue port in
         sym (plays old.files s turn.moment turn.actor queue port file ∙ unless-none _ s (to (file_events (file_at old.files file))) e ∙ ap (λ o. to (file_events o)) at ∙ ap to (sym are))
 
 -- the events of a file that plays in order are in order

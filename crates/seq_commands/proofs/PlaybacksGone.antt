@@ -15,15 +15,15 @@ use Rattle.seq_clients.specs.Roster.{Roster, NoneShared, with_client, with_pool}
 use Rattle.seq_patchbay.specs.Network.{Network}
 use Rattle.seq_state.specs.declared.input.Command.TheVariants.{Close, DeletePort, DeleteQueue, DropOutput}
 use Rattle.seq_state.specs.declared.log.Reply.TheVariants.{Done}
-use Rattle.seq_state.specs.State.{Client, Pending, Queue, State, put, queues_of}
-use Rattle.seq_state.specs.Own.{with_change, put_port, put_queue}
+use Rattle.seq_state.specs.State.{Client, OwnedPlayback, Queue, State, with_entry, queues_of}
+use Rattle.seq_state.specs.Effect.{with_change, put_port, put_queue}
 use Rattle.seq_state.specs.Table.{command_row}
 use Rattle.seq_state.specs.Step.{Stepped, row_of, loses}
 use Rattle.seq_state.proofs.Done.{done, closes, deletes-port, deletes-queue, drops-output, lost-with-client, lost-with-node}
 use Rattle.seq_settle.specs.declared.which.Which.TheVariants.{OfPort, OnQueue, All, AllAndOnQueues}
-use Rattle.seq_settle.specs.Cells.{Cell, Left, AreCells, AreFirstKeys, pending_in, playbacks}
+use Rattle.seq_settle.specs.Cells.{PlaybackCell, RankedPlayback, AreCells, AreFirstKeys, pending_in, playbacks}
 use Rattle.seq_settle.specs.Drops.{stays}
-use Rattle.seq_settle.specs.Moments.{SameMoments, queue_at}
+use Rattle.seq_settle.specs.Moments.{SameMoments, queue_in}
 use Rattle.seq_settle.proofs.Elsewhere.{but_one, of_others, off_queue, off_queues, queues_same}
 use Rattle.seq_settle.proofs.NewKeys.{keys_stay}
 use Rattle.seq_commands.specs.declared.sequencer.Sequencer.{Sequencer}
@@ -43,10 +43,10 @@ queues-goes false true false e = cc
 queues-goes true false d e = cc
 queues-goes false false d e = cc
 
-module _ (clients : FinMap nat_cmp Client) (cells : FinMap nat_cmp Cell) (n actor : ℕ) (are : AreCells cells n) (all : list_all (is_usable clients) (playbacks cells n) ≡ true) where
+module _ (clients : FinMap nat_cmp Client) (cells : FinMap nat_cmp PlaybackCell) (n actor : ℕ) (are : AreCells cells n) (all : list_all (is_usable clients) (playbacks cells n) ≡ true) where
   -- with a private queue go its owner's
-  pub queue-alone : (queue : ℕ) → ((x : Queue) → queue_at clients (record { client = actor; queue = queue }) ≡ Some x → x.shared ≡ false) →
-      (q : ℕ) (c : Cell) → FinMap.get cells q ≡ Some c → stays actor (OnQueue queue) (pending_in c) ≡ false → c.0 ≡ actor
+  pub queue-alone : (queue : ℕ) → ((x : Queue) → queue_in clients (record { client = actor; queue = queue }) ≡ Some x → x.shared ≡ false) →
+      (q : ℕ) (c : PlaybackCell) → FinMap.get cells q ≡ Some c → stays actor (OnQueue queue) (pending_in c) ≡ false → c.0 ≡ actor
   queue-alone queue private q c here e =
       let on = queues-goes (eqb c.0 actor) (eqb c.1.queue.client actor) (eqb c.1.queue.queue queue) e in
       let at : c.1.queue ≡ record { client = actor; queue = queue } =
@@ -54,7 +54,7 @@ module _ (clients : FinMap nat_cmp Client) (cells : FinMap nat_cmp Cell) (n acto
       private-alone clients cells n (record { client = actor; queue = queue }) are all private q c here at
 
   -- and with all that a client has its own, also what waits on its queues, where none is shared
-  pub close-alone : NoneShared (queues_of (FinMap.get clients actor)) → (q : ℕ) (c : Cell) → FinMap.get cells q ≡ Some c → stays actor AllAndOnQueues (pending_in c) ≡ false → c.0 ≡ actor
+  pub close-alone : NoneShared (queues_of (FinMap.get clients actor)) → (q : ℕ) (c : PlaybackCell) → FinMap.get cells q ≡ Some c → stays actor AllAndOnQueues (pending_in c) ≡ false → c.0 ≡ actor
   close-alone none q c here e = go (eqb c.0 actor) refl (eqb c.1.queue.client actor) refl e
     where
       go : (a : Bool) → eqb c.0 actor ≡ a → (b : Bool) → eqb c.1.queue.client actor ≡ b → not ((a && true) || (b && true)) ≡ false → c.0 ≡ actor
@@ -74,27 +74,27 @@ ports-kept : (port : ℕ) (o : Option Client) → queues_of (with_change o (put_
 ports-kept port None = refl
 ports-kept port (Some c) = refl
 
-pub port-moments : (clients : FinMap nat_cmp Client) (actor port : ℕ) (q : QueueAddr) → SameMoments clients (put clients actor (with_change (FinMap.get clients actor) (put_port port None))) q
+pub port-moments : (clients : FinMap nat_cmp Client) (actor port : ℕ) (q : QueueAddr) → SameMoments clients (with_entry clients actor (with_change (FinMap.get clients actor) (put_port port None))) q
 port-moments clients actor port q = queues_same clients actor (with_change (FinMap.get clients actor) (put_port port None)) (ports-kept port (FinMap.get clients actor)) q
 
-pub queue-moments : (clients : FinMap nat_cmp Client) (actor queue : ℕ) (q : QueueAddr) → (q ≡ record { client = actor; queue = queue } → ⊥) → SameMoments clients (put clients actor (with_change (FinMap.get clients actor) (put_queue queue None))) q
+pub queue-moments : (clients : FinMap nat_cmp Client) (actor queue : ℕ) (q : QueueAddr) → (q ≡ record { client = actor; queue = queue } → ⊥) → SameMoments clients (with_entry clients actor (with_change (FinMap.get clients actor) (put_queue queue None))) q
 queue-moments clients actor queue q other = go (FinMap.get clients actor) refl
   where
-    go : (o : Option Client) → FinMap.get clients actor ≡ o → SameMoments clients (put clients actor (with_change o (put_queue queue None))) q
+    go : (o : Option Client) → FinMap.get clients actor ≡ o → SameMoments clients (with_entry clients actor (with_change o (put_queue queue None))) q
     go None e = queues_same clients actor None (ap queues_of (sym e)) q
     go (Some c) e = but_one clients actor queue c None e q other
 
 -- ---- the rows
 
 -- an accepted DeleteQueue names a queue of the actor's
-pub queue-mine : (old : Sequencer) (turn : Turn) (queue : QueueAddr) → refusal_in old turn (DeleteQueue queue) ≡ None → queue_at (clients_of old) queue ≡ queue_at (clients_of old) (record { client = turn.actor; queue = queue.queue })
+pub queue-mine : (old : Sequencer) (turn : Turn) (queue : QueueAddr) → refusal_in old turn (DeleteQueue queue) ≡ None → queue_in (clients_of old) queue ≡ queue_in (clients_of old) (record { client = turn.actor; queue = queue.queue })
 unfolding command_row
 queue-mine old turn queue e =
-    ap (λ (m : ℕ). queue_at (clients_of old) (record { client = m; queue = queue.queue }))
+    ap (λ (m : ℕ). queue_in (clients_of old) (record { client = m; queue = queue.queue }))
     (eqb-true queue.client turn.actor (not-false (eqb queue.client turn.actor) (none-at (row_of old.files (state_of old) turn.moment turn.actor (DeleteQueue queue)).conditions e 1)))
 
 -- a step that changes the clients, the subscriptions and what is still to be sent
-pub gone-gives : (old : Sequencer) (p : Network) (cells : Store Left) (agenda : Keys) (step : Stepped) → step ≡ done (state_of (record old { patchbay = p; cells = cells })) Done →
+pub gone-gives : (old : Sequencer) (p : Network) (cells : Store RankedPlayback) (agenda : Keys) (step : Stepped) → step ≡ done (state_of (record old { patchbay = p; cells = cells })) Done →
     AreCells cells.cells old.steps → AreFirstKeys p.clients.clients cells.cells agenda → IsStepTaken old (record old { patchbay = p; cells = cells }) agenda step Done []
 gone-gives old p cells agenda step is are keys = record {
   state = sym (ap (λ (x : Stepped). x.state) is);
@@ -106,10 +106,10 @@ gone-gives old p cells agenda step is are keys = record {
   steps = refl;
 }
 
-abbrev pub with_pending : State → List Pending → State
+abbrev pub with_pending : State → List OwnedPlayback → State
 with_pending s ps = record s { pending = ps }
 
-module _ (old : Sequencer) (turn : Turn) (cells : Store Left) (agenda : Keys) (are : AreCells cells.cells old.steps) where
+module _ (old : Sequencer) (turn : Turn) (cells : Store RankedPlayback) (agenda : Keys) (are : AreCells cells.cells old.steps) where
   pub drop-gives : refusal_in old turn DropOutput ≡ None → playbacks cells.cells old.steps ≡ filter (stays turn.actor All) (playbacks old.cells.cells old.steps) → AreFirstKeys (clients_of old) cells.cells agenda →
       IsStepTaken old (record old { cells = cells }) agenda (step_in old turn DropOutput) Done []
   drop-gives e left keys =
@@ -123,8 +123,8 @@ module _ (old : Sequencer) (turn : Turn) (cells : Store Left) (agenda : Keys) (a
       IsStepTaken old (record old { patchbay = record { clients = clients; graph = graph }; cells = cells }) agenda (step_in old turn (DeletePort port)) Done []
   port-gives port clients graph e left keys edges own =
       let s : State = state_of old in
-      let then : FinMap nat_cmp Client = put s.clients turn.actor (with_change (FinMap.get s.clients turn.actor) (put_port port None)) in
-      let to : FinMap nat_cmp Client → List Edge → List Pending → Stepped = λ m es ps. done (record s { clients = m; edges = es; pending = ps }) Done in
+      let then : FinMap nat_cmp Client = with_entry s.clients turn.actor (with_change (FinMap.get s.clients turn.actor) (put_port port None)) in
+      let to : FinMap nat_cmp Client → List Edge → List OwnedPlayback → Stepped = λ m es ps. done (record s { clients = m; edges = es; pending = ps }) Done in
       let same : AreFirstKeys then cells.cells agenda = keys_stay s.clients then cells.cells agenda (λ q c at. port-moments s.clients turn.actor port c.1.queue) keys in
       gone-gives old (record { clients = clients; graph = graph }) cells agenda _
       (deletes-port old.files s turn.moment turn.actor port ∙ unless-none _ s (to then (filter (λ x. not (loses turn.actor (same_node (Port port)) x)) s.edges) (filter (stays turn.actor (OfPort port)) s.pending)) e
@@ -133,29 +133,30 @@ module _ (old : Sequencer) (turn : Turn) (cells : Store Left) (agenda : Keys) (a
       ∙ ap (λ (r : Roster). done (record s { clients = r.clients; pools = r.pools; edges = graph; pending = playbacks cells.cells old.steps }) Done) (sym own))
       are (subst (λ (r : Roster). AreFirstKeys r.clients cells.cells agenda) (sym own) same)
 
-  pub queue-gives : (queue : QueueAddr) (clients : Roster) → refusal_in old turn (DeleteQueue queue) ≡ None → playbacks cells.cells old.steps ≡ filter (stays turn.actor (OnQueue queue.queue)) (playbacks old.cells.cells old.steps) →
-      AreFirstKeys (clients_of old) cells.cells agenda → ((q : ℕ) (c : Cell) → FinMap.get cells.cells q ≡ Some c → stays turn.actor (OnQueue queue.queue) (pending_in c) ≡ true) →
-      clients ≡ with_client old.patchbay.clients turn.actor (with_change (FinMap.get (clients_of old) turn.actor) (put_queue queue.queue None)) →
-      IsStepTaken old (record old { patchbay = record old.patchbay { clients = clients }; cells = cells }) agenda (step_in old turn (DeleteQueue queue)) Done []
-  queue-gives queue clients e left keys on own =
+  pub queue-gives : (queue : QueueAddr) (clients : Roster) (graph : List Edge) → refusal_in old turn (DeleteQueue queue) ≡ None → playbacks cells.cells old.steps ≡ filter (stays turn.actor (OnQueue queue.queue)) (playbacks old.cells.cells old.steps) →
+      AreFirstKeys (clients_of old) cells.cells agenda → ((q : ℕ) (c : PlaybackCell) → FinMap.get cells.cells q ≡ Some c → stays turn.actor (OnQueue queue.queue) (pending_in c) ≡ true) →
+      clients ≡ with_client old.patchbay.clients turn.actor (with_change (FinMap.get (clients_of old) turn.actor) (put_queue queue.queue None)) → graph ≡ old.patchbay.graph →
+      IsStepTaken old (record old { patchbay = record { clients = clients; graph = graph }; cells = cells }) agenda (step_in old turn (DeleteQueue queue)) Done []
+  queue-gives queue clients graph e left keys on own edges =
       let s : State = state_of old in
-      let then : FinMap nat_cmp Client = put s.clients turn.actor (with_change (FinMap.get s.clients turn.actor) (put_queue queue.queue None)) in
-      let to : FinMap nat_cmp Client → List Pending → Stepped = λ m ps. done (record s { clients = m; pending = ps }) Done in
+      let then : FinMap nat_cmp Client = with_entry s.clients turn.actor (with_change (FinMap.get s.clients turn.actor) (put_queue queue.queue None)) in
+      let to : FinMap nat_cmp Client → List OwnedPlayback → Stepped = λ m ps. done (record s { clients = m; pending = ps }) Done in
       let same : AreFirstKeys then cells.cells agenda = keys_stay s.clients then cells.cells agenda (λ q c at. queue-moments s.clients turn.actor queue.queue c.1.queue (off_queue turn.actor queue.queue (pending_in c) (on q c at))) keys in
-      gone-gives old (record old.patchbay { clients = clients }) cells agenda _
+      gone-gives old (record { clients = clients; graph = graph }) cells agenda _
       (deletes-queue old.files s turn.moment turn.actor queue ∙ unless-none _ s (to then (filter (stays turn.actor (OnQueue queue.queue)) s.pending)) e
       ∙ ap (to then) (sym left)
-      ∙ ap (λ (r : Roster). done (record s { clients = r.clients; pools = r.pools; pending = playbacks cells.cells old.steps }) Done) (sym own))
+      ∙ ap (λ (r : Roster). done (record s { clients = r.clients; pools = r.pools; pending = playbacks cells.cells old.steps }) Done) (sym own)
+      ∙ ap (λ es. done (record s { clients = clients.clients; pools = clients.pools; edges = es; pending = playbacks cells.cells old.steps }) Done) (sym edges))
       are (subst (λ (r : Roster). AreFirstKeys r.clients cells.cells agenda) (sym own) same)
 
   pub close-gives : (clients : Roster) (graph : List Edge) → refusal_in old turn Close ≡ None → playbacks cells.cells old.steps ≡ filter (stays turn.actor AllAndOnQueues) (playbacks old.cells.cells old.steps) →
-      AreFirstKeys (clients_of old) cells.cells agenda → ((q : ℕ) (c : Cell) → FinMap.get cells.cells q ≡ Some c → stays turn.actor AllAndOnQueues (pending_in c) ≡ true) →
+      AreFirstKeys (clients_of old) cells.cells agenda → ((q : ℕ) (c : PlaybackCell) → FinMap.get cells.cells q ≡ Some c → stays turn.actor AllAndOnQueues (pending_in c) ≡ true) →
       graph ≡ filter (λ e. not (touches_client turn.actor e)) old.patchbay.graph → clients ≡ with_pool (with_client old.patchbay.clients turn.actor None) turn.actor None →
       IsStepTaken old (record old { patchbay = record { clients = clients; graph = graph }; cells = cells }) agenda (step_in old turn Close) Done []
   close-gives clients graph e left keys on edges own =
       let s : State = state_of old in
-      let then : FinMap nat_cmp Client = put s.clients turn.actor None in
-      let to : List Edge → List Pending → Stepped = λ es ps. done (record { clients = then; pools = put s.pools turn.actor None; edges = es; pending = ps }) Done in
+      let then : FinMap nat_cmp Client = with_entry s.clients turn.actor None in
+      let to : List Edge → List OwnedPlayback → Stepped = λ es ps. done (record { clients = then; pools = with_entry s.pools turn.actor None; edges = es; pending = ps }) Done in
       let same : AreFirstKeys then cells.cells agenda = keys_stay s.clients then cells.cells agenda (λ q c at. of_others s.clients turn.actor None c.1.queue (off_queues turn.actor (pending_in c) (on q c at))) keys in
       gone-gives old (record { clients = clients; graph = graph }) cells agenda _
       (closes old.files s turn.moment turn.actor ∙ unless-none _ s (to (filter (λ x. not (loses turn.actor (λ n. true) x)) s.edges) (filter (stays turn.actor AllAndOnQueues) s.pending)) e

@@ -2,13 +2,13 @@
 use Rattle.std.proofs.Common.{◌≡◌, ℕ, List, [], Option, Some, None, refl, sym, ap, ◌∙◌}
 use Rattle.std.specs.FinMap
 use Rattle.cell_pools.specs.Cells.{used_by}
-use Rattle.seq_clients.specs.Roster.{Roster, with_pool, waiting, lost}
+use Rattle.seq_clients.specs.Roster.{Roster, with_pool, waiting, lost_count}
 use Rattle.seq_state.specs.declared.input.Command.TheVariants.{Receive, PoolStatus}
 use Rattle.seq_state.specs.declared.log.Arrival.{Arrival}
 use Rattle.seq_state.specs.declared.log.Reply.TheVariants.{Pools, Received}
-use Rattle.seq_state.specs.State.{ClientPool, State, put}
-use Rattle.seq_state.specs.Own.{oldest, without_oldest, pool_status}
-use Rattle.seq_state.specs.Step.{used}
+use Rattle.seq_state.specs.State.{ClientPool, State, with_entry}
+use Rattle.seq_state.specs.Effect.{oldest, without_oldest, pool_status}
+use Rattle.seq_state.specs.Step.{playback_count}
 use Rattle.seq_state.proofs.Done.{done}
 use Rattle.seq_state.proofs.Effects.{step-takes, step-asks}
 use Rattle.seq_settle.specs.Cells.{AreCells}
@@ -25,23 +25,23 @@ pub receive-gives : (old : Sequencer) (turn : Turn) (max : ℕ) (items : List Ar
 receive-gives old turn max items clients e told left =
     let s : State = state_of old in
     let o : Option ClientPool = FinMap.get s.pools turn.actor in
-    let taken : State = record s { pools = put s.pools turn.actor (without_oldest max o) } in
+    let taken : State = record s { pools = with_entry s.pools turn.actor (without_oldest max o) } in
     kept-gives old (record old.patchbay { clients = clients }) _ (Received items) (ap (λ (r : Roster). r.clients) left)
     (step-takes old.files s turn.moment turn.actor max ∙ unless-none _ s (done taken (Received (oldest max o))) e
     ∙ ap (λ (r : Roster). done (record s { clients = r.clients; pools = r.pools }) (Received (oldest max o))) (sym left)
     ∙ ap (λ x. done (record s { clients = clients.clients; pools = clients.pools }) (Received x)) (sym told))
 
-told : (o : Option ClientPool) (n : ℕ) → pool_status n o ≡ Pools (waiting o) (lost o) n
+told : (o : Option ClientPool) (n : ℕ) → pool_status n o ≡ Pools (waiting o) (lost_count o) n
 told None n = refl
 told (Some p) n = refl
 
 pub status-gives : (old : Sequencer) (turn : Turn) (w l n : ℕ) → refusal_in old turn PoolStatus ≡ None → AreCells old.cells.cells old.steps →
-    w ≡ waiting (FinMap.get old.patchbay.clients.pools turn.actor) → l ≡ lost (FinMap.get old.patchbay.clients.pools turn.actor) → n ≡ used_by old.cells.cells turn.actor →
+    w ≡ waiting (FinMap.get old.patchbay.clients.pools turn.actor) → l ≡ lost_count (FinMap.get old.patchbay.clients.pools turn.actor) → n ≡ used_by old.cells.cells turn.actor →
     IsStepTakenUnkeyed old old (step_in old turn PoolStatus) (Pools w l n) []
 status-gives old turn w l n e are is_waiting is_lost is_used =
     let s : State = state_of old in
     let o : Option ClientPool = FinMap.get s.pools turn.actor in
     kept-gives old old.patchbay _ (Pools w l n) refl
-    (step-asks old.files s turn.moment turn.actor ∙ unless-none _ s (done s (pool_status (used s turn.actor) o)) e
+    (step-asks old.files s turn.moment turn.actor ∙ unless-none _ s (done s (pool_status (playback_count s turn.actor) o)) e
     ∙ ap (λ x. done s (pool_status x o)) (sym (is_used ∙ used_is old.cells.cells old.steps turn.actor are))
-    ∙ ap (done s) (told o n ∙ ap (λ x. Pools x (lost o) n) (sym is_waiting) ∙ ap (λ x. Pools w x n) (sym is_lost)))
+    ∙ ap (done s) (told o n ∙ ap (λ x. Pools x (lost_count o) n) (sym is_waiting) ∙ ap (λ x. Pools w x n) (sym is_lost)))

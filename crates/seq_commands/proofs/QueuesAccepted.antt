@@ -7,12 +7,12 @@ use Rattle.tempo_clock.specs.Entries.{is_ppq, is_tempo}
 use Rattle.node_table.specs.declared.number.QueueAddr.{QueueAddr}
 use Rattle.seq_state.specs.declared.input.Command.{Command}
 use Rattle.seq_state.specs.declared.input.Command.TheVariants.{CreateQueue, CreateQueueFrom, Start, Stop, Continue, Tempo, QueueStatus}
-use Rattle.seq_state.specs.Files.{File}
+use Rattle.smf_grammar.specs.Played.{PlayedFile}
 use Rattle.seq_state.specs.State.{Client, Queue, State}
-use Rattle.seq_state.specs.Own.{queue_of, queue_is, runs, counts_frames, file_at}
-use Rattle.seq_state.specs.Table.{Asked, first_refusal, not_open, not_yours, no_queue, queue_running, command_row, visible}
-use Rattle.seq_state.specs.Step.{asked, row_of, refusal_of, named_queue}
-use Rattle.seq_settle.specs.Moments.{queue_at}
+use Rattle.seq_state.specs.Effect.{queue_of, queue_is, runs, counts_frames, file_at}
+use Rattle.seq_state.specs.Table.{CommandView, first_refusal, not_open, not_yours, no_queue, queue_running, command_row, visible}
+use Rattle.seq_state.specs.Step.{view_of, row_of, refusal_of, named_queue}
+use Rattle.seq_settle.specs.Moments.{queue_in}
 use Rattle.seq_clients.proofs.Tested.{none_if_not, some_if}
 use Rattle.seq_commands.proofs.ClientsAccepted.{NoneHold, none-hold}
 
@@ -21,7 +21,7 @@ tested : (test : Queue → Bool) (b : Bool) (o : Option Queue) → queue_is test
 tested test b o h x e = sym (ap (queue_is test) e) ∙ h
 
 -- the actor's own queue, where it is held
-held-own : (a : Asked) (q : QueueAddr) → first_refusal (not_open a ∷ not_yours a q ∷ no_queue a q ∷ queue_running a q ∷ []) ≡ None →
+held-own : (a : CommandView) (q : QueueAddr) → first_refusal (not_open a ∷ not_yours a q ∷ no_queue a q ∷ queue_running a q ∷ []) ≡ None →
     (q.client ≡ a.actor) × ((x : Queue) → queue_of a.client q.queue ≡ Some x → x.clock.since ≡ None)
 held-own a q e =
     let h = none-hold (not_open a ∷ not_yours a q ∷ no_queue a q ∷ queue_running a q ∷ []) e in
@@ -36,7 +36,7 @@ visible-there actor owner (Some x) e = go (eqb owner actor || x.shared) e
     go true t = refl
     go false t = absurd (false≢true t)
 
-module _ (files : List File) (s : State) (moment actor : ℕ) where
+module _ (files : List PlayedFile) (s : State) (moment actor : ℕ) where
   abbrev client : Option Client
   client = FinMap.get s.clients actor
 
@@ -60,11 +60,11 @@ module _ (files : List File) (s : State) (moment actor : ℕ) where
 
   pub accepted-start : (q : QueueAddr) → accepts (Start q) → (q.client ≡ actor) × ((x : Queue) → queue_of client q.queue ≡ Some x → x.clock.since ≡ None)
   unfolding command_row
-  accepted-start q e = held-own (asked files s moment actor (Start q)) q e
+  accepted-start q e = held-own (view_of files s moment actor (Start q)) q e
 
   pub accepted-continue : (q : QueueAddr) → accepts (Continue q) → (q.client ≡ actor) × ((x : Queue) → queue_of client q.queue ≡ Some x → x.clock.since ≡ None)
   unfolding command_row
-  accepted-continue q e = held-own (asked files s moment actor (Continue q)) q e
+  accepted-continue q e = held-own (view_of files s moment actor (Continue q)) q e
 
   pub accepted-stop : (q : QueueAddr) → accepts (Stop q) → (q.client ≡ actor) × ((x : Queue) → queue_of client q.queue ≡ Some x → IsSome x.clock.since)
   unfolding command_row
@@ -84,10 +84,10 @@ module _ (files : List File) (s : State) (moment actor : ℕ) where
         λ x at. leb-false 32768 x.clock.map.division (tested counts_frames false (queue_of client q.queue) n.1 x at),
       )
 
-  pub accepted-status : (q : QueueAddr) → accepts (QueueStatus q) → (is_some (queue_at s.clients q) ≡ true) × (named_queue s.clients actor (Some q) ≡ queue_at s.clients q)
+  pub accepted-status : (q : QueueAddr) → accepts (QueueStatus q) → (is_some (queue_in s.clients q) ≡ true) × (named_queue s.clients actor (Some q) ≡ queue_in s.clients q)
   unfolding command_row
   accepted-status q e =
       let h = no-condition (QueueStatus q) e in
-      let there : is_some (visible actor q.client (queue_at s.clients q)) ≡ true = not-false (is_some (visible actor q.client (queue_at s.clients q))) h.1.1.0 in
-      let same : visible actor q.client (queue_at s.clients q) ≡ queue_at s.clients q = visible-there actor q.client (queue_at s.clients q) there in
+      let there : is_some (visible actor q.client (queue_in s.clients q)) ≡ true = not-false (is_some (visible actor q.client (queue_in s.clients q))) h.1.1.0 in
+      let same : visible actor q.client (queue_in s.clients q) ≡ queue_in s.clients q = visible-there actor q.client (queue_in s.clients q) there in
       (sym (ap is_some same) ∙ there, same)

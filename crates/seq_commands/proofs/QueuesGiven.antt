@@ -8,8 +8,8 @@ use Rattle.std.specs.FinMap.{FinMap}
 use Rattle.std.proofs.lemmas.Bool.{false≢true, eqb-true}
 use Rattle.smf_grammar.specs.Contents.{entries_of}
 use Rattle.smf_grammar.specs.Files.{MidiFile}
-use Rattle.smf_grammar.specs.Played.{played}
-use Rattle.tempo_clock.specs.Clocks.{Clock, elapsed}
+use Rattle.smf_grammar.specs.Played.{as_played}
+use Rattle.tempo_clock.specs.Clocks.{Clock, elapsed_time}
 use Rattle.tempo_clock.specs.Ticks.{Tempos, tick_at}
 use Rattle.tempo_clock.specs.declared.due.Due.{Due}
 use Rattle.tempo_clock.proofs.Moments.{moment-held}
@@ -17,13 +17,13 @@ use Rattle.node_table.specs.declared.number.QueueAddr.{QueueAddr}
 use Rattle.seq_state.specs.declared.input.Command.TheVariants.{QueueStatus}
 use Rattle.seq_state.specs.declared.log.Reply.{Reply}
 use Rattle.seq_state.specs.declared.log.Reply.TheVariants as replies
-use Rattle.seq_state.specs.Files.{File}
-use Rattle.seq_state.specs.State.{Client, Queue, put, queues_of}
-use Rattle.seq_state.specs.Own.{with_change, put_queue, queue_of, queue_is, queue_map, queue_changed, queue_status, public, held_queue, file_queue}
+use Rattle.smf_grammar.specs.Played.{PlayedFile}
+use Rattle.seq_state.specs.State.{Client, Queue, with_entry, queues_of}
+use Rattle.seq_state.specs.Effect.{with_change, put_queue, queue_of, queue_is, queue_map, queue_changed, queue_status, public, held_queue, file_queue}
 use Rattle.seq_state.specs.Step.{moment_in, named_queue}
 use Rattle.seq_state.proofs.Done.{done, tells-queue}
-use Rattle.seq_settle.specs.Moments.{queue_at, moment_at, SameMoments}
-use Rattle.seq_settle.specs.Cells.{Cell, AreFirstKeys}
+use Rattle.seq_settle.specs.Moments.{queue_in, moment_at, SameMoments}
+use Rattle.seq_settle.specs.Cells.{PlaybackCell, AreFirstKeys}
 use Rattle.seq_settle.specs.Rekeyed.{OthersSame}
 use Rattle.seq_settle.proofs.Elsewhere.{queues_same, but_one, of_others}
 use Rattle.seq_settle.proofs.Stores.{get-put_here}
@@ -39,10 +39,10 @@ use Rattle.seq_commands.proofs.QueuesAccepted.{accepted-status}
 
 -- all other queues give the same
 others-same : (clients : FinMap nat_cmp Client) (actor : ℕ) (queue : QueueAddr) (f : Queue → Queue) → queue.client ≡ actor →
-    OthersSame clients (put clients actor (queue_changed (FinMap.get clients actor) queue.queue f)) queue
+    OthersSame clients (with_entry clients actor (queue_changed (FinMap.get clients actor) queue.queue f)) queue
 others-same clients actor queue f own other apart = go (FinMap.get clients actor) refl
   where
-    go : (o : Option Client) → FinMap.get clients actor ≡ o → SameMoments clients (put clients actor (queue_changed o queue.queue f)) other
+    go : (o : Option Client) → FinMap.get clients actor ≡ o → SameMoments clients (with_entry clients actor (queue_changed o queue.queue f)) other
     go None e = queues_same clients actor None (sym (ap queues_of e)) other
     go (Some c) e =
         but_one clients actor queue.queue c (queue_map f (FinMap.get c.queues queue.queue)) e other
@@ -56,8 +56,8 @@ keys-before old actor queue f r agenda own e keys =
     (clients_of old, λ other apart accepted due. others-same (clients_of old) actor queue f own other apart accepted due ∙ ap (λ (x : Roster). moment_at x.clients other accepted due) (sym e), keys)
 
 -- nobody else has anything on a private queue
-pub owner-alone : (old : Sequencer) (agenda : Keys) (now : ℕ) (queue : QueueAddr) (foreign : Bool) → IsWhole old agenda now → foreign ≡ queue_is (λ q. q.shared) (queue_at (clients_of old) queue) →
-    foreign ≡ false → (q : ℕ) (c : Cell) → FinMap.get old.cells.cells q ≡ Some c → c.1.queue ≡ queue → c.0 ≡ queue.client
+pub owner-alone : (old : Sequencer) (agenda : Keys) (now : ℕ) (queue : QueueAddr) (foreign : Bool) → IsWhole old agenda now → foreign ≡ queue_is (λ q. q.shared) (queue_in (clients_of old) queue) →
+    foreign ≡ false → (q : ℕ) (c : PlaybackCell) → FinMap.get old.cells.cells q ≡ Some c → c.1.queue ≡ queue → c.0 ≡ queue.client
 owner-alone old agenda now queue foreign whole is private q c here on =
     private-alone (clients_of old) old.cells.cells old.steps queue whole.cells whole.sound.usable (λ x e. sym (ap (queue_is (λ q. q.shared)) e) ∙ sym is ∙ private) q c here on
 
@@ -69,18 +69,18 @@ placed n (Some q) c = get-put_here c.queues n (Some q)
 
 module _ (clients : FinMap nat_cmp Client) (actor n : ℕ) (x : Option Queue) where
   itself : (c : Client) → FinMap.get clients actor ≡ Some c → ((accepted : ℕ) (due : Due) → moment_in (FinMap.get c.queues n) accepted due ≡ moment_in x accepted due) →
-      SameMoments clients (put clients actor (Some (put_queue n x c))) (record { client = actor; queue = n })
+      SameMoments clients (with_entry clients actor (Some (put_queue n x c))) (record { client = actor; queue = n })
   itself c here same accepted due =
       ap (λ o. moment_in (FinMap.get (queues_of o) n) accepted due) here ∙ same accepted due
       ∙ ap (λ o. moment_in o accepted due) (sym (placed n x c))
       ∙ ap (λ o. moment_in (FinMap.get (queues_of o) n) accepted due) (sym (get-put_here clients actor (Some (put_queue n x c))))
 
   pub replaced-same : ((accepted : ℕ) (due : Due) → moment_in (queue_of (FinMap.get clients actor) n) accepted due ≡ moment_in x accepted due) →
-      (q : QueueAddr) → SameMoments clients (put clients actor (with_change (FinMap.get clients actor) (put_queue n x))) q
+      (q : QueueAddr) → SameMoments clients (with_entry clients actor (with_change (FinMap.get clients actor) (put_queue n x))) q
   replaced-same same q = go (FinMap.get clients actor) refl same
     where
       at : (c : Client) → FinMap.get clients actor ≡ Some c → ((accepted : ℕ) (due : Due) → moment_in (FinMap.get c.queues n) accepted due ≡ moment_in x accepted due) → (a b : Bool) →
-          eqb q.client actor ≡ a → eqb q.queue n ≡ b → SameMoments clients (put clients actor (Some (put_queue n x c))) q
+          eqb q.client actor ≡ a → eqb q.queue n ≡ b → SameMoments clients (with_entry clients actor (Some (put_queue n x c))) q
       at c here same false b t u = of_others clients actor (Some (put_queue n x c)) q (λ m. false≢true (sym t ∙ eq-eqb q.client actor m))
       at c here same true false t u = but_one clients actor n c x here q (λ m. false≢true (sym u ∙ eq-eqb q.queue n (ap (λ (a : QueueAddr). a.queue) m)))
       at c here same true true t u =
@@ -88,10 +88,10 @@ module _ (clients : FinMap nat_cmp Client) (actor n : ℕ) (x : Option Queue) wh
           ap (λ y. let a : QueueAddr = record { client = y; queue = q.queue } in a) (eqb-true q.client actor t)
           ∙ ap (λ y. let a : QueueAddr = record { client = actor; queue = y } in a) (eqb-true q.queue n u) in
           λ accepted due.
-          ap (λ a. moment_at clients a accepted due) is ∙ itself c here same accepted due ∙ ap (λ a. moment_at (put clients actor (Some (put_queue n x c))) a accepted due) (sym is)
+          ap (λ a. moment_at clients a accepted due) is ∙ itself c here same accepted due ∙ ap (λ a. moment_at (with_entry clients actor (Some (put_queue n x c))) a accepted due) (sym is)
 
       go : (o : Option Client) → FinMap.get clients actor ≡ o → ((accepted : ℕ) (due : Due) → moment_in (queue_of o n) accepted due ≡ moment_in x accepted due) →
-          SameMoments clients (put clients actor (with_change o (put_queue n x))) q
+          SameMoments clients (with_entry clients actor (with_change o (put_queue n x))) q
       go None e h = queues_same clients actor None (sym (ap queues_of e)) q
       go (Some c) e h = at c e h (eqb q.client actor) (eqb q.queue n) refl refl
 
@@ -106,14 +106,14 @@ held-same o m accepted due e = ap (λ x. moment_in x accepted due) e ∙ sym (mo
 
 -- ---- what a queue shows
 
-pub status-told : (moment : ℕ) (x : Queue) (k : Clock) (running : Bool) (tick nanos : ℕ) → k ≡ x.clock → running ≡ is_some k.since → tick ≡ tick_at k.map (elapsed k moment) → nanos ≡ elapsed k moment →
+pub status-told : (moment : ℕ) (x : Queue) (k : Clock) (running : Bool) (tick nanos : ℕ) → k ≡ x.clock → running ≡ is_some k.since → tick ≡ tick_at k.map (elapsed_time k moment) → nanos ≡ elapsed_time k moment →
     queue_status moment (Some x) ≡ replies.Queue running tick nanos
 status-told moment x k running tick nanos is a b d =
-    ap (λ (y : Clock). replies.Queue (is_some y.since) (tick_at y.map (elapsed y moment)) (elapsed y moment)) (sym is)
-    ∙ ap (λ y. replies.Queue y (tick_at k.map (elapsed k moment)) (elapsed k moment)) (sym a)
-    ∙ ap (λ y. replies.Queue running y (elapsed k moment)) (sym b) ∙ ap (replies.Queue running tick) (sym d)
+    ap (λ (y : Clock). replies.Queue (is_some y.since) (tick_at y.map (elapsed_time y moment)) (elapsed_time y moment)) (sym is)
+    ∙ ap (λ y. replies.Queue y (tick_at k.map (elapsed_time k moment)) (elapsed_time k moment)) (sym a)
+    ∙ ap (λ y. replies.Queue running y (elapsed_time k moment)) (sym b) ∙ ap (replies.Queue running tick) (sym d)
 
-pub status-given : (old : Sequencer) (turn : Turn) (q : QueueAddr) (x : Queue) (reply : Reply) → refusal_in old turn (QueueStatus q) ≡ None → queue_at (clients_of old) q ≡ Some x →
+pub status-given : (old : Sequencer) (turn : Turn) (q : QueueAddr) (x : Queue) (reply : Reply) → refusal_in old turn (QueueStatus q) ≡ None → queue_in (clients_of old) q ≡ Some x →
     queue_status turn.moment (Some x) ≡ reply → IsStepTakenUnkeyed old old (step_in old turn (QueueStatus q)) reply []
 status-given old turn q x reply accepted here told =
     let named : named_queue (clients_of old) turn.actor (Some q) ≡ Some x = (accepted-status old.files (state_of old) turn.moment turn.actor q accepted).1 ∙ here in
@@ -125,6 +125,6 @@ status-given old turn q x reply accepted here told =
 -- ---- a queue with the tempo map of a file
 
 -- the map of a file that is there
-pub file-queue : (o : Option MidiFile) (wanted : Option File) (f : MidiFile) (m : Tempos) → o ≡ Some f → option_map played o ≡ wanted → m ≡ record { division = f.division; entries = entries_of f } →
+pub file-queue : (o : Option MidiFile) (wanted : Option PlayedFile) (f : MidiFile) (m : Tempos) → o ≡ Some f → option_map as_played o ≡ wanted → m ≡ record { division = f.division; entries = entries_of f } →
     file_queue wanted ≡ Some (held_queue m)
-file-queue o wanted f m there is same = sym (ap file_queue (sym (ap (option_map played) there) ∙ is)) ∙ ap (λ x. Some (held_queue x)) (sym same)
+file-queue o wanted f m there is same = sym (ap file_queue (sym (ap (option_map as_played) there) ∙ is)) ∙ ap (λ x. Some (held_queue x)) (sym same)

@@ -18,16 +18,16 @@ use Rattle.seq_state.specs.declared.log.Delivery.{Delivery}
 use Rattle.seq_state.specs.declared.log.Reply.{Reply}
 use Rattle.seq_state.specs.declared.log.Reply.TheVariants.{Done, Messages}
 use Rattle.seq_state.specs.declared.refusal.Refusal.TheVariants.{NotOpen, NoNode}
-use Rattle.seq_state.specs.State.{PortInfo, Client, ClientPool, State, filters_of, put}
-use Rattle.seq_state.specs.Own.{with_change, has_port, put_port, port_fed, port_of, fed_of}
-use Rattle.seq_state.specs.Copies.{filter_at, passed_by, carried, copy}
+use Rattle.seq_state.specs.State.{PortInfo, Client, ClientPool, State, filters_of, with_entry}
+use Rattle.seq_state.specs.Effect.{with_change, has_port, put_port, port_fed, port_of, fed_of}
+use Rattle.seq_state.specs.Copies.{filter_at, passed_by, copy_on_path, copy}
 use Rattle.seq_state.specs.Table.{from_port, command_row, first_refusal}
-use Rattle.seq_state.specs.Step.{Stepped, port_addr, offered, delivered, sent, stepped, send_copies}
+use Rattle.seq_state.specs.Step.{Stepped, port_addr, pools_after, copies_with_room, with_copies, with_reply, send_copies}
 use Rattle.seq_state.proofs.Effects.{get-put}
 use Rattle.seq_state.proofs.Done.{feeds, sends}
 use Rattle.seq_clients.specs.Roster.{Roster, with_client}
 use Rattle.seq_settle.specs.Moments.{moment_at, SameMoments}
-use Rattle.seq_settle.specs.Cells.{seen}
+use Rattle.seq_settle.specs.Cells.{seen_state}
 use Rattle.seq_settle.specs.Sends.{copies_of}
 use Rattle.seq_settle.proofs.NewKeys.{keys_stay}
 use Rattle.seq_settle.proofs.Elsewhere.{queues_same}
@@ -52,11 +52,11 @@ module _ (a b : FinMap nat_cmp Client) (same : SameFilters a b) where
   and-then None f g e = refl
   and-then (Some m) f g e = e m
 
-  carried-same : (es : List Edge) (message : List ℕ) → carried a es message ≡ carried b es message
+  carried-same : (es : List Edge) (message : List ℕ) → copy_on_path a es message ≡ copy_on_path b es message
   carried-same [] message = refl
   carried-same (e ∷ es) message =
-      ap (λ o. option_and_then (carried a es) (passed_by o message)) (filter-same e.target.client e.target.node)
-      ∙ and-then (passed_by (filter_at b e.target.client e.target.node) message) (carried a es) (carried b es) (carried-same es)
+      ap (λ o. option_and_then (copy_on_path a es) (passed_by o message)) (filter-same e.target.client e.target.node)
+      ∙ and-then (passed_by (filter_at b e.target.client e.target.node) message) (copy_on_path a es) (copy_on_path b es) (carried-same es)
 
   filter_map-agree : {X Y : Type 0} (f g : X → Option Y) → ((x : X) → f x ≡ g x) → (xs : List X) → filter_map f xs ≡ filter_map g xs
   filter_map-agree f g h [] = refl
@@ -68,7 +68,7 @@ module _ (a b : FinMap nat_cmp Client) (same : SameFilters a b) where
 
   copies-same : (edges : List Edge) (moment client port : ℕ) (message : List ℕ) → copies_of a edges moment client port message ≡ copies_of b edges moment client port message
   copies-same edges moment client port message =
-      filter_map-agree (λ p. copy moment (end_of (port_addr client port) p) (carried a p message)) (λ p. copy moment (end_of (port_addr client port) p) (carried b p message))
+      filter_map-agree (λ p. copy moment (end_of (port_addr client port) p) (copy_on_path a p message)) (λ p. copy moment (end_of (port_addr client port) p) (copy_on_path b p message))
       (λ p. ap (copy moment (end_of (port_addr client port) p)) (carried-same p message)) (paths edges (port_addr client port))
 
   all-same : (edges : List Edge) (moment client port : ℕ) (messages : List (List ℕ)) → copies_of_all a edges moment client port messages ≡ copies_of_all b edges moment client port messages
@@ -83,7 +83,7 @@ put_port-filters n (Some p) None = refl
 put_port-filters n (Some p) (Some c) = refl
 
 -- a port's stream changes no filter
-ports-apart : (clients : FinMap nat_cmp Client) (actor n : ℕ) (o : Option PortInfo) → SameFilters (put clients actor (with_change (FinMap.get clients actor) (put_port n o))) clients
+ports-apart : (clients : FinMap nat_cmp Client) (actor n : ℕ) (o : Option PortInfo) → SameFilters (with_entry clients actor (with_change (FinMap.get clients actor) (put_port n o))) clients
 ports-apart clients actor n o c = ap filters_of (get-put clients actor (with_change (FinMap.get clients actor) (put_port n o)) c) ∙ go (eqb c actor) refl
   where
     go : (b : Bool) → eqb c actor ≡ b → filters_of (cond b (with_change (FinMap.get clients actor) (put_port n o)) (FinMap.get clients c)) ≡ filters_of (FinMap.get clients c)
@@ -103,7 +103,7 @@ module _ (s : Sequencer) (t : Turn) where
 
   -- the state without what is sent
   abbrev pub fed_state : ℕ → List ℕ → State
-  fed_state port bytes = record (state_of s) { clients = put (clients_of s) t.actor (with_change its (put_port port (port_fed bytes (port_of its port)))) }
+  fed_state port bytes = record (state_of s) { clients = with_entry (clients_of s) t.actor (with_change its (put_port port (port_fed bytes (port_of its port)))) }
 
   abbrev pub fed_messages : ℕ → List ℕ → List (List ℕ)
   fed_messages port bytes = reading (fed_of (port_of its port) ++ bytes)
@@ -113,10 +113,10 @@ module _ (s : Sequencer) (t : Turn) where
   fed_copies port bytes = copies_of_all (fed_state port bytes).clients s.patchbay.graph t.moment t.actor port (fed_messages port bytes)
 
   pub bytes-step : (port : ℕ) (bytes : List ℕ) → refusal_in s t (Bytes port bytes) ≡ None →
-      step_in s t (Bytes port bytes) ≡ stepped (sent (fed_state port bytes) (fed_copies port bytes)) (Messages (length (fed_messages port bytes)))
+      step_in s t (Bytes port bytes) ≡ with_reply (with_copies (fed_state port bytes) (fed_copies port bytes)) (Messages (length (fed_messages port bytes)))
   bytes-step port bytes accepted =
       let ms : List (List ℕ) = fed_messages port bytes in
-      let effect : List Delivery → Stepped = λ ds. stepped (sent (fed_state port bytes) ds) (Messages (length ms)) in
+      let effect : List Delivery → Stepped = λ ds. with_reply (with_copies (fed_state port bytes) ds) (Messages (length ms)) in
       feeds s.files (state_of s) t.moment t.actor port bytes
       ∙ unless-none (refusal_in s t (Bytes port bytes)) (state_of s) (effect (send_copies (state_of s) t.moment t.actor (map (from_port port) ms))) accepted
       ∙ ap effect (send-all-is (state_of s) t.moment t.actor port ms
@@ -126,9 +126,9 @@ module _ (s : Sequencer) (t : Turn) where
   sent_copies port message = copies_of (clients_of s) s.patchbay.graph t.moment t.actor port message
 
   pub send-step : (port : ℕ) (message : List ℕ) → refusal_in s t (Send port message) ≡ None →
-      step_in s t (Send port message) ≡ stepped (sent (state_of s) (sent_copies port message)) Done
+      step_in s t (Send port message) ≡ with_reply (with_copies (state_of s) (sent_copies port message)) Done
   send-step port message accepted =
-      let effect : List Delivery → Stepped = λ ds. stepped (sent (state_of s) ds) Done in
+      let effect : List Delivery → Stepped = λ ds. with_reply (with_copies (state_of s) ds) Done in
       sends s.files (state_of s) t.moment t.actor port message
       ∙ unless-none (refusal_in s t (Send port message)) (state_of s) (effect (send_copies (state_of s) t.moment t.actor (from_port port message ∷ []))) accepted
       ∙ ap effect (append-nil (sent_copies port message))
@@ -137,14 +137,14 @@ module _ (s : Sequencer) (t : Turn) where
 
 -- these clients, and these copies sent from there
 abbrev sent_from : Sequencer → FinMap nat_cmp Client → List Delivery → Reply → Stepped
-sent_from s cs ds reply = stepped (sent (record (state_of s) { clients = cs }) ds) reply
+sent_from s cs ds reply = with_reply (with_copies (record (state_of s) { clients = cs }) ds) reply
 
 pub sent-kept : (old : Sequencer) (r : Roster) (edges : List Edge) (step : Stepped) (cs : FinMap nat_cmp Client) (ds : List Delivery) (reply : Reply) → step ≡ sent_from old cs ds reply →
-    r.clients ≡ cs → r.pools ≡ offered old.patchbay.clients.pools ds → edges ≡ old.patchbay.graph → ((q : QueueAddr) → SameMoments (clients_of old) cs q) →
+    r.clients ≡ cs → r.pools ≡ pools_after old.patchbay.clients.pools ds → edges ≡ old.patchbay.graph → ((q : QueueAddr) → SameMoments (clients_of old) cs q) →
     IsStepTakenUnkeyed old (record old { patchbay = record { clients = r; graph = edges } }) step reply step.delivered
 sent-kept old r edges step cs ds reply is clients pools graph same agenda now whole = record {
-  state = ap (λ x. seen x r.pools edges old.cells.cells old.steps) clients ∙ ap (λ x. seen cs x edges old.cells.cells old.steps) pools
-      ∙ ap (λ x. seen cs (offered old.patchbay.clients.pools ds) x old.cells.cells old.steps) graph ∙ ap (λ (x : Stepped). x.state) (sym is);
+  state = ap (λ x. seen_state x r.pools edges old.cells.cells old.steps) clients ∙ ap (λ x. seen_state cs x edges old.cells.cells old.steps) pools
+      ∙ ap (λ x. seen_state cs (pools_after old.patchbay.clients.pools ds) x old.cells.cells old.steps) graph ∙ ap (λ (x : Stepped). x.state) (sym is);
   reply_is = ap (λ (x : Stepped). x.reply) (sym is);
   sent_is = refl;
   cells = whole.cells;
@@ -156,38 +156,38 @@ sent-kept old r edges step cs ds reply is clients pools graph same agenda now wh
 pub bytes-kept : (old : Sequencer) (turn : Turn) (port : ℕ) (bytes : List ℕ) (fed : Roster) (r : Roster) (edges : List Edge) (messages : List (List ℕ)) (count : ℕ) → refusal_in old turn (Bytes port bytes) ≡ None →
     fed ≡ with_client old.patchbay.clients turn.actor (with_change (FinMap.get (clients_of old) turn.actor) (put_port port (port_fed bytes (port_of (FinMap.get (clients_of old) turn.actor) port)))) →
     messages ≡ fed_messages old turn port bytes → count ≡ length (fed_messages old turn port bytes) →
-    r.clients ≡ fed.clients → edges ≡ old.patchbay.graph → r.pools ≡ offered fed.pools (copies_of_all fed.clients old.patchbay.graph turn.moment turn.actor port messages) →
+    r.clients ≡ fed.clients → edges ≡ old.patchbay.graph → r.pools ≡ pools_after fed.pools (copies_of_all fed.clients old.patchbay.graph turn.moment turn.actor port messages) →
     IsStepTakenUnkeyed old (record old { patchbay = record { clients = r; graph = edges } }) (step_in old turn (Bytes port bytes)) (Messages count) (step_in old turn (Bytes port bytes)).delivered
 bytes-kept old turn port bytes fed r edges messages count accepted is told number clients graph pools =
     let its : Option Client = FinMap.get (clients_of old) turn.actor in
     let after : Option Client = with_change its (put_port port (port_fed bytes (port_of its port))) in
-    let cs : FinMap nat_cmp Client = put (clients_of old) turn.actor after in
+    let cs : FinMap nat_cmp Client = with_entry (clients_of old) turn.actor after in
     let old_pools : FinMap nat_cmp ClientPool = old.patchbay.clients.pools in
     let all : FinMap nat_cmp Client → List (List ℕ) → List Delivery = λ x ms. copies_of_all x old.patchbay.graph turn.moment turn.actor port ms in
     sent-kept old r edges (step_in old turn (Bytes port bytes)) cs (fed_copies old turn port bytes) (Messages count)
-    (bytes-step old turn port bytes accepted ∙ ap (λ n. stepped (sent (fed_state old turn port bytes) (fed_copies old turn port bytes)) (Messages n)) (sym number))
+    (bytes-step old turn port bytes accepted ∙ ap (λ n. with_reply (with_copies (fed_state old turn port bytes) (fed_copies old turn port bytes)) (Messages n)) (sym number))
     (clients ∙ ap (λ (x : Roster). x.clients) is)
-    (pools ∙ ap (λ (x : Roster). offered x.pools (all x.clients messages)) is ∙ ap (λ ms. offered old_pools (all cs ms)) told)
+    (pools ∙ ap (λ (x : Roster). pools_after x.pools (all x.clients messages)) is ∙ ap (λ ms. pools_after old_pools (all cs ms)) told)
     graph (queues_same (clients_of old) turn.actor after (queues-port port (port_fed bytes (port_of its port)) its))
 
 pub bytes-sent : (old : Sequencer) (turn : Turn) (port : ℕ) (bytes : List ℕ) (fed : Roster) (messages : List (List ℕ)) → refusal_in old turn (Bytes port bytes) ≡ None →
     fed ≡ with_client old.patchbay.clients turn.actor (with_change (FinMap.get (clients_of old) turn.actor) (put_port port (port_fed bytes (port_of (FinMap.get (clients_of old) turn.actor) port)))) →
     messages ≡ fed_messages old turn port bytes →
-    delivered fed.pools (copies_of_all fed.clients old.patchbay.graph turn.moment turn.actor port messages) ≡ (step_in old turn (Bytes port bytes)).delivered
+    copies_with_room fed.pools (copies_of_all fed.clients old.patchbay.graph turn.moment turn.actor port messages) ≡ (step_in old turn (Bytes port bytes)).delivered
 bytes-sent old turn port bytes fed messages accepted is told =
     let all : FinMap nat_cmp Client → List (List ℕ) → List Delivery = λ x ms. copies_of_all x old.patchbay.graph turn.moment turn.actor port ms in
-    ap (λ (x : Roster). delivered x.pools (all x.clients messages)) is ∙ ap (λ ms. delivered old.patchbay.clients.pools (all (fed_state old turn port bytes).clients ms)) told
+    ap (λ (x : Roster). copies_with_room x.pools (all x.clients messages)) is ∙ ap (λ ms. copies_with_room old.patchbay.clients.pools (all (fed_state old turn port bytes).clients ms)) told
     ∙ ap (λ (x : Stepped). x.delivered) (sym (bytes-step old turn port bytes accepted))
 
 pub send-kept : (old : Sequencer) (turn : Turn) (port : ℕ) (message : List ℕ) (r : Roster) (edges : List Edge) → refusal_in old turn (Send port message) ≡ None →
-    r.clients ≡ clients_of old → edges ≡ old.patchbay.graph → r.pools ≡ offered old.patchbay.clients.pools (sent_copies old turn port message) →
+    r.clients ≡ clients_of old → edges ≡ old.patchbay.graph → r.pools ≡ pools_after old.patchbay.clients.pools (sent_copies old turn port message) →
     IsStepTakenUnkeyed old (record old { patchbay = record { clients = r; graph = edges } }) (step_in old turn (Send port message)) Done (step_in old turn (Send port message)).delivered
 send-kept old turn port message r edges accepted clients graph pools =
     sent-kept old r edges (step_in old turn (Send port message)) (clients_of old) (sent_copies old turn port message) Done
     (send-step old turn port message accepted) clients pools graph (λ q accepted due. refl)
 
 pub send-sent : (old : Sequencer) (turn : Turn) (port : ℕ) (message : List ℕ) → refusal_in old turn (Send port message) ≡ None →
-    delivered old.patchbay.clients.pools (sent_copies old turn port message) ≡ (step_in old turn (Send port message)).delivered
+    copies_with_room old.patchbay.clients.pools (sent_copies old turn port message) ≡ (step_in old turn (Send port message)).delivered
 send-sent old turn port message accepted = ap (λ (x : Stepped). x.delivered) (sym (send-step old turn port message accepted))
 
 -- the port of accepted bytes is there

@@ -1,4 +1,4 @@
--- Words for kinds of commands.
+-- Representation: Words for kinds of commands.
 use Rattle.std.specs.Prelude.{ℕ, ◌==◌, Bool, true, false, if◌then◌else◌}
 use Rattle.node_table.specs.declared.number.QueueAddr.{QueueAddr}
 use Rattle.seq_state.specs.declared.input.Command.{Command}
@@ -6,7 +6,7 @@ use Rattle.seq_state.specs.declared.input.Command.TheVariants.{Close, DeletePort
 use Rattle.seq_state.specs.declared.refusal.Refusal.{Refusal}
 use Rattle.seq_state.specs.declared.refusal.Refusal.TheVariants.{NotYours, NoQueue}
 
--- why a queue can't be used: it is another's, or not there
+-- why a queue cannot be used: it is another's, or not there
 abbrev pub unusable : ℕ → QueueAddr → Refusal
 unusable actor q = if q.client == actor then NoQueue else NotYours
 

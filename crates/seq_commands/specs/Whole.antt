@@ -1,4 +1,4 @@
--- How a sequencer is seen as a plain state, and what holds of it between inputs.
+-- Representation: How a sequencer is seen as a plain state, and what holds of it between inputs.
 use Rattle.std.specs.Prelude.{◌≡◌, ℕ, Bool, true, List, Option, is_some}
 use Rattle.std.specs.List.{list_all}
 use Rattle.std.specs.Ordering.{nat_cmp}
@@ -9,13 +9,13 @@ use Rattle.seq_state.specs.declared.input.Input.{Input}
 use Rattle.seq_state.specs.declared.log.Delivery.{Delivery}
 use Rattle.seq_state.specs.declared.log.Reply.{Reply}
 use Rattle.seq_state.specs.declared.refusal.Refusal.{Refusal}
-use Rattle.seq_state.specs.State.{Client, Pending, State}
+use Rattle.seq_state.specs.State.{Client, OwnedPlayback, State}
 use Rattle.seq_state.specs.Table.{visible}
 use Rattle.seq_state.specs.Step as steps
 use Rattle.seq_state.specs.Step.{Stepped, refusal_of, step}
 use Rattle.seq_state.specs.Laws.{has_ticks, Ready, Bounded}
-use Rattle.seq_settle.specs.Moments.{queue_at}
-use Rattle.seq_settle.specs.Cells.{seen, AreCells, AreFirstKeys}
+use Rattle.seq_settle.specs.Moments.{queue_in}
+use Rattle.seq_settle.specs.Cells.{seen_state, AreCells, AreFirstKeys}
 use Rattle.seq_commands.specs.declared.sequencer.Sequencer.{Sequencer}
 use Rattle.seq_commands.specs.declared.sequencer.Turn.{Turn}
 
@@ -30,16 +30,16 @@ clients_of s = s.patchbay.clients.clients
 -- the plain state that it is seen as
 abbrev pub state_of : Sequencer → State
 state_of s =
-    seen (clients_of s) s.patchbay.clients.pools s.patchbay.graph s.cells.cells s.steps
+    seen_state (clients_of s) s.patchbay.clients.pools s.patchbay.graph s.cells.cells s.steps
 
 -- ---- what holds between inputs
 
 -- its client may use the queue that a playback is on
-abbrev pub is_usable : FinMap nat_cmp Client → Pending → Bool
-is_usable clients p = is_some (visible p.client p.queue.client (queue_at clients p.queue))
+abbrev pub is_usable : FinMap nat_cmp Client → OwnedPlayback → Bool
+is_usable clients p = is_some (visible p.client p.queue.client (queue_in clients p.queue))
 
--- A plain state: its queues were told of no later moment, its pools keep their sizes, and each playback is on a queue that
--- its client may use.
+-- A plain state: its queues were told of no later moment, its pools keep their sizes, and each
+-- playback is on a queue that its client may use.
 pub record IsSound (s : State) (now : ℕ) : Type 0 where
   pub ready : Ready s now
   pub bounded : Bounded s

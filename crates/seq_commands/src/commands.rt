@@ -16,7 +16,7 @@ impl Sequencer<'_, '_> {
     /// Takes one input: sends all that is due by its moment, and then carries its command out or refuses it. What came
     /// to ports is added to `out`.
     ///
-    /// Want of memory leaves the sequencer in parts as it was and in parts not, and so of no use.
+    /// Running out of memory leaves the sequencer in parts as it was and in parts not, and so of no use.
     pub fn step<A: Agenda>(
         &mut self,
         agenda: &mut A,
@@ -47,7 +47,7 @@ impl Sequencer<'_, '_> {
 
     /// Carries a command out, or refuses it, and adds what came to ports to `out`.
     ///
-    /// Want of memory leaves the sequencer in parts as it was and in parts not, and so of no use.
+    /// Running out of memory leaves the sequencer in parts as it was and in parts not, and so of no use.
     fn command<A: Agenda>(
         &mut self,
         agenda: &mut A,

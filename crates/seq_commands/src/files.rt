@@ -3,9 +3,9 @@
 ghost use Rattle.std.specs.Prelude.{◌≡◌, true, Some, is_some, map};
 ghost use Rattle.std.specs.List.{list_all};
 ghost use Rattle.std.specs.Option.{option_copied, option_map};
-ghost use Rattle.smf_grammar.specs.Played.{played};
+ghost use Rattle.smf_grammar.specs.Played.{as_played};
 ghost use Rattle.seq_state.specs.Laws.{has_ticks};
-ghost use Rattle.seq_state.specs.Own.{file_at, has_division};
+ghost use Rattle.seq_state.specs.Effect.{file_at, has_division};
 
 use seq_clients::Queue;
 use smf_files::SmfFile;
@@ -19,17 +19,17 @@ pub struct Files<'f, 'b> {
 
 impl<'f, 'b> Model for Files<'f, 'b> {
     ghost use Rattle.std.specs.Prelude.{List, map};
-    ghost use Rattle.smf_grammar.specs.Played.{PlayedFile, played};
+    ghost use Rattle.smf_grammar.specs.Played.{PlayedFile, as_played};
 
     ghost Value = { List PlayedFile };
 
-    ghost view = { λ f. map played f.files.now };
+    ghost view = { λ f. map as_played f.files.now };
 }
 
 impl<'f, 'b> Files<'f, 'b> {
     /// Files that may be played, by their places from 0 on.
     pub fn new(files: &'f [SmfFile<'b>]) -> Files<'f, 'b>
-        ensures files { result ≡ map played files.now }
+        ensures files { result ≡ map as_played files.now }
         ensures ticks { list_all has_ticks result ≡ true }
     {
         // Tells the prover that each division has ticks.
@@ -41,7 +41,7 @@ impl<'f, 'b> Files<'f, 'b> {
 
     /// The file with this number, if there is one.
     pub fn get(&self, number: u32) -> Option<&'f SmfFile<'b>>
-        ensures { option_map played (option_copied result) ≡ file_at self.now number }
+        ensures { option_map as_played (option_copied result) ≡ file_at self.now number }
     {
         self.files.get(number as usize)
     }

@@ -1,4 +1,4 @@
-//! What accepted commands on clients, ports and filters do. After an `Err`, which is want of memory, the sequencer is
+//! What accepted commands on clients, ports and filters do. After an `Err`, which is out of memory, the sequencer is
 //! of no more use.
 
 ghost use Rattle.std.specs.Prelude.{◌≡◌, [], None, OnOk};
@@ -25,8 +25,7 @@ impl Sequencer<'_, '_> {
         ensures { OnOk result (IsStepTakenUnkeyed self.old self.new
             (step_in self.old turn (Command.Open name.now in_size out_size)) Reply.Done []) }
     {
-        let clients = self.patchbay.clients_mut();
-        clients.open(turn.actor, name, in_size, out_size)
+        self.patchbay.open(turn.actor, name, in_size, out_size)
     }
 
     /// Makes a port.
@@ -42,8 +41,7 @@ impl Sequencer<'_, '_> {
         ensures { OnOk result (IsStepTakenUnkeyed self.old self.new
             (step_in self.old turn (Command.CreatePort port name.now caps)) Reply.Done []) }
     {
-        let clients = self.patchbay.clients_mut();
-        clients.create_port(turn.actor, port, name, caps)
+        self.patchbay.create_port(turn.actor, port, name, caps)
     }
 
     /// Makes a filter.

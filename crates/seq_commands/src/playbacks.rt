@@ -2,14 +2,14 @@
 
 ghost use Rattle.std.specs.Prelude.{◌≡◌, ◌≢◌, ◌+◌, true, false, [], None, Some, IsSome, OnOk};
 ghost use Rattle.std.specs.FinMap.{get};
-ghost use Rattle.seq_state.specs.Own.{due_of, out_size, passes_end};
+ghost use Rattle.seq_state.specs.Effect.{due_of, out_size, passes_end};
 ghost use Rattle.seq_state.specs.State as state;
-ghost use Rattle.seq_state.specs.Step.{used};
+ghost use Rattle.seq_state.specs.Step.{playback_count};
 ghost use Rattle.seq_state.specs.declared.input.Command.{Command};
 ghost use Rattle.seq_state.specs.declared.log.Reply.{Reply};
 ghost use Rattle.seq_settle.specs.Cells.{AreCells, are_in_order};
-ghost use Rattle.seq_settle.specs.Moments.{queue_at};
-ghost use Rattle.seq_commands.specs.Added.{added};
+ghost use Rattle.seq_settle.specs.Moments.{queue_in};
+ghost use Rattle.seq_commands.specs.Added.{adding_step};
 ghost use Rattle.seq_commands.specs.Whole.{clients_of, state_of, refusal_in, step_in, IsWhole, IsStepTaken};
 
 use crate::sequencer::{Sequencer, Turn};
@@ -64,8 +64,7 @@ impl<'f, 'b> Sequencer<'f, 'b> {
         let on_queue = Which::OnQueue(queue.queue);
         let cells = &mut self.cells;
         drop_playbacks(cells, agenda, self.steps, turn.actor, &on_queue, shared);
-        let clients = self.patchbay.clients_mut();
-        clients.delete_queue(turn.actor, queue.queue);
+        self.patchbay.delete_queue(turn.actor, queue.queue);
     }
 
     /// Closes the actor: all that it has goes, with what others have still to send by its queues. It takes no memory.
@@ -153,8 +152,8 @@ impl<'f, 'b> Sequencer<'f, 'b> {
         requires counted { self.old.steps ≡ rank + 1 }
         requires ordered { are_in_order events ≡ true }
         requires room { let size = out_size (get (clients_of self.old) turn.actor) in
-            used (state_of self.old) turn.actor ≢ size }
-        ensures { let step = added self.old turn queue.now port events.entry in
+            playback_count (state_of self.old) turn.actor ≢ size }
+        ensures { let step = adding_step self.old turn queue.now port events.entry in
             OnOk result (IsStepTaken self.old self.new (A.content agenda.new) step Reply.Done []) }
     {
         // Set here, the sizes of the store need not be kept in step with those of the clients.
@@ -172,10 +171,10 @@ impl<'f, 'b> Sequencer<'f, 'b> {
 
     /// When something is due by a queue that is there.
     fn due_of(&self, moment: u64, queue: &QueueAddr, due_at: DueAt) -> Due
-        requires there { IsSome (queue_at (clients_of self.now) queue.now) }
-        requires early { (q : state.Queue) → queue_at (clients_of self.now) queue.now ≡ Some q
+        requires there { IsSome (queue_in (clients_of self.now) queue.now) }
+        requires early { (q : state.Queue) → queue_in (clients_of self.now) queue.now ≡ Some q
             → passes_end moment due_at q ≡ false }
-        ensures { (q : state.Queue) → queue_at (clients_of self.now) queue.now ≡ Some q
+        ensures { (q : state.Queue) → queue_in (clients_of self.now) queue.now ≡ Some q
             → result ≡ due_of moment q due_at }
     {
         let Some(queue) = self.patchbay.clients().queue(queue) else {

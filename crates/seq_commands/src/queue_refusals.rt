@@ -6,8 +6,8 @@ ghost use Rattle.std.specs.Prelude.{◌≡◌, ℕ, List, Some};
 ghost use Rattle.seq_state.specs.declared.input.Command.TheVariants as Command;
 ghost use Rattle.std.specs.FinMap.{get};
 ghost use Rattle.std.specs.Option.{option_copied};
-ghost use Rattle.seq_state.specs.Own.{queue_is, queue_of, runs, counts_frames, passes_end, has_division, file_at};
-ghost use Rattle.seq_state.specs.Step.{used, named_queue};
+ghost use Rattle.seq_state.specs.Effect.{queue_is, queue_of, runs, counts_frames, passes_end, has_division, file_at};
+ghost use Rattle.seq_state.specs.Step.{playback_count, named_queue};
 ghost use Rattle.seq_settle.specs.Cells.{AreCells};
 ghost use Rattle.seq_commands.specs.Turns.{unusable};
 ghost use Rattle.seq_commands.specs.Whole.{clients_of, state_of, refusal_in};
@@ -251,13 +251,13 @@ impl Sequencer<'_, '_> {
     /// How many scheduled messages and files the client has still to send.
     pub(crate) fn used(&self, client: ClientId) -> u32
         requires cells { AreCells self.now.cells.cells self.now.steps }
-        ensures { result ≡ used (state_of self.now) client }
+        ensures { result ≡ playback_count (state_of self.now) client }
     {
         self.cells.used(client)
     }
 }
 
-/// Why a queue can't be used: it is another's, or it is not there.
+/// Why a queue cannot be used: it is another's, or it is not there.
 fn unusable(actor: ClientId, queue: &QueueAddr) -> Refusal
     ensures { result ≡ unusable actor queue.now }
 {

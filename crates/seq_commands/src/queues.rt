@@ -1,11 +1,16 @@
-//! What accepted commands on queues do. After an `Err`, which is want of memory, the sequencer is of no more use.
+//! What accepted commands on queues do. After an `Err`, which is out of memory, the sequencer is of no more use.
 
-ghost use Rattle.std.specs.Prelude.{◌≡◌, [], true, None, IfOk, OnOk};
+ghost use Rattle.std.specs.Prelude.{◌≡◌, ℕ, [], true, false, Some, None, IfOk, OnOk};
+ghost use Rattle.std.specs.Ordering.{nat_cmp};
+ghost use Rattle.std.specs.FinMap as map;
 ghost use Rattle.tempo_clock.specs.Entries.{is_ppq, is_tempo};
 ghost use Rattle.seq_state.specs.declared.input.Command.TheVariants as Command;
 ghost use Rattle.seq_state.specs.declared.log.Reply.TheVariants as Reply;
-ghost use Rattle.seq_state.specs.Own.{queue_is, one_tempo};
-ghost use Rattle.seq_settle.specs.Moments.{queue_at};
+ghost use Rattle.seq_state.specs.Effect.{queue_is, one_tempo};
+ghost use Rattle.seq_state.specs.State.{Client};
+ghost use Rattle.seq_settle.specs.Cells.{PlaybackCell, AreCells, AreFirstKeys};
+ghost use Rattle.seq_settle.specs.Moments.{queue_in};
+ghost use Rattle.seq_settle.specs.Rekeyed.{OthersSame};
 ghost use Rattle.seq_commands.specs.Whole.{clients_of, state_of, refusal_in, step_in};
 ghost use Rattle.seq_commands.specs.Whole.{IsSound, IsWhole, IsStepTaken, IsStepTakenUnkeyed};
 
@@ -46,8 +51,7 @@ impl Sequencer<'_, '_> {
             (step_in self.old turn (Command.CreateQueue queue ppq tempo)) Reply.Done []) }
     {
         let map = one_tempo(self.alloc, ppq, tempo)?;
-        let clients = self.patchbay.clients_mut();
-        clients.create_queue(turn.actor, queue, map);
+        self.patchbay.create_queue(turn.actor, queue, map);
         Ok(())
     }
 
@@ -66,9 +70,35 @@ impl Sequencer<'_, '_> {
             unreachable!()
         };
         let map = file.tempo_map()?;
-        let clients = self.patchbay.clients_mut();
-        clients.create_queue(turn.actor, queue, map);
+        self.patchbay.create_queue(turn.actor, queue, map);
         Ok(())
+    }
+
+    /// Gives all cells on a queue that has changed their keys. `foreign` says whether others may have something on it.
+    fn rekey<A: Agenda>(
+        &self,
+        agenda: &mut A,
+        queue: &QueueAddr,
+        foreign: bool,
+    ) -> Result<(), OutOfMemory>
+        requires cells { AreCells self.now.cells.cells self.now.steps }
+        requires keys { (was : map.FinMap nat_cmp Client)
+            × OthersSame was (clients_of self.now) queue.now
+            × AreFirstKeys was self.now.cells.cells (A.content agenda.old) }
+        requires alone { foreign ≡ false → (q : ℕ) (c : PlaybackCell)
+            → map.get self.now.cells.cells q ≡ Some c → c.1.queue ≡ queue.now
+            → c.0 ≡ queue.now.client }
+        ensures { OnOk result
+            (AreFirstKeys (clients_of self.now) self.now.cells.cells (A.content agenda.new)) }
+    {
+        rekey_all(
+            &self.patchbay,
+            &self.cells,
+            agenda,
+            self.steps,
+            queue,
+            foreign,
+        )
     }
 
     /// Runs a queue from 0.
@@ -84,16 +114,8 @@ impl Sequencer<'_, '_> {
             (step_in self.old turn (Command.Start queue.now)) Reply.Done []) }
     {
         let foreign = self.is_shared(queue);
-        let clients = self.patchbay.clients_mut();
-        clients.start(turn.actor, queue.queue, turn.moment);
-        rekey_all(
-            &self.patchbay,
-            &self.cells,
-            agenda,
-            self.steps,
-            queue,
-            foreign,
-        )
+        self.patchbay.start(turn.actor, queue.queue, turn.moment);
+        self.rekey(agenda, queue, foreign)
     }
 
     /// Holds a queue.
@@ -109,16 +131,8 @@ impl Sequencer<'_, '_> {
             (step_in self.old turn (Command.Stop queue.now)) Reply.Done []) }
     {
         let foreign = self.is_shared(queue);
-        let clients = self.patchbay.clients_mut();
-        clients.stop(turn.actor, queue.queue, turn.moment);
-        rekey_all(
-            &self.patchbay,
-            &self.cells,
-            agenda,
-            self.steps,
-            queue,
-            foreign,
-        )
+        self.patchbay.stop(turn.actor, queue.queue, turn.moment);
+        self.rekey(agenda, queue, foreign)
     }
 
     /// Runs a queue on from where it was held.
@@ -134,16 +148,8 @@ impl Sequencer<'_, '_> {
             (step_in self.old turn (Command.Continue queue.now)) Reply.Done []) }
     {
         let foreign = self.is_shared(queue);
-        let clients = self.patchbay.clients_mut();
-        clients.resume(turn.actor, queue.queue, turn.moment);
-        rekey_all(
-            &self.patchbay,
-            &self.cells,
-            agenda,
-            self.steps,
-            queue,
-            foreign,
-        )
+        self.patchbay.resume(turn.actor, queue.queue, turn.moment);
+        self.rekey(agenda, queue, foreign)
     }
 
     /// Sets one tempo, in microseconds per quarter note, from a queue's present on.
@@ -160,16 +166,9 @@ impl Sequencer<'_, '_> {
             (step_in self.old turn (Command.Tempo queue.now tempo)) Reply.Done []) }
     {
         let foreign = self.is_shared(queue);
-        let clients = self.patchbay.clients_mut();
-        clients.set_tempo(turn.actor, queue.queue, turn.moment, tempo)?;
-        rekey_all(
-            &self.patchbay,
-            &self.cells,
-            agenda,
-            self.steps,
-            queue,
-            foreign,
-        )
+        self.patchbay
+            .set_tempo(turn.actor, queue.queue, turn.moment, tempo)?;
+        self.rekey(agenda, queue, foreign)
     }
 
     /// Lets other clients use a queue.
@@ -178,7 +177,7 @@ impl Sequencer<'_, '_> {
         ensures { IsStepTakenUnkeyed self.old self.new
             (step_in self.old turn (Command.Share queue.now)) Reply.Done [] }
     {
-        self.patchbay.clients_mut().share(turn.actor, queue.queue);
+        self.patchbay.share(turn.actor, queue.queue);
     }
 
     /// What a queue shows.
@@ -201,7 +200,7 @@ impl Sequencer<'_, '_> {
 
     /// Whether clients other than its own may use a queue.
     pub(crate) fn is_shared(&self, queue: &QueueAddr) -> bool
-        ensures { result ≡ queue_is (λ q. q.shared) (queue_at (clients_of self.now) queue.now) }
+        ensures { result ≡ queue_is (λ q. q.shared) (queue_in (clients_of self.now) queue.now) }
     {
         match self.patchbay.clients().queue(queue) {
             Some(queue) => queue.is_shared(),

@@ -64,7 +64,7 @@ impl<'f, 'b> Sequencer<'f, 'b> {
 
     /// Sends all that is due by a moment, in nanoseconds, and adds what came to ports to `out`.
     ///
-    /// Want of memory may leave the agenda without some of what is still to be sent.
+    /// Running out of memory may leave the agenda without some of what is still to be sent.
     pub fn settle<A: Agenda>(
         &mut self,
         agenda: &mut A,
@@ -97,7 +97,7 @@ impl<'f, 'b> Sequencer<'f, 'b> {
         )
     }
 
-    /// Who is there, as text: a line for each open client by number, each with its ports, filters and queues by number,
+    /// The listing: a line for each open client by number, each with its ports, filters and queues by number,
     /// and then one for each subscription, the oldest first.
     pub fn listing(&self) -> Result<Vec<u8>, OutOfMemory>
         ensures { IfOk result (λ text. text.items

@@ -1,4 +1,4 @@
-pub mod Begun
 pub mod Seen
+pub mod Begun
 pub mod Ending
 pub mod Faults

@@ -3,7 +3,7 @@
 ghost use Rattle.std.specs.Prelude.{◌≡◌, ◌≤◌, ◌<◌, ◌+◌, ◌-◌, ◌^◌, ◌↔◌, [], map, true, false, IsTrue, IsOk, IsErrOf, IfOk, OnOk, OnErr};
 ghost use Rattle.std.specs.List.{list_all};
 ghost use Rattle.std.specs.FinMap as finmap;
-ghost use Rattle.smf_grammar.specs.Played.{played};
+ghost use Rattle.smf_grammar.specs.Played.{as_played};
 ghost use Rattle.seq_patchbay.specs.Listing.{listing};
 ghost use Rattle.seq_commands.specs.Turns.{takes_none};
 ghost use Rattle.seq_state.specs.State.{start};
@@ -76,7 +76,7 @@ impl<'f, 'b, A: Agenda> Engine<'f, 'b, A> {
         requires empty { A.content agenda ≡ finmap.empty }
         ensures first { result
             ≡ record {
-              files = map played files.now;
+              files = map as_played files.now;
               state = start;
               moment = 0;
               steps = 0;
@@ -182,8 +182,8 @@ impl<'f, 'b, A: Agenda> Engine<'f, 'b, A> {
         Ok(delivered)
     }
 
-    /// Who is there, as text: a line for each open client by number, each with its ports, filters and queues by number,
-    /// and then one for each subscription, the oldest first. Want of memory here changes nothing.
+    /// The listing: a line for each open client by number, each with its ports, filters and queues by number,
+    /// and then one for each subscription, the oldest first. Running out of memory here changes nothing.
     pub fn listing(&self) -> Result<Vec<u8>, EngineFault>
         ensures text { IfOk result (λ text.
             text.items ≡ listing self.now.state.clients self.now.state.edges) }

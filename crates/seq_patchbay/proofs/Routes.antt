@@ -16,10 +16,10 @@ use Rattle.patch_graph.specs.Paths.{hops, paths, end_of, nodes_of, routes}
 use Rattle.patch_graph.proofs.Walked.{routes-tails}
 use Rattle.seq_state.specs.State.{Client, State}
 use Rattle.seq_state.specs.declared.log.Delivery.{Delivery}
-use Rattle.seq_state.specs.Copies.{filter_at, passed_by, carried, copy, copies}
+use Rattle.seq_state.specs.Copies.{filter_at, passed_by, copy_on_path, copy, copies}
 use Rattle.seq_settle.specs.Sends.{copies_of}
 use Rattle.seq_state.specs.Step.{port_addr}
-use Rattle.seq_patchbay.specs.Carrying.{of_some, copies_by, spread, copies_of_all}
+use Rattle.seq_patchbay.specs.Carrying.{of_some, copies_by, copies_onward, copies_of_all}
 use Rattle.seq_patchbay.specs.Ways.{spread_all, AreWays}
 use Rattle.seq_patchbay.specs.declared.ways.Way.TheVariants.{Straight}
 use Rattle.midi_wire.specs.Messages.{IsMessage}
@@ -45,10 +45,10 @@ and-then : (o : Option (List ℕ)) (f g : List ℕ → Option (List ℕ)) → ((
 and-then None f g same = refl
 and-then (Some m) f g same = same m
 
-carried-nodes : (clients : FinMap nat_cmp Client) (p : List Edge) (message : List ℕ) → carried clients p message ≡ carried_by clients (nodes_of p) message
+carried-nodes : (clients : FinMap nat_cmp Client) (p : List Edge) (message : List ℕ) → copy_on_path clients p message ≡ carried_by clients (nodes_of p) message
 carried-nodes clients [] message = refl
 carried-nodes clients (e ∷ es) message =
-    and-then (passed_by (filter_at clients e.target.client e.target.node) message) (carried clients es) (carried_by clients (nodes_of es)) (carried-nodes clients es)
+    and-then (passed_by (filter_at clients e.target.client e.target.node) message) (copy_on_path clients es) (carried_by clients (nodes_of es)) (carried-nodes clients es)
 
 end-node : (a : Addr) (p : List Edge) → end_of a p ≡ last_of a (nodes_of p)
 end-node a [] = refl
@@ -65,7 +65,7 @@ filter_map-map {X} {Y} {Z} f g h same (x ∷ xs) = ap (λ o. with o (filter_map 
 -- a copy for each route, the oldest path first
 copies-routes : (s : State) (moment : ℕ) (source : Addr) (message : List ℕ) → copies s moment source message ≡ filter_map (copy_along s.clients moment source message) (routes s.edges source)
 copies-routes s moment source message =
-    filter_map-map (copy_along s.clients moment source message) nodes_of (λ p. copy moment (end_of source p) (carried s.clients p message))
+    filter_map-map (copy_along s.clients moment source message) nodes_of (λ p. copy moment (end_of source p) (copy_on_path s.clients p message))
     (λ p. ap (copy moment (end_of source p)) (carried-nodes s.clients p message) ∙ ap (λ t. copy moment t (carried_by s.clients (nodes_of p) message)) (end-node source p)) (paths s.edges source)
 
 -- ---- from node to node
@@ -108,17 +108,17 @@ module _ (clients : FinMap nat_cmp Client) (edges : List Edge) (moment : ℕ) wh
   through-filter rs behind t same None = filter_map-never _ (λ r. refl) rs
   through-filter rs behind t same (Some m) = same m
 
-  pub spread-tails : (n : ℕ) (targets : List Addr) (a : Addr) (message : List ℕ) → along a message (tails n edges targets) ≡ spread clients edges moment n targets message
-  unfolding tails spread
+  pub spread-tails : (n : ℕ) (targets : List Addr) (a : Addr) (message : List ℕ) → along a message (tails n edges targets) ≡ copies_onward clients edges moment n targets message
+  unfolding tails copies_onward
   spread-tails zero targets a message = refl
   spread-tails (suc n) targets a message =
       filter_map-flat_map (copy_along clients moment a message) _ _ (λ t. one t (λ m. spread-tails n (targets_of edges t) t m) (is_filter t) refl) targets
     where
       behind : Addr → List ℕ → List Delivery
-      behind t m = spread clients edges moment n (targets_of edges t) m
+      behind t m = copies_onward clients edges moment n (targets_of edges t) m
 
-      one : (t : Addr) → ((m : List ℕ) → along t m (tails n edges (targets_of edges t)) ≡ spread clients edges moment n (targets_of edges t) m) → (b : Bool) → is_filter t ≡ b →
-          along a message (if is_filter t then map (λ r. t ∷ r) (tails n edges (targets_of edges t)) else (t ∷ []) ∷ []) ≡ copies_by clients edges moment (λ ts m. spread clients edges moment n ts m) message t
+      one : (t : Addr) → ((m : List ℕ) → along t m (tails n edges (targets_of edges t)) ≡ copies_onward clients edges moment n (targets_of edges t) m) → (b : Bool) → is_filter t ≡ b →
+          along a message (if is_filter t then map (λ r. t ∷ r) (tails n edges (targets_of edges t)) else (t ∷ []) ∷ []) ≡ copies_by clients edges moment (λ ts m. copies_onward clients edges moment n ts m) message t
       one t further true e =
           let rs : List (List Addr) = tails n edges (targets_of edges t) in
           ap (λ b. along a message (if b then map (λ r. t ∷ r) rs else (t ∷ []) ∷ [])) e
@@ -134,11 +134,11 @@ module _ (clients : FinMap nat_cmp Client) (edges : List Edge) (moment : ℕ) wh
 
 -- a message that goes to the targets of a port comes to what all its paths make of it
 pub spread-copies : (clients : FinMap nat_cmp Client) (edges : List Edge) (moment client port : ℕ) (targets : List Addr) (message bytes : List ℕ) →
-    targets ≡ targets_of edges (port_addr client port) → bytes ≡ message → spread clients edges moment 8 targets bytes ≡ copies_of clients edges moment client port message
+    targets ≡ targets_of edges (port_addr client port) → bytes ≡ message → copies_onward clients edges moment 8 targets bytes ≡ copies_of clients edges moment client port message
 unfolding hops
 spread-copies clients edges moment client port targets message bytes e f =
     let source : Addr = port_addr client port in
-    ap (λ ts. spread clients edges moment 8 ts bytes) e ∙ ap (spread clients edges moment 8 (targets_of edges source)) f
+    ap (λ ts. copies_onward clients edges moment 8 ts bytes) e ∙ ap (copies_onward clients edges moment 8 (targets_of edges source)) f
     ∙ sym (spread-tails clients edges moment hops (targets_of edges source) source message)
     ∙ ap (filter_map (copy_along clients moment source message)) (sym (routes-tails edges source))
     ∙ sym (copies-routes (record { clients = clients; pools = FinMap.empty; edges = edges; pending = [] }) moment source message)

@@ -15,13 +15,13 @@ use Rattle.patch_graph.specs.Cursor.{at_port}
 use Rattle.patch_graph.specs.Index.{targets_of}
 use Rattle.patch_graph.specs.declared.edge.Edge.{Edge}
 use Rattle.seq_state.specs.declared.log.Delivery.{Delivery}
-use Rattle.seq_state.specs.State.{Client, FilterInfo, ClientPool, put}
-use Rattle.seq_state.specs.Own.{filter_of}
+use Rattle.seq_state.specs.State.{Client, FilterInfo, ClientPool, with_entry}
+use Rattle.seq_state.specs.Effect.{filter_of}
 use Rattle.seq_state.specs.Copies.{filter_at, passed_by, delivery, copy}
-use Rattle.seq_state.specs.Step.{pool_has_room, arrival, offer, offered, delivered}
+use Rattle.seq_state.specs.Step.{pool_has_room, arrival, offer, pools_after, copies_with_room}
 use Rattle.seq_state.proofs.Lists.{flat_map-append}
 use Rattle.seq_state.proofs.Settling.{offered-append, delivered-append}
-use Rattle.seq_patchbay.specs.Carrying.{let_through, of_some, copies_by, copies_to, spread}
+use Rattle.seq_patchbay.specs.Carrying.{let_through, of_some, copies_by, copies_to, copies_onward}
 
 -- ---- one copy
 
@@ -30,13 +30,13 @@ offer-is None d = refl
 offer-is (Some p) d = refl
 
 -- the pools after one copy was offered
-pub offered-one : (pools : FinMap nat_cmp ClientPool) (d : Delivery) → put pools d.target.client (option_map (λ p. after_offer p (arrival d)) (FinMap.get pools d.target.client)) ≡ offered pools (d ∷ [])
-offered-one pools d = ap (put pools d.target.client) (offer-is (FinMap.get pools d.target.client) d)
+pub offered-one : (pools : FinMap nat_cmp ClientPool) (d : Delivery) → with_entry pools d.target.client (option_map (λ p. after_offer p (arrival d)) (FinMap.get pools d.target.client)) ≡ pools_after pools (d ∷ [])
+offered-one pools d = ap (with_entry pools d.target.client) (offer-is (FinMap.get pools d.target.client) d)
 
-pub delivered-room : (pools : FinMap nat_cmp ClientPool) (d : Delivery) → pool_has_room (FinMap.get pools d.target.client) ≡ true → delivered pools (d ∷ []) ≡ d ∷ []
+pub delivered-room : (pools : FinMap nat_cmp ClientPool) (d : Delivery) → pool_has_room (FinMap.get pools d.target.client) ≡ true → copies_with_room pools (d ∷ []) ≡ d ∷ []
 delivered-room pools d e = ap (λ b. cond b (d ∷ []) []) e
 
-pub delivered-none : (pools : FinMap nat_cmp ClientPool) (d : Delivery) → pool_has_room (FinMap.get pools d.target.client) ≡ false → delivered pools (d ∷ []) ≡ []
+pub delivered-none : (pools : FinMap nat_cmp ClientPool) (d : Delivery) → pool_has_room (FinMap.get pools d.target.client) ≡ false → copies_with_room pools (d ∷ []) ≡ []
 delivered-none pools d e = ap (λ b. cond b (d ∷ []) []) e
 
 -- ---- filters
@@ -49,16 +49,16 @@ let-through (Some f) r message e = ap (λ x. let_through x message) e
 -- ---- node by node
 
 module _ (clients : FinMap nat_cmp Client) (edges : List Edge) (moment : ℕ) where
-  pub spread-none : (n : ℕ) (targets : List Addr) (message : List ℕ) → n ≡ 0 → spread clients edges moment n targets message ≡ []
-  unfolding spread
-  spread-none n targets message e = ap (λ k. spread clients edges moment k targets message) e
+  pub spread-none : (n : ℕ) (targets : List Addr) (message : List ℕ) → n ≡ 0 → copies_onward clients edges moment n targets message ≡ []
+  unfolding copies_onward
+  spread-none n targets message e = ap (λ k. copies_onward clients edges moment k targets message) e
 
   pub spread-hops : (n : ℕ) (targets : List Addr) (message : List ℕ) → (n ≡ 0 → ⊥) →
-      spread clients edges moment n targets message ≡ flat_map (copies_by clients edges moment (λ ts m. spread clients edges moment (n - 1) ts m) message) targets
-  unfolding spread
+      copies_onward clients edges moment n targets message ≡ flat_map (copies_by clients edges moment (λ ts m. copies_onward clients edges moment (n - 1) ts m) message) targets
+  unfolding copies_onward
   spread-hops zero targets message some = absurd (some refl)
   spread-hops (suc k) targets message some =
-      ap (λ j. flat_map (copies_by clients edges moment (λ ts m. spread clients edges moment j ts m) message) targets) (let e : k ≡ suc k - 1 = omega arith in e)
+      ap (λ j. flat_map (copies_by clients edges moment (λ ts m. copies_onward clients edges moment j ts m) message) targets) (let e : k ≡ suc k - 1 = omega arith in e)
 
   module _ (behind : List Addr → List ℕ → List Delivery) (message : List ℕ) (node : Addr) where
     abbrev cases : Bool → List Delivery
@@ -73,23 +73,23 @@ module _ (clients : FinMap nat_cmp Client) (edges : List Edge) (moment : ℕ) wh
 
   -- what comes to a filter goes on as what its rule lets through
   pub to-filter : (n : ℕ) (node : Addr) (message : List ℕ) (filter : ℕ) → node.node ≡ Filter filter → (rule : Option RuleArgs) → rule ≡ option_map (λ f. f.rule) (filter_of (FinMap.get clients node.client) filter) →
-      (o : Option (List ℕ)) → o ≡ let_through rule message → copies_to clients edges moment n node message ≡ of_some (λ m. spread clients edges moment n (targets_of edges node) m) o
+      (o : Option (List ℕ)) → o ≡ let_through rule message → copies_to clients edges moment n node message ≡ of_some (λ m. copies_onward clients edges moment n (targets_of edges node) m) o
   to-filter n node message filter e rule r o p =
-      by-filter (λ ts m. spread clients edges moment n ts m) message node filter e o
+      by-filter (λ ts m. copies_onward clients edges moment n ts m) message node filter e o
       (ap (λ x. passed_by (filter_at clients node.client x) message) e ∙ sym (let-through (filter_of (FinMap.get clients node.client) filter) rule message r) ∙ sym p)
 
   -- nothing comes of what goes to a filter, and along no edge behind it
   pub to-none : (n : ℕ) (node : Addr) (message : List ℕ) (filter : ℕ) → node.node ≡ Filter filter → n ≡ 0 → copies_to clients edges moment n node message ≡ []
   to-none n node message filter e none =
-      by-filter (λ ts m. spread clients edges moment n ts m) message node filter e (passed_by (filter_at clients node.client node.node) message) refl ∙ go (passed_by (filter_at clients node.client node.node) message)
+      by-filter (λ ts m. copies_onward clients edges moment n ts m) message node filter e (passed_by (filter_at clients node.client node.node) message) refl ∙ go (passed_by (filter_at clients node.client node.node) message)
     where
-      go : (o : Option (List ℕ)) → of_some (λ m. spread clients edges moment n (targets_of edges node) m) o ≡ []
+      go : (o : Option (List ℕ)) → of_some (λ m. copies_onward clients edges moment n (targets_of edges node) m) o ≡ []
       go None = refl
       go (Some m) = spread-none n (targets_of edges node) m none
 
   -- to the only one of some nodes
   pub to-only : (n : ℕ) (targets : List Addr) (node : Addr) (message : List ℕ) → 1 ≤ length targets → length targets < 2 → node ≡ slice_index_or targets 0 node → (n ≡ 0 → ⊥) →
-      spread clients edges moment n targets message ≡ copies_to clients edges moment (n - 1) node message
+      copies_onward clients edges moment n targets message ≡ copies_to clients edges moment (n - 1) node message
   to-only n [] node message some few e h = absurd (omega arith)
   to-only n (a ∷ []) node message some few e h =
       spread-hops n (a ∷ []) message h ∙ append-nil (copies_to clients edges moment (n - 1) a message) ∙ ap (λ (t : Addr). copies_to clients edges moment (n - 1) t message) (sym e)
@@ -99,16 +99,16 @@ module _ (clients : FinMap nat_cmp Client) (edges : List Edge) (moment : ℕ) wh
 
 -- what is still to be sent comes to what was to be sent, once the copies of the next node were offered
 pub sent-one : {X : Type 0} (f : X → List Delivery) (targets : List X) (i : ℕ) (t : X) (now : List Delivery) → i < length targets → t ≡ slice_index_or targets i t → f t ≡ now →
-    (pools pools' all : FinMap nat_cmp ClientPool) (out out' whole : List Delivery) → pools' ≡ offered pools now → out' ≡ out ++ delivered pools now →
-    offered pools (flat_map f (drop i targets)) ≡ all → out ++ delivered pools (flat_map f (drop i targets)) ≡ whole →
-    (offered pools' (flat_map f (drop (i + 1) targets)) ≡ all) × (out' ++ delivered pools' (flat_map f (drop (i + 1) targets)) ≡ whole)
+    (pools pools' all : FinMap nat_cmp ClientPool) (out out' whole : List Delivery) → pools' ≡ pools_after pools now → out' ≡ out ++ copies_with_room pools now →
+    pools_after pools (flat_map f (drop i targets)) ≡ all → out ++ copies_with_room pools (flat_map f (drop i targets)) ≡ whole →
+    (pools_after pools' (flat_map f (drop (i + 1) targets)) ≡ all) × (out' ++ copies_with_room pools' (flat_map f (drop (i + 1) targets)) ≡ whole)
 sent-one f targets i t now l e same pools pools' all out out' whole o s p q =
     let rest : List Delivery = flat_map f (drop (i + 1) targets) in
     let next : flat_map f (drop i targets) ≡ now ++ rest =
     ap (flat_map f) (drop-cons targets i t l ∙ ap (λ x. x ∷ drop (suc i) targets) (sym e)) ∙ ap (λ k. f t ++ flat_map f (drop k targets)) (sym (add-one i)) ∙ ap (λ ds. ds ++ rest) same in (
-      ap (λ z. offered z rest) o ∙ offered-append pools now rest ∙ ap (offered pools) (sym next) ∙ p,
-      ap (λ ds. ds ++ delivered pools' rest) s ∙ append_assoc out (delivered pools now) (delivered pools' rest)
-          ∙ ap (λ ds. out ++ ds) (ap (λ z. delivered pools now ++ delivered z rest) o ∙ delivered-append pools now rest ∙ ap (delivered pools) (sym next)) ∙ q,
+      ap (λ z. pools_after z rest) o ∙ offered-append pools now rest ∙ ap (pools_after pools) (sym next) ∙ p,
+      ap (λ ds. ds ++ copies_with_room pools' rest) s ∙ append_assoc out (copies_with_room pools now) (copies_with_room pools' rest)
+          ∙ ap (λ ds. out ++ ds) (ap (λ z. copies_with_room pools now ++ copies_with_room z rest) o ∙ delivered-append pools now rest ∙ ap (copies_with_room pools) (sym next)) ∙ q,
     )
 
 -- ---- message by message
@@ -119,13 +119,13 @@ module _ {X : Type 0} (f : X → List Delivery) (xs : List X) (i : ℕ) (x : X) 
       ap (flat_map f) (take_more xs i x within ∙ ap (λ y. take i xs ++ y ∷ []) (sym is))
       ∙ flat_map-append f (take i xs) (x ∷ []) ∙ ap (λ ys. flat_map f (take i xs) ++ ys) (append-nil (f x))
 
-  pub offered-more : (was now after : FinMap nat_cmp ClientPool) → now ≡ offered was (flat_map f (take i xs)) → after ≡ offered now (f x) → after ≡ offered was (flat_map f (take (i + 1) xs))
+  pub offered-more : (was now after : FinMap nat_cmp ClientPool) → now ≡ pools_after was (flat_map f (take i xs)) → after ≡ pools_after now (f x) → after ≡ pools_after was (flat_map f (take (i + 1) xs))
   offered-more was now after a b =
-      b ∙ ap (λ p. offered p (f x)) a ∙ offered-append was (flat_map f (take i xs)) (f x) ∙ ap (offered was) (sym one-more)
+      b ∙ ap (λ p. pools_after p (f x)) a ∙ offered-append was (flat_map f (take i xs)) (f x) ∙ ap (pools_after was) (sym one-more)
 
-  pub delivered-more : (was now : FinMap nat_cmp ClientPool) (out out' out'' : List Delivery) → now ≡ offered was (flat_map f (take i xs)) →
-      out' ≡ out ++ delivered was (flat_map f (take i xs)) → out'' ≡ out' ++ delivered now (f x) → out'' ≡ out ++ delivered was (flat_map f (take (i + 1) xs))
+  pub delivered-more : (was now : FinMap nat_cmp ClientPool) (out out' out'' : List Delivery) → now ≡ pools_after was (flat_map f (take i xs)) →
+      out' ≡ out ++ copies_with_room was (flat_map f (take i xs)) → out'' ≡ out' ++ copies_with_room now (f x) → out'' ≡ out ++ copies_with_room was (flat_map f (take (i + 1) xs))
   delivered-more was now out out' out'' p a b =
       let before : List Delivery = flat_map f (take i xs) in
-      b ∙ ap (λ ds. ds ++ delivered now (f x)) a ∙ append_assoc out (delivered was before) (delivered now (f x))
-      ∙ ap (λ ds. out ++ ds) (ap (λ q. delivered was before ++ delivered q (f x)) p ∙ delivered-append was before (f x) ∙ ap (delivered was) (sym one-more))
+      b ∙ ap (λ ds. ds ++ copies_with_room now (f x)) a ∙ append_assoc out (copies_with_room was before) (copies_with_room now (f x))
+      ∙ ap (λ ds. out ++ ds) (ap (λ q. copies_with_room was before ++ copies_with_room q (f x)) p ∙ delivered-append was before (f x) ∙ ap (copies_with_room was) (sym one-more))

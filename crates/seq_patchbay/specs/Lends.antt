@@ -1,4 +1,4 @@
--- What is left after a `&mut` to a part of a patchbay was returned.
+-- Representation: What is left after a `&mut` to a part of a patchbay was returned.
 use Rattle.std.specs.Prelude.{List}
 use Rattle.std.specs.Borrow.{Lends, Fml, MutBor}
 use Rattle.patch_graph.specs.declared.edge.Edge.{Edge}

@@ -1,4 +1,4 @@
--- The text that lists who is there.
+-- Definition: The listing as text.
 use Rattle.std.specs.Prelude.{ℕ, zero, suc, ◌+◌, List, [], ◌++◌, codes, Option, Some, None, if◌then◌else◌}
 use Rattle.std.specs.List.{flat_map}
 use Rattle.std.specs.Fmt.{decimal, signed_decimal}
@@ -11,7 +11,7 @@ use Rattle.node_table.specs.declared.number.Addr.{Addr}
 use Rattle.node_table.specs.declared.number.Node.TheVariants.{Port, Filter}
 use Rattle.patch_graph.specs.declared.edge.Edge.{Edge}
 use Rattle.seq_state.specs.State.{PortInfo, FilterInfo, Queue, Client}
-use Rattle.seq_state.specs.Own.{port_of, filter_of, queue_of, runs}
+use Rattle.seq_state.specs.Effect.{port_of, filter_of, queue_of, runs}
 
 -- ---- lines
 

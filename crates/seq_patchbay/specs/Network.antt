@@ -1,4 +1,4 @@
--- The open clients and the subscriptions between their nodes.
+-- Representation: The open clients and the subscriptions between their nodes.
 use Rattle.std.specs.Prelude.{List, refl}
 use Rattle.std.specs.Coded.{Coded, code_by, coded×, coded_list}
 use Rattle.patch_graph.specs.Codes.{coded_edge}

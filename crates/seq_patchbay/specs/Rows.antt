@@ -1,4 +1,4 @@
--- Who is there, listed by hand.
+-- Worked rows: A listing by hand.
 use Rattle.std.specs.Prelude.{◌≡◌, ℕ, pos, negsuc, Bool, true, false, List, [], ◌∷◌, ◌++◌, codes, Some, None}
 use Rattle.std.specs.Ordering.{nat_cmp}
 use Rattle.std.specs.FinMap
@@ -8,7 +8,7 @@ use Rattle.node_table.specs.declared.number.Addr.{Addr}
 use Rattle.node_table.specs.declared.number.Node.{Node}
 use Rattle.node_table.specs.declared.number.Node.TheVariants.{Port, Filter}
 use Rattle.patch_graph.specs.declared.edge.Edge.{Edge}
-use Rattle.seq_state.specs.Own.{one_tempo}
+use Rattle.seq_state.specs.Effect.{one_tempo}
 use Rattle.seq_state.specs.State.{PortInfo, FilterInfo, Queue, Client}
 use Rattle.seq_patchbay.specs.Listing.{listing}
 
@@ -19,20 +19,27 @@ abbrev pub running_clock : Clock
 running_clock = record { map = one_tempo 96 250000; time = 7; since = Some 5 }
 
 -- ports, filters and queues, put there in no order
-abbrev pub in_port : PortInfo
-in_port = record { name = codes "in~"; caps = record { 0 = 194 }; fed = 0x90 ∷ 0x3C ∷ [] }
+abbrev pub listed_in_port : PortInfo
+listed_in_port = record { name = codes "in~"; caps = record { 0 = 194 }; fed = 0x90 ∷ 0x3C ∷ [] }
 
-abbrev pub out_port : PortInfo
-out_port = record { name = codes "out"; caps = record { 0 = 33 }; fed = [] }
+abbrev pub listed_out_port : PortInfo
+listed_out_port = record { name = codes "out"; caps = record { 0 = 33 }; fed = [] }
 
 abbrev pub studio_ports : FinMap nat_cmp PortInfo
-studio_ports = FinMap.insert (FinMap.insert FinMap.empty 15 out_port) 0 in_port
+studio_ports = FinMap.insert (FinMap.insert FinMap.empty 15 listed_out_port) 0 listed_in_port
 
 abbrev pub drum_filter : FilterInfo
 drum_filter =
     record {
       caps = record { 0 = 3 };
-      rule = record { channels = 5; kinds = record { 0 = 3 }; low = 36; high = 96; shift = pos 12; channel = Some 9 };
+      rule = record {
+        channels = 5;
+        kinds = record { 0 = 3 };
+        low = 36;
+        high = 96;
+        shift = pos 12;
+        channel = Some 9;
+      };
     }
 
 abbrev pub octave_filter : FilterInfo
@@ -40,22 +47,31 @@ octave_filter =
     record {
       caps = record { 0 = 99 };
       rule =
-          record { channels = 65535; kinds = record { 0 = 1023 }; low = 0; high = 127; shift = negsuc 11; channel = None };
+          record {
+            channels = 65535;
+            kinds = record { 0 = 1023 };
+            low = 0;
+            high = 127;
+            shift = negsuc 11;
+            channel = None;
+          };
     }
 
 abbrev pub studio_filters : FinMap nat_cmp FilterInfo
 studio_filters = FinMap.insert (FinMap.insert FinMap.empty 10 octave_filter) 1 drum_filter
 
-abbrev pub a_queue : Clock → Bool → Queue
-a_queue clock shared = record { clock = clock; shared = shared }
+abbrev pub listed_queue : Clock → Bool → Queue
+listed_queue clock shared = record { clock = clock; shared = shared }
 
 abbrev pub studio_queues : FinMap nat_cmp Queue
 studio_queues =
-    FinMap.insert (FinMap.insert (FinMap.insert (FinMap.insert FinMap.empty 7 (a_queue running_clock true))
-    2 (a_queue held_clock true)) 1 (a_queue running_clock false)) 0 (a_queue held_clock false)
+    FinMap.insert (FinMap.insert
+    (FinMap.insert (FinMap.insert FinMap.empty 7 (listed_queue running_clock true))
+    2 (listed_queue held_clock true)) 1 (listed_queue running_clock false)) 0
+    (listed_queue held_clock false)
 
-abbrev pub studio : Client
-studio =
+abbrev pub listed_studio : Client
+listed_studio =
     record {
       name = codes "studio";
       in_size = 2000;
@@ -77,14 +93,17 @@ silent =
     }
 
 abbrev pub everyone : FinMap nat_cmp Client
-everyone = FinMap.insert (FinMap.insert FinMap.empty 191 studio) 128 silent
+everyone = FinMap.insert (FinMap.insert FinMap.empty 191 listed_studio) 128 silent
 
-abbrev pub edge : Node → Node → Edge
-edge source target =
-    record { source = record { client = 191; node = source }; target = record { client = 191; node = target } }
+abbrev pub edge_between : Node → Node → Edge
+edge_between source target =
+    record {
+      source = record { client = 191; node = source };
+      target = record { client = 191; node = target };
+    }
 
 abbrev pub two_edges : List Edge
-two_edges = edge (Port 15) (Filter 10) ∷ edge (Filter 10) (Port 0) ∷ []
+two_edges = edge_between (Port 15) (Filter 10) ∷ edge_between (Filter 10) (Port 0) ∷ []
 
 abbrev pub everyone_text : List ℕ
 everyone_text =

@@ -1,7 +1,8 @@
-//! The open clients with the subscriptions between their nodes, what goes along these, and who is there as text.
+//! The open clients with the subscriptions between their nodes, what goes along these, and the listing.
 #![tactic(auto)]
 
 mod carried;
+mod keeping;
 mod listing;
 mod patchbay;
 mod rows;

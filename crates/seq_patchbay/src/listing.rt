@@ -1,8 +1,8 @@
-//! Who is there, as text.
+//! The listing.
 
 ghost use Rattle.std.specs.Prelude.{◌≡◌, ◌++◌, OnOk, IfOk, slice_get};
 ghost use Rattle.std.specs.FinMap as map;
-ghost use Rattle.seq_state.specs.Own.{port_of, filter_of, queue_of};
+ghost use Rattle.seq_state.specs.Effect.{port_of, filter_of, queue_of};
 ghost use Rattle.seq_patchbay.specs.Listing.{client_line, port_line, rule_text, channel_text, filter_line, queue_line, edge_line, client_lines, port_lines, filter_lines, queue_lines, edge_lines, client_texts, port_texts, filter_texts, queue_texts, edge_texts, listing};
 
 use crate::patchbay::Patchbay;
@@ -18,7 +18,7 @@ use seq_clients::{Clients, Queue};
 use std::alloc::Global;
 
 impl Patchbay {
-    /// Who is there, as text: a line for each open client by number, with its ports, its filters and its queues by
+    /// The listing: a line for each open client by number, with its ports, its filters and its queues by
     /// number, and then one for each subscription, the oldest first.
     pub fn listing(&self, alloc: Global) -> Result<Vec<u8>, OutOfMemory>
         ensures { IfOk result (λ text.

@@ -4,8 +4,8 @@ ghost use Rattle.std.specs.Prelude.{◌≡◌, true, [], ◌++◌, length, IsOk,
 ghost use Rattle.std.specs.Borrow.{sem};
 ghost use Rattle.std.specs.FinMap.{get};
 ghost use Rattle.midi_wire.specs.Readings.{reading};
-ghost use Rattle.seq_state.specs.Own.{has_port, port_of, fed_of, port_fed, put_port, with_change, oldest, without_oldest};
-ghost use Rattle.seq_state.specs.Step.{offered, delivered};
+ghost use Rattle.seq_state.specs.Effect.{has_port, port_of, fed_of, port_fed, put_port, with_change, oldest, without_oldest};
+ghost use Rattle.seq_state.specs.Step.{pools_after, copies_with_room};
 ghost use Rattle.seq_clients.specs.Roster.{nobody, with_client, with_pool};
 ghost use Rattle.seq_patchbay.specs.Carrying.{copies_of_all};
 ghost use Rattle.seq_patchbay.specs.Lends.{LendsClients, LendsGraph};
@@ -28,7 +28,7 @@ use tempo_clock::Due;
 #[derive(Drop)]
 pub struct Patchbay {
     alloc: Global,
-    clients: Clients,
+    pub(crate) clients: Clients,
     graph: PatchGraph,
     ways: WayTable,
 }
@@ -145,10 +145,10 @@ impl Patchbay {
         ensures graph { OnOk result (self.new.graph ≡ self.old.graph) }
         ensures pools { let r = self.old.clients in
             let ds = copies_of_all r.clients self.old.graph moment client port messages.now in
-            OnOk result (self.new.clients.pools ≡ offered r.pools ds) }
+            OnOk result (self.new.clients.pools ≡ pools_after r.pools ds) }
         ensures sent { let r = self.old.clients in
             let ds = copies_of_all r.clients self.old.graph moment client port messages.now in
-            OnOk result (out.new.items ≡ out.old.items ++ delivered r.pools ds) }
+            OnOk result (out.new.items ≡ out.old.items ++ copies_with_room r.pools ds) }
         ensures none { messages.now ≡ [] → IsOk result }
     {
         // Where a piece of a stream completes no message, no way is looked for, which might take memory.

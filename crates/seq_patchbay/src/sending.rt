@@ -7,8 +7,8 @@ ghost use Rattle.patch_graph.specs.Cursor.{at_port};
 ghost use Rattle.patch_graph.specs.declared.edge.Edge.{Edge};
 ghost use Rattle.patch_graph.specs.Paths.{hops};
 ghost use Rattle.seq_state.specs.Copies.{copy};
-ghost use Rattle.seq_state.specs.Step.{offered, delivered};
-ghost use Rattle.seq_patchbay.specs.Carrying.{copies_to, spread};
+ghost use Rattle.seq_state.specs.Step.{pools_after, copies_with_room};
+ghost use Rattle.seq_patchbay.specs.Carrying.{copies_to, copies_onward};
 ghost use Rattle.seq_patchbay.specs.Ways.{copies_on, copies_along, spread_all, AreWays};
 
 use crate::carried::Carried;
@@ -34,11 +34,11 @@ pub(crate) fn send_each(
     ensures pools { let c = clients.old in (targets : List Addr) →
         AreWays c.clients graph.now targets ways.now →
         let ds = spread_all c.clients graph.now moment targets messages.now in
-        OnOk result (clients.new.pools ≡ offered c.pools ds) }
+        OnOk result (clients.new.pools ≡ pools_after c.pools ds) }
     ensures sent { let c = clients.old in (targets : List Addr) →
         AreWays c.clients graph.now targets ways.now →
         let ds = spread_all c.clients graph.now moment targets messages.now in
-        OnOk result (out.new.items ≡ out.old.items ++ delivered c.pools ds) }
+        OnOk result (out.new.items ≡ out.old.items ++ copies_with_room c.pools ds) }
 {
     if let Some(end) = straight_end(ways) {
         return send_straight(clients, moment, end, messages, out);
@@ -61,11 +61,11 @@ fn send_straight(
     ensures pools { let c = clients.old in (edges : List Edge) (targets : List Addr) →
         AreWays c.clients edges targets (Way.Straight end ∷ []) →
         let ds = spread_all c.clients edges moment targets messages.now in
-        OnOk result (clients.new.pools ≡ offered c.pools ds) }
+        OnOk result (clients.new.pools ≡ pools_after c.pools ds) }
     ensures sent { let c = clients.old in (edges : List Edge) (targets : List Addr) →
         AreWays c.clients edges targets (Way.Straight end ∷ []) →
         let ds = spread_all c.clients edges moment targets messages.now in
-        OnOk result (out.new.items ≡ out.old.items ++ delivered c.pools ds) }
+        OnOk result (out.new.items ≡ out.old.items ++ copies_with_room c.pools ds) }
 {
     // At most one copy of each comes, so that room for them all is made once.
     out.reserve(messages.len())?;
@@ -88,12 +88,12 @@ fn send_message(
     ensures clients { clients.new.clients ≡ clients.old.clients }
     ensures pools { let c = clients.old in (targets : List Addr) →
         AreWays c.clients graph.now targets ways.now →
-        let ds = spread c.clients graph.now moment hops targets message.now in
-        OnOk result (clients.new.pools ≡ offered c.pools ds) }
+        let ds = copies_onward c.clients graph.now moment hops targets message.now in
+        OnOk result (clients.new.pools ≡ pools_after c.pools ds) }
     ensures sent { let c = clients.old in (targets : List Addr) →
         AreWays c.clients graph.now targets ways.now →
-        let ds = spread c.clients graph.now moment hops targets message.now in
-        OnOk result (out.new.items ≡ out.old.items ++ delivered c.pools ds) }
+        let ds = copies_onward c.clients graph.now moment hops targets message.now in
+        OnOk result (out.new.items ≡ out.old.items ++ copies_with_room c.pools ds) }
 {
     match VoiceMessage::of(message) {
         Some(voice) => send_along(clients, graph, moment, ways, voice, out),
@@ -115,10 +115,10 @@ fn send_along<M: Carried + Drop>(
     ensures clients { clients.new.clients ≡ clients.old.clients }
     ensures pools { let c = clients.old in
         let ds = copies_along c.clients graph.now moment ways.now (M.bytes message) in
-        OnOk result (clients.new.pools ≡ offered c.pools ds) }
+        OnOk result (clients.new.pools ≡ pools_after c.pools ds) }
     ensures sent { let c = clients.old in
         let ds = copies_along c.clients graph.now moment ways.now (M.bytes message) in
-        OnOk result (out.new.items ≡ out.old.items ++ delivered c.pools ds) }
+        OnOk result (out.new.items ≡ out.old.items ++ copies_with_room c.pools ds) }
 {
     // Of one way nothing has to be kept for the next.
     if let [way] = ways {
@@ -146,10 +146,10 @@ fn send_by<M: Carried + Drop>(
     ensures clients { clients.new.clients ≡ clients.old.clients }
     ensures pools { let c = clients.old in
         let ds = copies_on c.clients graph.now moment (M.bytes message) way.now in
-        OnOk result (clients.new.pools ≡ offered c.pools ds) }
+        OnOk result (clients.new.pools ≡ pools_after c.pools ds) }
     ensures sent { let c = clients.old in
         let ds = copies_on c.clients graph.now moment (M.bytes message) way.now in
-        OnOk result (out.new.items ≡ out.old.items ++ delivered c.pools ds) }
+        OnOk result (out.new.items ≡ out.old.items ++ copies_with_room c.pools ds) }
 {
     match way {
         Way::Straight(end) => deliver(clients, moment, *end, message, out),
@@ -176,11 +176,11 @@ fn spread<M: Carried + Drop>(
 ) -> Result<(), OutOfMemory>
     ensures clients { clients.new.clients ≡ clients.old.clients }
     ensures pools { let c = clients.old in
-        let ds = spread c.clients graph.now moment hops targets.now (M.bytes message) in
-        OnOk result (clients.new.pools ≡ offered c.pools ds) }
+        let ds = copies_onward c.clients graph.now moment hops targets.now (M.bytes message) in
+        OnOk result (clients.new.pools ≡ pools_after c.pools ds) }
     ensures sent { let c = clients.old in
-        let ds = spread c.clients graph.now moment hops targets.now (M.bytes message) in
-        OnOk result (out.new.items ≡ out.old.items ++ delivered c.pools ds) }
+        let ds = copies_onward c.clients graph.now moment hops targets.now (M.bytes message) in
+        OnOk result (out.new.items ≡ out.old.items ++ copies_with_room c.pools ds) }
 {
     if hops == 0 {
         return Ok(());
@@ -208,10 +208,10 @@ fn send_to<'g, M: Carried + Drop>(
     ensures clients { clients.new.clients ≡ clients.old.clients }
     ensures pools { let c = clients.old in
         let ds = copies_to c.clients graph.now moment hops node.now (M.bytes message) in
-        OnOk result (clients.new.pools ≡ offered c.pools ds) }
+        OnOk result (clients.new.pools ≡ pools_after c.pools ds) }
     ensures sent { let c = clients.old in
         let ds = copies_to c.clients graph.now moment hops node.now (M.bytes message) in
-        OnOk result (out.new.items ≡ out.old.items ++ delivered c.pools ds) }
+        OnOk result (out.new.items ≡ out.old.items ++ copies_with_room c.pools ds) }
 {
     let (mut hops, mut node, mut message) = (hops, node, message);
     loop {
@@ -252,10 +252,10 @@ pub(crate) fn deliver<M: Carried + Drop>(
 ) -> Result<(), OutOfMemory>
     ensures clients { clients.new.clients ≡ clients.old.clients }
     ensures pools { let c = copy moment (at_port target) (Some (M.bytes message)) in
-        OnOk result (clients.new.pools ≡ offered clients.old.pools (option_to_list c)) }
+        OnOk result (clients.new.pools ≡ pools_after clients.old.pools (option_to_list c)) }
     ensures sent { let c = copy moment (at_port target) (Some (M.bytes message)) in
         OnOk result (out.new.items
-        ≡ out.old.items ++ delivered clients.old.pools (option_to_list c)) }
+        ≡ out.old.items ++ copies_with_room clients.old.pools (option_to_list c)) }
 {
     make_room(out)?;
     deliver_reserved(clients, moment, target, message, out)
@@ -273,10 +273,10 @@ fn deliver_reserved<M: Carried + Drop>(
     requires room { vec_len out.old < vec_capacity out.old }
     ensures clients { clients.new.clients ≡ clients.old.clients }
     ensures pools { let c = copy moment (at_port target) (Some (M.bytes message)) in
-        OnOk result (clients.new.pools ≡ offered clients.old.pools (option_to_list c)) }
+        OnOk result (clients.new.pools ≡ pools_after clients.old.pools (option_to_list c)) }
     ensures sent { let c = copy moment (at_port target) (Some (M.bytes message)) in
         OnOk result (out.new.items
-        ≡ out.old.items ++ delivered clients.old.pools (option_to_list c)) }
+        ≡ out.old.items ++ copies_with_room clients.old.pools (option_to_list c)) }
     ensures one { vec_len out.new ≤ vec_len out.old + 1 }
     ensures capacity { vec_capacity out.new ≡ vec_capacity out.old }
 {

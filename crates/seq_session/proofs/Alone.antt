@@ -14,34 +14,34 @@ use Rattle.seq_session.specs.declared.merged.Merged.{Merged}
 use Rattle.seq_session.specs.declared.source.Script.{Script}
 use Rattle.seq_session.specs.declared.source.ScriptSource.{ScriptSource}
 use Rattle.seq_session.specs.Rising.{RiseFrom, AreRising}
-use Rattle.seq_session.specs.Merging.{merged}
+use Rattle.seq_session.specs.Merging.{merge_of}
 use Rattle.seq_session.specs.Logs.{log_text}
 use Rattle.seq_session.specs.AllLogs.{clients_read}
-use Rattle.seq_session.specs.Sessions.{Folder, read, log_of, all_logs, listing_after, script_clients, script_for}
+use Rattle.seq_session.specs.Sessions.{FolderContents, script_reading, log_of, all_logs, listing_after, script_clients, script_for}
 use Rattle.seq_session.specs.Devices.{clients, AreRead, AreOpen, Wrote, AreAlone, IsSession, log_of_fault, IsReading, LogsTell}
 use Rattle.seq_session.proofs.Blamed.{none_told}
 use Rattle.seq_session.proofs.Isolated.{log_law}
 
 -- ---- the texts
 
-pub read-clients : (folder : Folder) (end : ℕ) (scripts : List Script) → clients_read (map (read folder end) scripts) ≡ script_clients scripts
+pub read-clients : (folder : FolderContents) (end : ℕ) (scripts : List Script) → clients_read (map (script_reading folder end) scripts) ≡ script_clients scripts
 read-clients folder end [] = refl
 read-clients folder end (s ∷ scripts) =
-    ap (λ c. c ∷ clients_read (map (read folder end) scripts)) (script-client s.client folder.names end s.text)
+    ap (λ c. c ∷ clients_read (map (script_reading folder end) scripts)) (script-client s.client folder.names end s.text)
     ∙ ap (λ cs. s.client ∷ cs) (read-clients folder end scripts)
 
-each_text : (folder : Folder) (end : ℕ) (lines : List ℕ) (entries : List LogEntry) (scripts : List Script) →
-    map (λ r. log_text r lines entries) (map (read folder end) scripts) ≡ map (λ s. log_text (read folder end s) lines entries) scripts
+each_text : (folder : FolderContents) (end : ℕ) (lines : List ℕ) (entries : List LogEntry) (scripts : List Script) →
+    map (λ r. log_text r lines entries) (map (script_reading folder end) scripts) ≡ map (λ s. log_text (script_reading folder end s) lines entries) scripts
 each_text folder end lines entries [] = refl
-each_text folder end lines entries (s ∷ scripts) = ap (λ ts. log_text (read folder end s) lines entries ∷ ts) (each_text folder end lines entries scripts)
+each_text folder end lines entries (s ∷ scripts) = ap (λ ts. log_text (script_reading folder end s) lines entries ∷ ts) (each_text folder end lines entries scripts)
 
-pub logs_made : (folder : Folder) (end : ℕ) (scripts : List Script) (reads : List ScriptRead) (m : Merged) (entries : List LogEntry) →
-    reads ≡ map (read folder end) scripts → m ≡ merged (map (read folder end) scripts) → entries ≡ plain folder.files m.inputs end → map (λ r. log_text r m.lines entries) reads ≡ all_logs folder end scripts
+pub logs_made : (folder : FolderContents) (end : ℕ) (scripts : List Script) (reads : List ScriptRead) (m : Merged) (entries : List LogEntry) →
+    reads ≡ map (script_reading folder end) scripts → m ≡ merge_of (map (script_reading folder end) scripts) → entries ≡ plain folder.files m.inputs end → map (λ r. log_text r m.lines entries) reads ≡ all_logs folder end scripts
 logs_made folder end scripts reads m entries r e p =
     ap (map (λ r. log_text r m.lines entries)) r
     ∙ each_text folder end m.lines entries scripts
-    ∙ ap (λ es. map (λ s. log_text (read folder end s) m.lines es) scripts) p
-    ∙ ap (λ (n : Merged). map (λ s. log_text (read folder end s) n.lines (plain folder.files n.inputs end)) scripts) e
+    ∙ ap (λ es. map (λ s. log_text (script_reading folder end s) m.lines es) scripts) p
+    ∙ ap (λ (n : Merged). map (λ s. log_text (script_reading folder end s) n.lines (plain folder.files n.inputs end)) scripts) e
 
 -- ---- each log is isolated
 
@@ -62,7 +62,7 @@ own_scripts [] r = tt
 own_scripts (s ∷ scripts) r =
     (ap (λ b. cond b (Some s) (script_for s.client scripts)) (eq-eqb s.client s.client refl), later_scripts s s.client scripts scripts (omega arith) r (own_from s.client scripts r))
 
-module _ {W : Type 0} (folder : Folder) (end : ℕ) (HasTaken : W → List ℕ → Type 0) (scripts : List Script) (rise : AreRising (script_clients scripts)) where
+module _ {W : Type 0} (folder : FolderContents) (end : ℕ) (HasTaken : W → List ℕ → Type 0) (scripts : List Script) (rise : AreRising (script_clients scripts)) where
   each_alone : (owners : List Script) (olds news : List W) → AllByRecursion (λ x. script_for x.client scripts ≡ Some x) owners → Wrote HasTaken olds news (map (log_of folder end scripts) owners) → AreAlone folder end HasTaken scripts owners olds news
   each_alone [] [] [] own h = tt
   each_alone [] [] (n ∷ news) own h = h
@@ -96,23 +96,23 @@ none_blamed failed eager blamed sources logs b n s =
 
 -- ---- a session that comes to its listing
 
-module _ {R W : Type 0} {HasLeft : R → List ℕ → Type 0} {HasTaken : W → List ℕ → Type 0} {folder : Folder} {end : ℕ} {sources rests : List (ScriptSource R)} {olds news : List W} {before after : W} (scripts : List Script) {text : List ℕ} where
+module _ {R W : Type 0} {HasLeft : R → List ℕ → Type 0} {HasTaken : W → List ℕ → Type 0} {folder : FolderContents} {end : ℕ} {sources rests : List (ScriptSource R)} {olds news : List W} {before after : W} (scripts : List Script) {text : List ℕ} where
   pub at_listing : (r : Result (Unit {0}) SessionFault) → AreRead HasLeft sources rests scripts → AreRising (script_clients scripts) → Wrote HasTaken olds news (all_logs folder end scripts) → text ≡ listing_after folder end scripts →
       OnOk r (Took HasTaken before text after) → OnErr r (TookPart HasTaken before text after) → IfErr r (λ e. e ≡ WriteListing) → IsSession HasLeft HasTaken folder end sources rests olds news before after r
-  at_listing (Ok u) read rise wrote same took part fault = record {
+  at_listing (Ok u) script_reading rise wrote same took part fault = record {
     scripts = scripts;
-    read = read;
+    read = script_reading;
     written = record {
       logs = wrote;
       listing = subst (λ t. Took HasTaken before t after) same took;
       isolated = all_alone folder end HasTaken scripts rise olds news wrote;
     };
   }
-  at_listing (Err WriteListing) read rise wrote same took part fault = record {
+  at_listing (Err WriteListing) script_reading rise wrote same took part fault = record {
     scripts = scripts;
-    read = read;
+    read = script_reading;
     written = record { whole = wrote; listing_part = subst (λ t. TookPart HasTaken before t after) same part };
   }
-  at_listing (Err OutOfMemory) read rise wrote same took part fault = cc
-  at_listing (Err (Read client)) read rise wrote same took part fault = cc
-  at_listing (Err (Write client)) read rise wrote same took part fault = cc
+  at_listing (Err OutOfMemory) script_reading rise wrote same took part fault = cc
+  at_listing (Err (Read client)) script_reading rise wrote same took part fault = cc
+  at_listing (Err (Write client)) script_reading rise wrote same took part fault = cc

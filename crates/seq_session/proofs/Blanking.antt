@@ -20,9 +20,9 @@ use Rattle.script_text.specs.declared.reading.SkipReason.{SkipReason}
 use Rattle.script_text.specs.declared.reading.SkipReason.TheVariants.{Unreadable, PastEnd, Late, TooLong}
 use Rattle.script_text.specs.Reasons.{reason_text}
 use Rattle.script_text.specs.Words.{words}
-use Rattle.text_forms.specs.Hex.{digit, spaced}
+use Rattle.text_forms.specs.Hex.{digit, spaced_hex}
 use Rattle.seq_session.specs.Logs.{skip_line, skips_text, arrival_text, delivery_line, got_line, all_refusals, name_in, name_numbered, outcome, below, reply_front}
-use Rattle.seq_session.specs.Blank.{is_one_of, cut_short, blank_line, blanked}
+use Rattle.seq_session.specs.Blank.{is_one_of, cut_short, blank_line, text_with_blanks}
 use Rattle.seq_session.proofs.Texts.{IsLine, blanked-line, words-front, words-number, small-other, decimal-small, line-append, line-number}
 
 -- ---- what has no line end
@@ -40,9 +40,9 @@ line-digit n t h = go (nat_lt n 10) refl
         one : (k : ℕ) → 10 < k → eqb k 10 ≡ false
         one k l = ne_eqb k 10 (λ e. omega arith)
 
-line-spaced : (bytes : List ℕ) → IsLine (spaced bytes)
+line-spaced : (bytes : List ℕ) → IsLine (spaced_hex bytes)
 line-spaced [] = refl
-line-spaced (b ∷ bytes) = line-digit (b / 16) (digit (b % 16) ∷ spaced bytes) (line-digit (b % 16) (spaced bytes) (line-spaced bytes))
+line-spaced (b ∷ bytes) = line-digit (b / 16) (digit (b % 16) ∷ spaced_hex bytes) (line-digit (b % 16) (spaced_hex bytes) (line-spaced bytes))
 
 line-why : (why : SkipReason) → IsLine (reason_text why)
 line-why Unreadable = refl
@@ -110,10 +110,10 @@ stays numbers line first second [] e h = ap (cut_short numbers line) e
 stays numbers line first second (w ∷ rest) e h =
     ap (cut_short numbers line) e ∙ ap (λ b. cond (b && is_one_of numbers w) (first ++ codes " line " ++ w) line) h
 
-line_stays : (numbers line t : List ℕ) → IsLine line → blank_line numbers line ≡ line → blanked numbers (line ++ 10 ∷ t) ≡ line ++ 10 ∷ blanked numbers t
-line_stays numbers line t h e = blanked-line numbers line t h ∙ ap (λ l. l ++ 10 ∷ blanked numbers t) e
+line_stays : (numbers line t : List ℕ) → IsLine line → blank_line numbers line ≡ line → text_with_blanks numbers (line ++ 10 ∷ t) ≡ line ++ 10 ∷ text_with_blanks numbers t
+line_stays numbers line t h e = blanked-line numbers line t h ∙ ap (λ l. l ++ 10 ∷ text_with_blanks numbers t) e
 
-pub skip_stays : (numbers : List ℕ) (s : Skip) (t : List ℕ) → blanked numbers (skip_line s ++ t) ≡ skip_line s ++ blanked numbers t
+pub skip_stays : (numbers : List ℕ) (s : Skip) (t : List ℕ) → text_with_blanks numbers (skip_line s ++ t) ≡ skip_line s ++ text_with_blanks numbers t
 skip_stays numbers s t =
     let tail : List ℕ = reason_text s.why in
     let line : List ℕ = codes "skip " ++ (decimal s.line ++ 32 ∷ tail) in
@@ -121,57 +121,57 @@ skip_stays numbers s t =
     let second : words line ≡ codes "skip" ∷ decimal s.line ∷ words tail =
     words-front (codes "skip") (decimal s.line ++ 32 ∷ tail) refl refl ∙ ap (λ ws. codes "skip" ∷ ws) (words-number s.line tail) in
     let one : IsLine line = line-append (decimal s.line) (32 ∷ tail) (line-number s.line) (line-why s.why) in
-    ap (blanked numbers) (shape t)
+    ap (text_with_blanks numbers) (shape t)
     ∙ line_stays numbers line t one (stays numbers line (codes "skip") (decimal s.line) (words tail) second (small-other (decimal s.line) (decimal-small s.line)))
-    ∙ sym (shape (blanked numbers t))
+    ∙ sym (shape (text_with_blanks numbers t))
 
-pub skips_stay : (numbers : List ℕ) (skips : List Skip) (t : List ℕ) → blanked numbers (skips_text skips ++ t) ≡ skips_text skips ++ blanked numbers t
+pub skips_stay : (numbers : List ℕ) (skips : List Skip) (t : List ℕ) → text_with_blanks numbers (skips_text skips ++ t) ≡ skips_text skips ++ text_with_blanks numbers t
 skips_stay numbers [] t = refl
 skips_stay numbers (s ∷ skips) t =
-    ap (blanked numbers) (append_assoc (skip_line s) (skips_text skips) t)
+    ap (text_with_blanks numbers) (append_assoc (skip_line s) (skips_text skips) t)
     ∙ skip_stays numbers s (skips_text skips ++ t)
     ∙ ap (λ u. skip_line s ++ u) (skips_stay numbers skips t)
-    ∙ sym (append_assoc (skip_line s) (skips_text skips) (blanked numbers t))
+    ∙ sym (append_assoc (skip_line s) (skips_text skips) (text_with_blanks numbers t))
 
-pub delivery_stays : (numbers : List ℕ) (d : Delivery) (t : List ℕ) → blanked numbers (delivery_line d ++ t) ≡ delivery_line d ++ blanked numbers t
+pub delivery_stays : (numbers : List ℕ) (d : Delivery) (t : List ℕ) → text_with_blanks numbers (delivery_line d ++ t) ≡ delivery_line d ++ text_with_blanks numbers t
 delivery_stays numbers d t =
-    let tail : List ℕ = decimal d.target.port ++ spaced d.message in
+    let tail : List ℕ = decimal d.target.port ++ spaced_hex d.message in
     let line : List ℕ = decimal d.moment ++ 32 ∷ (codes "port" ++ 32 ∷ tail) in
     let shape : (u : List ℕ) → delivery_line d ++ u ≡ line ++ 10 ∷ u = λ u. simp append_assoc in
     let second : words line ≡ decimal d.moment ∷ codes "port" ∷ words tail =
     words-number d.moment (codes "port" ++ 32 ∷ tail) ∙ ap (λ ws. decimal d.moment ∷ ws) (words-front (codes "port") tail refl refl) in
-    let one : IsLine line = line-append (decimal d.moment) (codes " port " ++ tail) (line-number d.moment) (line-append (decimal d.target.port) (spaced d.message) (line-number d.target.port) (line-spaced d.message)) in
-    ap (blanked numbers) (shape t)
+    let one : IsLine line = line-append (decimal d.moment) (codes " port " ++ tail) (line-number d.moment) (line-append (decimal d.target.port) (spaced_hex d.message) (line-number d.target.port) (line-spaced d.message)) in
+    ap (text_with_blanks numbers) (shape t)
     ∙ line_stays numbers line t one (stays numbers line (decimal d.moment) (codes "port") (words tail) second refl)
-    ∙ sym (shape (blanked numbers t))
+    ∙ sym (shape (text_with_blanks numbers t))
 
-came-shape : (port : ℕ) (message u : List ℕ) → arrival_text port message ++ u ≡ 32 ∷ (codes "port " ++ (decimal port ++ spaced message)) ++ 10 ∷ u
+came-shape : (port : ℕ) (message u : List ℕ) → arrival_text port message ++ u ≡ 32 ∷ (codes "port " ++ (decimal port ++ spaced_hex message)) ++ 10 ∷ u
 came-shape port message u = simp append_assoc
 
 got-shape : (m : ℕ) (tail c u : List ℕ) → c ++ u ≡ 32 ∷ tail ++ 10 ∷ u → (codes "got " ++ decimal m ++ c) ++ u ≡ (codes "got " ++ (decimal m ++ 32 ∷ tail)) ++ 10 ∷ u
 got-shape m tail c u e = append_assoc (codes "got " ++ decimal m) c u ∙ ap (λ v. codes "got " ++ decimal m ++ v) e ∙ simp append_assoc
 
-got_stays : (numbers : List ℕ) (a : Arrival) (t : List ℕ) → blanked numbers (got_line a ++ t) ≡ got_line a ++ blanked numbers t
+got_stays : (numbers : List ℕ) (a : Arrival) (t : List ℕ) → text_with_blanks numbers (got_line a ++ t) ≡ got_line a ++ text_with_blanks numbers t
 got_stays numbers a t =
-    let tail : List ℕ = codes "port " ++ (decimal a.port ++ spaced a.message) in
+    let tail : List ℕ = codes "port " ++ (decimal a.port ++ spaced_hex a.message) in
     let line : List ℕ = codes "got " ++ (decimal a.moment ++ 32 ∷ tail) in
     let shape : (u : List ℕ) → got_line a ++ u ≡ line ++ 10 ∷ u = λ u. got-shape a.moment tail (arrival_text a.port a.message) u (came-shape a.port a.message u) in
     let second : words line ≡ codes "got" ∷ decimal a.moment ∷ words tail =
     words-front (codes "got") (decimal a.moment ++ 32 ∷ tail) refl refl ∙ ap (λ ws. codes "got" ∷ ws) (words-number a.moment tail) in
-    let one : IsLine line = line-append (decimal a.moment) (32 ∷ tail) (line-number a.moment) (line-append (decimal a.port) (spaced a.message) (line-number a.port) (line-spaced a.message)) in
-    ap (blanked numbers) (shape t)
+    let one : IsLine line = line-append (decimal a.moment) (32 ∷ tail) (line-number a.moment) (line-append (decimal a.port) (spaced_hex a.message) (line-number a.port) (line-spaced a.message)) in
+    ap (text_with_blanks numbers) (shape t)
     ∙ line_stays numbers line t one (stays numbers line (codes "got") (decimal a.moment) (words tail) second (small-other (decimal a.moment) (decimal-small a.moment)))
-    ∙ sym (shape (blanked numbers t))
+    ∙ sym (shape (text_with_blanks numbers t))
 
-gots_stay : (numbers : List ℕ) (arrivals : List Arrival) (t : List ℕ) → blanked numbers (flat_map got_line arrivals ++ t) ≡ flat_map got_line arrivals ++ blanked numbers t
+gots_stay : (numbers : List ℕ) (arrivals : List Arrival) (t : List ℕ) → text_with_blanks numbers (flat_map got_line arrivals ++ t) ≡ flat_map got_line arrivals ++ text_with_blanks numbers t
 gots_stay numbers [] t = refl
 gots_stay numbers (a ∷ arrivals) t =
-    ap (blanked numbers) (append_assoc (got_line a) (flat_map got_line arrivals) t)
+    ap (text_with_blanks numbers) (append_assoc (got_line a) (flat_map got_line arrivals) t)
     ∙ got_stays numbers a (flat_map got_line arrivals ++ t)
     ∙ ap (λ u. got_line a ++ u) (gots_stay numbers arrivals t)
-    ∙ sym (append_assoc (got_line a) (flat_map got_line arrivals) (blanked numbers t))
+    ∙ sym (append_assoc (got_line a) (flat_map got_line arrivals) (text_with_blanks numbers t))
 
-below_stays : (numbers : List ℕ) (reply : Reply) (t : List ℕ) → blanked numbers (below reply ++ t) ≡ below reply ++ blanked numbers t
+below_stays : (numbers : List ℕ) (reply : Reply) (t : List ℕ) → text_with_blanks numbers (below reply ++ t) ≡ below reply ++ text_with_blanks numbers t
 below_stays numbers Done t = refl
 below_stays numbers (Messages n) t = refl
 below_stays numbers (Received arrivals) t = gots_stay numbers arrivals t
@@ -240,18 +240,18 @@ module _ (numbers : List ℕ) (moment line : ℕ) (reply : Reply) where
   shape u = append_assoc (whole ++ codes "\n") (below reply) u ∙ append_assoc whole (codes "\n") (below reply ++ u)
 
   -- a reply line that is none of these
-  pub reply_stays : (t : List ℕ) → is_one_of numbers (decimal line) ≡ false → blanked numbers ((whole ++ codes "\n" ++ below reply) ++ t) ≡ (whole ++ codes "\n" ++ below reply) ++ blanked numbers t
+  pub reply_stays : (t : List ℕ) → is_one_of numbers (decimal line) ≡ false → text_with_blanks numbers ((whole ++ codes "\n" ++ below reply) ++ t) ≡ (whole ++ codes "\n" ++ below reply) ++ text_with_blanks numbers t
   reply_stays t e =
-      ap (blanked numbers) (shape t)
+      ap (text_with_blanks numbers) (shape t)
       ∙ line_stays numbers whole (below reply ++ t) whole_line (cut_or_not false e)
       ∙ ap (λ u. whole ++ 10 ∷ u) (below_stays numbers reply t)
-      ∙ sym (shape (blanked numbers t))
+      ∙ sym (shape (text_with_blanks numbers t))
 
   -- a reply line that is one of these, with nothing below it
-  pub reply_cut : (t : List ℕ) → is_one_of numbers (decimal line) ≡ true → below reply ≡ [] → blanked numbers ((whole ++ codes "\n" ++ below reply) ++ t) ≡ (reply_front moment line ++ codes "\n") ++ blanked numbers t
+  pub reply_cut : (t : List ℕ) → is_one_of numbers (decimal line) ≡ true → below reply ≡ [] → text_with_blanks numbers ((whole ++ codes "\n" ++ below reply) ++ t) ≡ (reply_front moment line ++ codes "\n") ++ text_with_blanks numbers t
   reply_cut t e n =
-      ap (blanked numbers) (shape t)
+      ap (text_with_blanks numbers) (shape t)
       ∙ blanked-line numbers whole (below reply ++ t) whole_line
-      ∙ ap (λ l. l ++ 10 ∷ blanked numbers (below reply ++ t)) (cut_or_not true e)
-      ∙ ap (λ u. reply_front moment line ++ 10 ∷ blanked numbers (u ++ t)) n
-      ∙ sym (append_assoc (reply_front moment line) (codes "\n") (blanked numbers t))
+      ∙ ap (λ l. l ++ 10 ∷ text_with_blanks numbers (below reply ++ t)) (cut_or_not true e)
+      ∙ ap (λ u. reply_front moment line ++ 10 ∷ text_with_blanks numbers (u ++ t)) n
+      ∙ sym (append_assoc (reply_front moment line) (codes "\n") (text_with_blanks numbers t))

@@ -15,7 +15,7 @@ use Rattle.seq_state.specs.declared.log.LogEntry.{LogEntry}
 use Rattle.seq_state.specs.declared.log.LogEntry.TheVariants.{Delivered, Replied}
 use Rattle.seq_state.specs.declared.log.Reply.{Reply}
 use Rattle.seq_state.specs.declared.refusal.Refusal.{Refusal}
-use Rattle.seq_state.specs.Files.{File}
+use Rattle.smf_grammar.specs.Played.{PlayedFile}
 use Rattle.seq_state.specs.State.{State, start}
 use Rattle.seq_state.specs.Table.{command_row}
 use Rattle.seq_state.specs.Step.{Stepped, unless, refusal_of, effect_of, command_step, step, settle, plain, log_from, IsTimedFrom}
@@ -29,8 +29,8 @@ use Rattle.seq_session.specs.declared.source.Script.{Script}
 use Rattle.seq_session.specs.Rising.{RiseFrom, AreRising}
 use Rattle.seq_session.specs.Merging.{sorted_inputs, inputs_of, lines_of, not_after}
 use Rattle.seq_session.specs.Logs.{delivery_line, outcome, below, reply_front, reply_text, entries_text, skips_text, log_text}
-use Rattle.seq_session.specs.Sessions.{Folder, read, session, script_clients, script_for, only_scripts}
-use Rattle.seq_session.specs.Blank.{is_one_of, outside_lines, blanked, blank}
+use Rattle.seq_session.specs.Sessions.{FolderContents, script_reading, session, script_clients, script_for, only_scripts}
+use Rattle.seq_session.specs.Blank.{is_one_of, outside_lines, text_with_blanks, blank}
 use Rattle.seq_session.specs.Laws.{MergeLaw, TimedLaw, LogLaw}
 use Rattle.seq_session.proofs.Sorting.{IsSorted, sorted-sorted, sorted-all, filter-sorted, only-inputs}
 use Rattle.seq_session.proofs.Blanking.{skips_stay, delivery_stays, one_of-number, reply_stays, reply_cut}
@@ -50,18 +50,18 @@ by_other member client b e (x ∷ xs) h =
     go true = refl
     go false = refl
 
-abbrev said_in : Folder → ℕ → List Script → List ScriptInput
-said_in folder end scripts = flat_map (λ (r : ScriptRead). r.inputs) (map (read folder end) scripts)
+abbrev said_in : FolderContents → ℕ → List Script → List ScriptInput
+said_in folder end scripts = flat_map (λ (r : ScriptRead). r.inputs) (map (script_reading folder end) scripts)
 
-only-said : (folder : Folder) (end : ℕ) (member : ℕ → Bool) (scripts : List Script) → said_in folder end (only_scripts member scripts) ≡ filter (λ x. member x.input.actor) (said_in folder end scripts)
+only-said : (folder : FolderContents) (end : ℕ) (member : ℕ → Bool) (scripts : List Script) → said_in folder end (only_scripts member scripts) ≡ filter (λ x. member x.input.actor) (said_in folder end scripts)
 only-said folder end member [] = refl
 only-said folder end member (s ∷ scripts) =
     go (member s.client) refl
-    ∙ sym (filter-append (λ x. member x.input.actor) (read folder end s).inputs (said_in folder end scripts)
-    ∙ ap (λ ys. ys ++ filter (λ x. member x.input.actor) (said_in folder end scripts)) (by_other member s.client (member s.client) refl (read folder end s).inputs (script-by s.client folder.names end s.text))
-    ∙ ap (λ ys. cond (member s.client) (read folder end s).inputs [] ++ ys) (sym (only-said folder end member scripts)))
+    ∙ sym (filter-append (λ x. member x.input.actor) (script_reading folder end s).inputs (said_in folder end scripts)
+    ∙ ap (λ ys. ys ++ filter (λ x. member x.input.actor) (said_in folder end scripts)) (by_other member s.client (member s.client) refl (script_reading folder end s).inputs (script-by s.client folder.names end s.text))
+    ∙ ap (λ ys. cond (member s.client) (script_reading folder end s).inputs [] ++ ys) (sym (only-said folder end member scripts)))
   where
-    go : (b : Bool) → member s.client ≡ b → said_in folder end (cond b (s ∷ only_scripts member scripts) (only_scripts member scripts)) ≡ cond b (read folder end s).inputs [] ++ said_in folder end (only_scripts member scripts)
+    go : (b : Bool) → member s.client ≡ b → said_in folder end (cond b (s ∷ only_scripts member scripts) (only_scripts member scripts)) ≡ cond b (script_reading folder end s).inputs [] ++ said_in folder end (only_scripts member scripts)
     go true e = refl
     go false e = refl
 
@@ -71,14 +71,14 @@ merge_law = record {
   lines = lines_kept;
 }
   where
-    lines_kept : (folder : Folder) (end : ℕ) (member : ℕ → Bool) (scripts : List Script) → session folder end (only_scripts member scripts) ≡ filter (λ x. member x.input.actor) (session folder end scripts)
+    lines_kept : (folder : FolderContents) (end : ℕ) (member : ℕ → Bool) (scripts : List Script) → session folder end (only_scripts member scripts) ≡ filter (λ x. member x.input.actor) (session folder end scripts)
     lines_kept folder end member scripts = ap sorted_inputs (only-said folder end member scripts) ∙ sym (filter-sorted (λ x. member x.input.actor) (said_in folder end scripts))
 
 -- ---- moments
 
-all_within : (folder : Folder) (end : ℕ) (scripts : List Script) → list_all (is_within end) (said_in folder end scripts) ≡ true
+all_within : (folder : FolderContents) (end : ℕ) (scripts : List Script) → list_all (is_within end) (said_in folder end scripts) ≡ true
 all_within folder end [] = refl
-all_within folder end (s ∷ scripts) = list_all-append (is_within end) (read folder end s).inputs (said_in folder end scripts) (script-within s.client folder.names end s.text) (all_within folder end scripts)
+all_within folder end (s ∷ scripts) = list_all-append (is_within end) (script_reading folder end s).inputs (said_in folder end scripts) (script-within s.client folder.names end s.text) (all_within folder end scripts)
 
 abbrev from_moment : ℕ → ScriptInput → Bool
 from_moment now x = nat_le now x.input.moment
@@ -179,9 +179,9 @@ all_fit owner member r e (y ∷ ys) h k =
     (one_fit owner r.client member (outside_lines member r) y e (both_left (test y) (list_all test ys) h) (both_left (small y) (list_all small ys) k))
     (all_fit owner member r e ys (both_right (test y) (list_all test ys) h) (both_right (small y) (list_all small ys) k))
 
-own_fit : (folder : Folder) (end : ℕ) (member : ℕ → Bool) (owner : Script) → list_all (fits owner.client member (outside_lines member (read folder end owner))) (read folder end owner).inputs ≡ true
+own_fit : (folder : FolderContents) (end : ℕ) (member : ℕ → Bool) (owner : Script) → list_all (fits owner.client member (outside_lines member (script_reading folder end owner))) (script_reading folder end owner).inputs ≡ true
 own_fit folder end member owner =
-    let r : ScriptRead = read folder end owner in
+    let r : ScriptRead = script_reading folder end owner in
     let out : ScriptInput → Bool = λ x. aims_outside r.client member x.input.command in
     let rise : LinesRise 1 (2 ^ 64) r.inputs = script-rise owner.client folder.names end owner.text in
     all_fit owner.client member r (script-client owner.client folder.names end owner.text) r.inputs
@@ -197,59 +197,59 @@ other_fit owner client member numbers e xs h = list_all-weaker (is_by client) (f
         ∙ ap (λ b. not b || (beq (list_any (λ n. eqb x.line n) numbers) (aims_outside owner member x.input.command) && nat_lt x.line (2 ^ 64))) e
 
 -- after the owner's script no other is the owner's
-none_later : (folder : Folder) (end owner low : ℕ) (member : ℕ → Bool) (numbers : List ℕ) (scripts : List Script) → owner ≤ low → RiseFrom low (script_clients scripts) → list_all (fits owner member numbers) (said_in folder end scripts) ≡ true
+none_later : (folder : FolderContents) (end owner low : ℕ) (member : ℕ → Bool) (numbers : List ℕ) (scripts : List Script) → owner ≤ low → RiseFrom low (script_clients scripts) → list_all (fits owner member numbers) (said_in folder end scripts) ≡ true
 none_later folder end owner low member numbers [] l r = refl
 none_later folder end owner low member numbers (s ∷ scripts) l r =
     let other : eqb s.client owner ≡ false = (let k : low < s.client = r.0 in ne_eqb s.client owner (λ e. omega arith)) in
-    list_all-append (fits owner member numbers) (read folder end s).inputs (said_in folder end scripts)
-    (other_fit owner s.client member numbers other (read folder end s).inputs (script-by s.client folder.names end s.text))
+    list_all-append (fits owner member numbers) (script_reading folder end s).inputs (said_in folder end scripts)
+    (other_fit owner s.client member numbers other (script_reading folder end s).inputs (script-by s.client folder.names end s.text))
     (let k : low < s.client = r.0 in none_later folder end owner s.client member numbers scripts (omega arith) r.1)
 
 some_same : {A : Type 0} (x y : A) → Some x ≡ Some y → x ≡ y
 some_same x y e = cc
 
-said_fit : (folder : Folder) (end : ℕ) (member : ℕ → Bool) (owner : Script) (low : ℕ) (scripts : List Script) → RiseFrom low (script_clients scripts) → script_for owner.client scripts ≡ Some owner →
-    list_all (fits owner.client member (outside_lines member (read folder end owner))) (said_in folder end scripts) ≡ true
+said_fit : (folder : FolderContents) (end : ℕ) (member : ℕ → Bool) (owner : Script) (low : ℕ) (scripts : List Script) → RiseFrom low (script_clients scripts) → script_for owner.client scripts ≡ Some owner →
+    list_all (fits owner.client member (outside_lines member (script_reading folder end owner))) (said_in folder end scripts) ≡ true
 said_fit folder end member owner low [] r e = cc
 said_fit folder end member owner low (s ∷ scripts) r e = go (eqb s.client owner.client) refl e (said_fit folder end member owner s.client scripts r.1)
   where
     numbers : List ℕ
-    numbers = outside_lines member (read folder end owner)
+    numbers = outside_lines member (script_reading folder end owner)
 
     go : (b : Bool) → eqb s.client owner.client ≡ b → cond b (Some s) (script_for owner.client scripts) ≡ Some owner →
         (script_for owner.client scripts ≡ Some owner → list_all (fits owner.client member numbers) (said_in folder end scripts) ≡ true) →
         list_all (fits owner.client member numbers) (said_in folder end (s ∷ scripts)) ≡ true
     go true t e more =
         let same : s ≡ owner = some_same s owner e in
-        list_all-append (fits owner.client member numbers) (read folder end s).inputs (said_in folder end scripts)
-        (subst (λ (o : Script). list_all (fits owner.client member numbers) (read folder end o).inputs ≡ true) (sym same) (own_fit folder end member owner))
+        list_all-append (fits owner.client member numbers) (script_reading folder end s).inputs (said_in folder end scripts)
+        (subst (λ (o : Script). list_all (fits owner.client member numbers) (script_reading folder end o).inputs ≡ true) (sym same) (own_fit folder end member owner))
         (let k : s.client ≡ owner.client = ap (λ (o : Script). o.client) same in none_later folder end owner.client s.client member numbers scripts (omega arith) r.1)
     go false t e more =
-        list_all-append (fits owner.client member numbers) (read folder end s).inputs (said_in folder end scripts)
-        (other_fit owner.client s.client member numbers t (read folder end s).inputs (script-by s.client folder.names end s.text))
+        list_all-append (fits owner.client member numbers) (script_reading folder end s).inputs (said_in folder end scripts)
+        (other_fit owner.client s.client member numbers t (script_reading folder end s).inputs (script-by s.client folder.names end s.text))
         (more e)
 
-session_fit : (folder : Folder) (end : ℕ) (member : ℕ → Bool) (owner : Script) (scripts : List Script) → AreRising (script_clients scripts) → script_for owner.client scripts ≡ Some owner →
-    list_all (fits owner.client member (outside_lines member (read folder end owner))) (session folder end scripts) ≡ true
+session_fit : (folder : FolderContents) (end : ℕ) (member : ℕ → Bool) (owner : Script) (scripts : List Script) → AreRising (script_clients scripts) → script_for owner.client scripts ≡ Some owner →
+    list_all (fits owner.client member (outside_lines member (script_reading folder end owner))) (session folder end scripts) ≡ true
 session_fit folder end member owner scripts r e =
-    sorted-all (fits owner.client member (outside_lines member (read folder end owner))) (said_in folder end scripts) (start_at scripts r e)
+    sorted-all (fits owner.client member (outside_lines member (script_reading folder end owner))) (said_in folder end scripts) (start_at scripts r e)
   where
-    start_at : (ss : List Script) → AreRising (script_clients ss) → script_for owner.client ss ≡ Some owner → list_all (fits owner.client member (outside_lines member (read folder end owner))) (said_in folder end ss) ≡ true
+    start_at : (ss : List Script) → AreRising (script_clients ss) → script_for owner.client ss ≡ Some owner → list_all (fits owner.client member (outside_lines member (script_reading folder end owner))) (said_in folder end ss) ≡ true
     start_at [] r e = cc
     start_at (s ∷ ss) r e = go (eqb s.client owner.client) refl e
       where
         numbers : List ℕ
-        numbers = outside_lines member (read folder end owner)
+        numbers = outside_lines member (script_reading folder end owner)
 
         go : (b : Bool) → eqb s.client owner.client ≡ b → cond b (Some s) (script_for owner.client ss) ≡ Some owner → list_all (fits owner.client member numbers) (said_in folder end (s ∷ ss)) ≡ true
         go true t e =
             let same : s ≡ owner = some_same s owner e in
-            list_all-append (fits owner.client member numbers) (read folder end s).inputs (said_in folder end ss)
-            (subst (λ (o : Script). list_all (fits owner.client member numbers) (read folder end o).inputs ≡ true) (sym same) (own_fit folder end member owner))
+            list_all-append (fits owner.client member numbers) (script_reading folder end s).inputs (said_in folder end ss)
+            (subst (λ (o : Script). list_all (fits owner.client member numbers) (script_reading folder end o).inputs ≡ true) (sym same) (own_fit folder end member owner))
             (let k : s.client ≡ owner.client = ap (λ (o : Script). o.client) same in none_later folder end owner.client s.client member numbers ss (omega arith) r)
         go false t e =
-            list_all-append (fits owner.client member numbers) (read folder end s).inputs (said_in folder end ss)
-            (other_fit owner.client s.client member numbers t (read folder end s).inputs (script-by s.client folder.names end s.text))
+            list_all-append (fits owner.client member numbers) (script_reading folder end s).inputs (said_in folder end ss)
+            (other_fit owner.client s.client member numbers t (script_reading folder end s).inputs (script-by s.client folder.names end s.text))
             (said_fit folder end member owner s.client ss r e)
 
 -- ---- a log told by what the owner sees
@@ -278,19 +278,19 @@ unless_below : (refusal : Option Refusal) (s : State) (a : Stepped) → below a.
 unless_below None s a h = h
 unless_below (Some r) s a h = refl
 
-patch_below : (files : List File) (s : State) (owner moment actor : ℕ) (member : ℕ → Bool) (c : Command) → aims_outside owner member c ≡ true → below (command_step files s moment actor c).reply ≡ []
+patch_below : (files : List PlayedFile) (s : State) (owner moment actor : ℕ) (member : ℕ → Bool) (c : Command) → aims_outside owner member c ≡ true → below (command_step files s moment actor c).reply ≡ []
 unfolding command_row
 patch_below files s owner moment actor member (Connect source target) h = unless_below (refusal_of files s moment actor (Connect source target)) s (effect_of files s moment actor (Connect source target)) refl
 patch_below files s owner moment actor member (Disconnect source target) h = unless_below (refusal_of files s moment actor (Disconnect source target)) s (effect_of files s moment actor (Disconnect source target)) refl
 patch_below files s owner moment actor member c h = absurd (false≢true h)
 
-module _ (files : List File) (owner : ℕ) (member : ℕ → Bool) (numbers : List ℕ) (xs : List ScriptInput) where
+module _ (files : List PlayedFile) (owner : ℕ) (member : ℕ → Bool) (numbers : List ℕ) (xs : List ScriptInput) where
   abbrev inputs : List Input
   inputs = inputs_of xs
 
   -- the log as it is blanked, and as it is seen
   abbrev blank_text : List LogEntry → List ℕ
-  blank_text log = blanked numbers (entries_text owner (lines_of xs) log)
+  blank_text log = text_with_blanks numbers (entries_text owner (lines_of xs) log)
 
   abbrev seen_text : List ℕ → List LogEntry → List ℕ
   seen_text ls log = sights_text ls (view owner member inputs log)
@@ -301,14 +301,14 @@ module _ (files : List File) (owner : ℕ) (member : ℕ → Bool) (numbers : Li
   after_deliveries ls (d ∷ ds) log e = go (is_to owner d) (after_deliveries ls ds log e)
     where
       go : (b : Bool) → blank_text (map Delivered ds ++ log) ≡ seen_text ls (map Delivered ds ++ log) →
-          blanked numbers (cond b (delivery_line d) [] ++ entries_text owner (lines_of xs) (map Delivered ds ++ log)) ≡ sights_text ls (cond b (Came d ∷ []) [] ++ view owner member inputs (map Delivered ds ++ log))
+          text_with_blanks numbers (cond b (delivery_line d) [] ++ entries_text owner (lines_of xs) (map Delivered ds ++ log)) ≡ sights_text ls (cond b (Came d ∷ []) [] ++ view owner member inputs (map Delivered ds ++ log))
       go true more = delivery_stays numbers d (entries_text owner (lines_of xs) (map Delivered ds ++ log)) ∙ ap (λ t. delivery_line d ++ t) more
       go false more = more
 
   -- a reply to the owner
   owner_reply : (ls : List ℕ) (log : List LogEntry) (moment line : ℕ) (reply : Reply) (i : Input) (out : Bool) → aims_outside owner member i.command ≡ out → is_one_of numbers (decimal line) ≡ out →
       (out ≡ true → below reply ≡ []) → blank_text log ≡ seen_text ls log →
-      blanked numbers (reply_text moment (Some line) reply ++ entries_text owner (lines_of xs) log) ≡ sights_text (line ∷ ls) (sight_of_reply owner member moment reply (Some i) ∷ view owner member inputs log)
+      text_with_blanks numbers (reply_text moment (Some line) reply ++ entries_text owner (lines_of xs) log) ≡ sights_text (line ∷ ls) (sight_of_reply owner member moment reply (Some i) ∷ view owner member inputs log)
   unfolding sights_text first_line rest_lines
   owner_reply ls log moment line reply i true a n b e =
       reply_cut numbers moment line reply (entries_text owner (lines_of xs) log) n (b refl)
@@ -337,7 +337,7 @@ module _ (files : List File) (owner : ℕ) (member : ℕ → Bool) (numbers : Li
       at_input = slice_get-drop inputs (inputs_of ys) place y.input (drop-map (λ (x : ScriptInput). x.input) place xs ∙ ap inputs_of e)
 
       go : (t : Bool) → (not t || (beq (list_any (λ n. eqb y.line n) numbers) (aims_outside owner member y.input.command) && nat_lt y.line (2 ^ 64))) ≡ true →
-          blanked numbers (cond t (reply_text y.input.moment (slice_get (lines_of xs) place) reply) [] ++ entries_text owner (lines_of xs) log)
+          text_with_blanks numbers (cond t (reply_text y.input.moment (slice_get (lines_of xs) place) reply) [] ++ entries_text owner (lines_of xs) log)
           ≡ sights_text (lines_of (cond t (y ∷ filter (λ x. eqb x.input.actor owner) ys) (filter (λ x. eqb x.input.actor owner) ys))) (cond t (sight_of_reply owner member y.input.moment reply (slice_get inputs place) ∷ []) [] ++ view owner member inputs log)
       go false f = more
       go true f =
@@ -345,7 +345,7 @@ module _ (files : List File) (owner : ℕ) (member : ℕ → Bool) (numbers : Li
           let hits : Bool = list_any (λ n. eqb y.line n) numbers in
           let same : is_one_of numbers (decimal y.line) ≡ out =
           one_of-number y.line numbers (ltb-true y.line (2 ^ 64) (both_right (beq hits out) (nat_lt y.line (2 ^ 64)) f)) small ∙ beq_same hits out (both_left (beq hits out) (nat_lt y.line (2 ^ 64)) f) in
-          ap (λ o. blanked numbers (reply_text y.input.moment o reply ++ entries_text owner (lines_of xs) log)) at_line
+          ap (λ o. text_with_blanks numbers (reply_text y.input.moment o reply ++ entries_text owner (lines_of xs) log)) at_line
           ∙ owner_reply (owners owner ys) log y.input.moment y.line reply y.input out refl same b more
           ∙ ap (λ o. sights_text (y.line ∷ owners owner ys) (sight_of_reply owner member y.input.moment reply o ∷ view owner member inputs log)) (sym at_input)
 
@@ -387,16 +387,16 @@ owners-only owner member m (x ∷ xs) = go (member x.input.actor) refl (eqb x.in
     go false e false f more = more
 
 -- a blanked log is its skips, and what the owner sees
-blank_log : (folder : Folder) (end : ℕ) (owner : Script) (member : ℕ → Bool) (xs : List ScriptInput) → list_all (fits owner.client member (outside_lines member (read folder end owner))) xs ≡ true →
-    blank member (read folder end owner) (log_text (read folder end owner) (lines_of xs) (plain folder.files (inputs_of xs) end))
-    ≡ skips_text (read folder end owner).skips ++ sights_text (owners owner.client xs) (view owner.client member (inputs_of xs) (plain folder.files (inputs_of xs) end))
+blank_log : (folder : FolderContents) (end : ℕ) (owner : Script) (member : ℕ → Bool) (xs : List ScriptInput) → list_all (fits owner.client member (outside_lines member (script_reading folder end owner))) xs ≡ true →
+    blank member (script_reading folder end owner) (log_text (script_reading folder end owner) (lines_of xs) (plain folder.files (inputs_of xs) end))
+    ≡ skips_text (script_reading folder end owner).skips ++ sights_text (owners owner.client xs) (view owner.client member (inputs_of xs) (plain folder.files (inputs_of xs) end))
 blank_log folder end owner member xs fit =
-    let r : ScriptRead = read folder end owner in
+    let r : ScriptRead = script_reading folder end owner in
     let numbers : List ℕ = outside_lines member r in
     let log : List LogEntry = plain folder.files (inputs_of xs) end in
     let rise : LinesRise 1 (2 ^ 64) r.inputs = script-rise owner.client folder.names end owner.text in
     skips_stay numbers r.skips (entries_text r.client (lines_of xs) log)
-    ∙ ap (λ c. skips_text r.skips ++ blanked numbers (entries_text c (lines_of xs) log)) (script-client owner.client folder.names end owner.text)
+    ∙ ap (λ c. skips_text r.skips ++ text_with_blanks numbers (entries_text c (lines_of xs) log)) (script-client owner.client folder.names end owner.text)
     ∙ ap (λ t. skips_text r.skips ++ t)
     (log_seen folder.files owner.client member numbers xs xs start 0 end refl (lines_small (λ x. aims_outside r.client member x.input.command) 1 (2 ^ 64) r.inputs rise) fit)
 
@@ -405,11 +405,11 @@ log_law folder end owner member scripts rising there closed =
     let all : List ScriptInput = session folder end scripts in
     let kept : List ScriptInput = filter (λ x. member x.input.actor) all in
     let fit = session_fit folder end member owner scripts rising there in
-    let skips : List ℕ = skips_text (read folder end owner).skips in
+    let skips : List ℕ = skips_text (script_reading folder end owner).skips in
     blank_log folder end owner member all fit
     ∙ ap (λ ss. skips ++ sights_text (owners owner.client all) ss)
     (isolation_law folder.files owner.client member (inputs_of all) end (timed_law folder end scripts) closed
     ∙ ap (λ is. view owner.client member is (plain folder.files is end)) (sym (only-inputs member all)))
     ∙ ap (λ ls. skips ++ sights_text ls (view owner.client member (inputs_of kept) (plain folder.files (inputs_of kept) end))) (sym (owners-only owner.client member closed.0 all))
-    ∙ sym (blank_log folder end owner member kept (all_kept (fits owner.client member (outside_lines member (read folder end owner))) (λ x. member x.input.actor) all fit))
-    ∙ ap (λ xs. blank member (read folder end owner) (log_text (read folder end owner) (lines_of xs) (plain folder.files (inputs_of xs) end))) (sym (merge_law.lines folder end member scripts))
+    ∙ sym (blank_log folder end owner member kept (all_kept (fits owner.client member (outside_lines member (script_reading folder end owner))) (λ x. member x.input.actor) all fit))
+    ∙ ap (λ xs. blank member (script_reading folder end owner) (log_text (script_reading folder end owner) (lines_of xs) (plain folder.files (inputs_of xs) end))) (sym (merge_law.lines folder end member scripts))

@@ -11,7 +11,7 @@ use Rattle.script_text.proofs.Read.{is_from, InOrder, script-in_order}
 use Rattle.script_text.specs.declared.reading.ScriptRead.{ScriptRead}
 use Rattle.seq_session.specs.Merging.{not_after, with_input, sorted_inputs, inputs_in_order, merged_with, joined_onto, AreSorted}
 use Rattle.seq_session.specs.declared.source.Script.{Script}
-use Rattle.seq_session.specs.Sessions.{Folder, read}
+use Rattle.seq_session.specs.Sessions.{FolderContents, script_reading}
 use Rattle.seq_session.proofs.Sorting.{IsSorted}
 
 trans : (a b c : ScriptInput) → not_after a b ≡ true → not_after b c ≡ true → not_after a c ≡ true
@@ -156,9 +156,9 @@ no_script [] l = refl
 no_script (x ∷ reads) l = absurd (omega arith)
 
 -- each reading of a script is sorted: what the merge asks of its caller
-pub readings_sorted : (folder : Folder) (end : ℕ) (scripts : List Script) → AreSorted (map (read folder end) scripts)
+pub readings_sorted : (folder : FolderContents) (end : ℕ) (scripts : List Script) → AreSorted (map (script_reading folder end) scripts)
 readings_sorted folder end [] = tt
-readings_sorted folder end (s ∷ scripts) = (sorted-same (read folder end s).inputs (script-sorted s.client folder.names end s.text), readings_sorted folder end scripts)
+readings_sorted folder end (s ∷ scripts) = (sorted-same (script_reading folder end s).inputs (script-sorted s.client folder.names end s.text), readings_sorted folder end scripts)
 
 -- so is what a parse gives
 pub script_is_sorted : {E : Type 0} (client : ℕ) (names : List (List ℕ)) (end : ℕ) (text : List ℕ) (r : Result ScriptRead E) →

@@ -1,4 +1,4 @@
--- A log without the outcomes that tell of clients outside a circle.
+-- Definition: A log without the outcomes that tell of clients outside a circle.
 use Rattle.std.specs.Prelude.{ℕ, Bool, ◌&&◌, if◌then◌else◌, List, ◌∷◌, ◌++◌, map, codes}
 use Rattle.std.specs.List.{filter, list_any, join_with_byte}
 use Rattle.std.specs.Fmt.{decimal}
@@ -28,9 +28,9 @@ abbrev pub blank_line : List ℕ → List ℕ → List ℕ
 blank_line numbers line = cut_short numbers line (words line)
 
 -- a text with each of its lines blanked so
-abbrev pub blanked : List ℕ → List ℕ → List ℕ
-blanked numbers text = join_with_byte 10 (map (blank_line numbers) (lines text))
+abbrev pub text_with_blanks : List ℕ → List ℕ → List ℕ
+text_with_blanks numbers text = join_with_byte 10 (map (blank_line numbers) (lines text))
 
 -- the owner's log, where the outcomes at targets outside the circle are left out
 abbrev pub blank : (ℕ → Bool) → ScriptRead → List ℕ → List ℕ
-blank member script text = blanked (outside_lines member script) text
+blank member script text = text_with_blanks (outside_lines member script) text

@@ -1,4 +1,4 @@
--- What a session does to the readers of its scripts, to its logs and to its listing.
+-- Definition: What a session does to the readers of its scripts, to its logs and to its listing.
 use Rattle.std.specs.Prelude.{◌≡◌, ◌+◌, ◌==◌, ◌⊎◌, ℕ, Bool, true, false, List, [], ◌∷◌, ◌++◌, map, Option, Some, None, Result, Ok, Err, IsTrue}
 use Rattle.std.specs.List.{AllByRecursion, list_any}
 use Rattle.byte_io.specs.Moved.{GaveAll, Took, TookPart}
@@ -9,7 +9,7 @@ use Rattle.seq_engine.specs.declared.runs.RunLog.{RunLog}
 use Rattle.seq_session.specs.declared.source.Script.{Script}
 use Rattle.seq_session.specs.declared.source.ScriptSource.{ScriptSource}
 use Rattle.seq_session.specs.Merging.{inputs_of}
-use Rattle.seq_session.specs.Sessions.{Folder, read, session, happens, log_of, all_logs, listing_after, script_clients, only_scripts}
+use Rattle.seq_session.specs.Sessions.{FolderContents, script_reading, session, happens, log_of, all_logs, listing_after, script_clients, only_scripts}
 use Rattle.seq_session.specs.Blank.{blank}
 use Rattle.seq_state.specs.Circle.{IsClosed}
 
@@ -19,20 +19,24 @@ use Rattle.seq_state.specs.Circle.{IsClosed}
 abbrev pub clients : {R : Type 0} → List (ScriptSource R) → List ℕ
 clients sources = map (λ s. s.client) sources
 
--- The script is the client's, and its text is what the reads of the client's reader gave: all that it had, or one byte
--- more than a script may have.
-pub record IsRead {R : Type 0} (HasLeft : R → List ℕ → Type 0) (old new : ScriptSource R) (s : Script) : Type 0 where
+-- The script is the client's, and its text is what the reads of the client's reader gave: all that
+-- it had, or one byte more than a script may have.
+pub record IsRead {R : Type 0} (HasLeft : R → List ℕ → Type 0) (old new : ScriptSource R)
+    (s : Script) : Type 0 where
   pub client : s.client ≡ old.client
   pub text : GaveAll HasLeft (MOST_SCRIPT + 1) old.reader s.text new.reader
 
 -- so of each script
-abbrev pub AreRead : {R : Type 0} → (R → List ℕ → Type 0) → List (ScriptSource R) → List (ScriptSource R) → List Script → Type 0
-AreRead HasLeft (o ∷ olds) (n ∷ news) (s ∷ scripts) = IsRead HasLeft o n s × AreRead HasLeft olds news scripts
+abbrev pub AreRead : {R : Type 0} → (R → List ℕ → Type 0) → List (ScriptSource R)
+    → List (ScriptSource R) → List Script → Type 0
+AreRead HasLeft (o ∷ olds) (n ∷ news) (s ∷ scripts) =
+    IsRead HasLeft o n s × AreRead HasLeft olds news scripts
 AreRead HasLeft [] [] [] = Unit {0}
 AreRead HasLeft _ _ _ = ⊥
 
 -- scripts were read behind those that were there
-pub record ReadsOn {R : Type 0} (HasLeft : R → List ℕ → Type 0) (olds news : List (ScriptSource R)) (before after : List Script) : Type 0 where
+pub record ReadsOn {R : Type 0} (HasLeft : R → List ℕ → Type 0) (olds news : List (ScriptSource R))
+    (before after : List Script) : Type 0 where
   pub scripts : List Script
   pub added : after ≡ before ++ scripts
   pub read : AreRead HasLeft olds news scripts
@@ -49,12 +53,13 @@ AreOpen failed logs = AllByRecursion (λ w. failed w ≡ false) logs
 
 -- each log has taken its text
 abbrev pub Wrote : {W : Type 0} → (W → List ℕ → Type 0) → List W → List W → List (List ℕ) → Type 0
-Wrote HasTaken (o ∷ olds) (n ∷ news) (t ∷ texts) = Took HasTaken o t n × Wrote HasTaken olds news texts
+Wrote HasTaken (o ∷ olds) (n ∷ news) (t ∷ texts) =
+    Took HasTaken o t n × Wrote HasTaken olds news texts
 Wrote HasTaken [] [] [] = Unit {0}
 Wrote HasTaken _ _ _ = ⊥
 
--- The logs before that of this client have taken their texts, its own the first part of its text and
--- not all, and the later ones are as they were.
+-- The logs before that of this client have taken their texts, its own the first part of its text
+-- and not all, and the later ones are as they were.
 abbrev pub WroteUpTo : {W : Type 0} →
     (W → List ℕ → Type 0) → ℕ → List ℕ → List W → List W → List (List ℕ) → Type 0
 WroteUpTo HasTaken client (c ∷ clients) (o ∷ olds) (n ∷ news) (t ∷ texts) =
@@ -64,47 +69,56 @@ WroteUpTo HasTaken client _ _ _ _ = ⊥
 
 -- What a log has gained tells, within a circle that is closed round its client, what it tells in
 -- the session of the circle's scripts alone, but for the outcomes at targets outside.
-pub record IsAlone {W : Type 0} (folder : Folder) (end : ℕ) (HasTaken : W → List ℕ → Type 0) (scripts : List Script)
+pub record IsAlone {W : Type 0} (folder : FolderContents) (end : ℕ) (HasTaken : W → List ℕ → Type 0)
+    (scripts : List Script)
     (owner : Script) (old new : W) : Type 0 where
   pub gained : List ℕ
   pub took : Took HasTaken old gained new
   pub alone : (member : ℕ → Bool) →
       IsClosed folder.files owner.client member (inputs_of (session folder end scripts)) →
-      blank member (read folder end owner) gained
-      ≡ blank member (read folder end owner) (log_of folder end (only_scripts member scripts) owner)
+      blank member (script_reading folder end owner) gained
+      ≡ blank member (script_reading folder end owner)
+      (log_of folder end (only_scripts member scripts) owner)
 
 -- so of each log; `owners` are the clients' scripts
 abbrev pub AreAlone : {W : Type 0} →
-    Folder → ℕ → (W → List ℕ → Type 0) → List Script → List Script → List W → List W → Type 0
+    FolderContents → ℕ → (W → List ℕ → Type 0) → List Script → List Script → List W → List W
+    → Type 0
 AreAlone folder end HasTaken scripts (s ∷ owners) (o ∷ olds) (n ∷ news) =
-    IsAlone folder end HasTaken scripts s o n × AreAlone folder end HasTaken scripts owners olds news
+    IsAlone folder end HasTaken scripts s o n
+    × AreAlone folder end HasTaken scripts owners olds news
 AreAlone folder end HasTaken scripts [] [] [] = Unit {0}
 AreAlone folder end HasTaken scripts _ _ _ = ⊥
 
 -- ---- the whole session
 
--- Each log has taken its text, and the listing who is there at the end; and each log is alone within its circles.
-pub record AreLogged {W : Type 0} (HasTaken : W → List ℕ → Type 0) (folder : Folder) (end : ℕ) (scripts : List Script)
+-- Each log has taken its text, and the listing its own at the end; and each log is alone
+-- within its circles.
+pub record AreLogged {W : Type 0} (HasTaken : W → List ℕ → Type 0) (folder : FolderContents)
+    (end : ℕ) (scripts : List Script)
     (olds news : List W) (before after : W) : Type 0 where
   pub logs : Wrote HasTaken olds news (all_logs folder end scripts)
   pub listing : Took HasTaken before (listing_after folder end scripts) after
   pub isolated : AreAlone folder end HasTaken scripts scripts olds news
 
--- The log of this client could not be written: the earlier ones are whole, it has the first part of its text, and
--- nothing is written any more.
-pub record StopsAtLog {W : Type 0} (HasTaken : W → List ℕ → Type 0) (folder : Folder) (end : ℕ) (scripts : List Script)
+-- The log of this client could not be written: the earlier ones are whole, it has the first part of
+-- its text, and nothing is written any more.
+pub record StopsAtLog {W : Type 0} (HasTaken : W → List ℕ → Type 0) (folder : FolderContents)
+    (end : ℕ) (scripts : List Script)
     (client : ℕ) (olds news : List W) (before after : W) : Type 0 where
-  pub part : WroteUpTo HasTaken client (script_clients scripts) olds news (all_logs folder end scripts)
+  pub part : WroteUpTo HasTaken client (script_clients scripts) olds news
+      (all_logs folder end scripts)
   pub no_listing : after ≡ before
 
 -- The listing could not be written: all logs are whole, and it has the first part of its text.
-pub record StopsAtListing {W : Type 0} (HasTaken : W → List ℕ → Type 0) (folder : Folder) (end : ℕ) (scripts : List Script)
+pub record StopsAtListing {W : Type 0} (HasTaken : W → List ℕ → Type 0) (folder : FolderContents)
+    (end : ℕ) (scripts : List Script)
     (olds news : List W) (before after : W) : Type 0 where
   pub whole : Wrote HasTaken olds news (all_logs folder end scripts)
   pub listing_part : TookPart HasTaken before (listing_after folder end scripts) after
 
 -- what a session of these scripts has written where this is its answer
-abbrev pub IsWritten : {T W : Type 0} → (W → List ℕ → Type 0) → Folder → ℕ → List Script →
+abbrev pub IsWritten : {T W : Type 0} → (W → List ℕ → Type 0) → FolderContents → ℕ → List Script →
     List W → List W → W → W → Result T SessionFault → Type 0
 IsWritten HasTaken folder end scripts olds news before after (Ok _) =
     AreLogged HasTaken folder end scripts olds news before after
@@ -114,16 +128,19 @@ IsWritten HasTaken folder end scripts olds news before after (Err WriteListing) 
     StopsAtListing HasTaken folder end scripts olds news before after
 IsWritten HasTaken folder end scripts olds news before after (Err _) = Unit {0}
 
--- Scripts were read from these readers, and what was written is that of the session of just these scripts.
-pub record IsSession {T R W : Type 0} (HasLeft : R → List ℕ → Type 0) (HasTaken : W → List ℕ → Type 0)
-    (folder : Folder) (end : ℕ) (sources rests : List (ScriptSource R)) (olds news : List W) (before after : W)
+-- Scripts were read from these readers, and what was written is that of the session of just these
+-- scripts.
+pub record IsSession {T R W : Type 0} (HasLeft : R → List ℕ → Type 0)
+    (HasTaken : W → List ℕ → Type 0)
+    (folder : FolderContents) (end : ℕ) (sources rests : List (ScriptSource R)) (olds news : List W)
+    (before after : W)
     (result : Result T SessionFault) : Type 0 where
   pub scripts : List Script
   pub read : AreRead HasLeft sources rests scripts
   pub written : IsWritten HasTaken folder end scripts olds news before after result
 
 -- Scripts were read from these readers, and the log is that of the run of just these scripts.
-pub record IsRun {R : Type 0} (HasLeft : R → List ℕ → Type 0) (folder : Folder) (end : ℕ)
+pub record IsRun {R : Type 0} (HasLeft : R → List ℕ → Type 0) (folder : FolderContents) (end : ℕ)
     (sources rests : List (ScriptSource R)) (log : RunLog) : Type 0 where
   pub scripts : List Script
   pub read : AreRead HasLeft sources rests scripts

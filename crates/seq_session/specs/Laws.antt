@@ -1,4 +1,4 @@
--- What holds of all sessions.
+-- Law: What holds of all sessions.
 use Rattle.std.specs.Prelude.{◌≡◌, ℕ, Bool, List, map, Some}
 use Rattle.std.specs.List.{filter}
 use Rattle.seq_state.specs.Circle.{only, IsClosed}
@@ -6,28 +6,29 @@ use Rattle.seq_state.specs.Step.{IsTimed}
 use Rattle.seq_session.specs.declared.source.Script.{Script}
 use Rattle.seq_session.specs.Rising.{AreRising}
 use Rattle.seq_session.specs.Merging.{inputs_of, AreSorted}
-use Rattle.seq_session.specs.Sessions.{Folder, read, session, log_of, script_clients, script_for, only_scripts}
+use Rattle.seq_session.specs.Sessions.{FolderContents, script_reading, session, log_of, script_clients, script_for, only_scripts}
 use Rattle.seq_session.specs.Blank.{blank}
 
 -- to merge the scripts of a circle is to keep of the merged list what its members say: the inputs,
 -- and the lines with them
 pub record MergeLaw : Type 0 where
-  pub inputs : (folder : Folder) (end : ℕ) (member : ℕ → Bool) (scripts : List Script) →
+  pub inputs : (folder : FolderContents) (end : ℕ) (member : ℕ → Bool) (scripts : List Script) →
       inputs_of (session folder end (only_scripts member scripts))
       ≡ only member (inputs_of (session folder end scripts))
-  pub lines : (folder : Folder) (end : ℕ) (member : ℕ → Bool) (scripts : List Script) →
+  pub lines : (folder : FolderContents) (end : ℕ) (member : ℕ → Bool) (scripts : List Script) →
       session folder end (only_scripts member scripts)
       ≡ filter (λ x. member x.input.actor) (session folder end scripts)
 
 -- the readings of scripts are sorted
 abbrev pub SortedLaw : Type 0
 SortedLaw =
-    (folder : Folder) (end : ℕ) (scripts : List Script) → AreSorted (map (read folder end) scripts)
+    (folder : FolderContents) (end : ℕ) (scripts : List Script)
+    → AreSorted (map (script_reading folder end) scripts)
 
 -- the inputs of a session are well-timed
 abbrev pub TimedLaw : Type 0
 TimedLaw =
-    (folder : Folder) (end : ℕ) (scripts : List Script) →
+    (folder : FolderContents) (end : ℕ) (scripts : List Script) →
     IsTimed (inputs_of (session folder end scripts)) end
 
 -- Isolation, from bytes to bytes: where the owner has a script and the circle is closed round it,
@@ -35,8 +36,10 @@ TimedLaw =
 -- scripts alone.
 abbrev pub LogLaw : Type 0
 LogLaw =
-    (folder : Folder) (end : ℕ) (owner : Script) (member : ℕ → Bool) (scripts : List Script) →
+    (folder : FolderContents) (end : ℕ) (owner : Script) (member : ℕ → Bool)
+    (scripts : List Script) →
     AreRising (script_clients scripts) → script_for owner.client scripts ≡ Some owner →
     IsClosed folder.files owner.client member (inputs_of (session folder end scripts)) →
-    blank member (read folder end owner) (log_of folder end scripts owner)
-    ≡ blank member (read folder end owner) (log_of folder end (only_scripts member scripts) owner)
+    blank member (script_reading folder end owner) (log_of folder end scripts owner)
+    ≡ blank member (script_reading folder end owner)
+    (log_of folder end (only_scripts member scripts) owner)

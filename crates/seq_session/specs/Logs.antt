@@ -1,4 +1,4 @@
--- The log of a client, line by line.
+-- Definition: The log of a client, line by line.
 use Rattle.std.specs.Prelude.{ℕ, ◌==◌, Bool, true, false, if◌then◌else◌, List, [], ◌∷◌, ◌++◌, length, Option, Some, None, codes, slice_get}
 use Rattle.std.specs.List.{flat_map}
 use Rattle.std.specs.Fmt.{decimal}
@@ -15,7 +15,7 @@ use Rattle.seq_state.specs.Circle.{is_to}
 use Rattle.script_text.specs.declared.reading.ScriptRead.{ScriptRead}
 use Rattle.script_text.specs.declared.reading.Skip.{Skip}
 use Rattle.script_text.specs.Reasons.{reason_text}
-use Rattle.text_forms.specs.Hex.{spaced}
+use Rattle.text_forms.specs.Hex.{spaced_hex}
 
 -- ---- skipped lines
 
@@ -27,7 +27,7 @@ skip_line s = codes "skip " ++ decimal s.line ++ codes " " ++ reason_text s.why 
 
 -- ` port 0 90 3C 40`
 abbrev pub arrival_text : ℕ → List ℕ → List ℕ
-arrival_text port message = codes " port " ++ decimal port ++ spaced message ++ codes "\n"
+arrival_text port message = codes " port " ++ decimal port ++ spaced_hex message ++ codes "\n"
 
 -- `5 port 0 90 3C 40`
 abbrev pub delivery_line : Delivery → List ℕ

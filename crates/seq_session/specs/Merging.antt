@@ -1,4 +1,4 @@
--- The scripts of all clients as one list.
+-- Definition: The scripts of all clients as one list.
 use Rattle.std.specs.Prelude.{◌≡◌, ℕ, ◌==◌, nat_le, nat_lt, Bool, ◌&&◌, ◌||◌, if◌then◌else◌, List, [], ◌∷◌, map}
 use Rattle.std.specs.List.{flat_map}
 use Rattle.seq_state.specs.declared.input.Input.{Input}
@@ -33,8 +33,9 @@ abbrev pub lines_of : List ScriptInput → List ℕ
 lines_of xs = map (λ x. x.line) xs
 
 -- the list of the run, and beside it the lines
-abbrev pub merged : List ScriptRead → Merged
-merged reads = record { inputs = inputs_of (inputs_in_order reads); lines = lines_of (inputs_in_order reads) }
+abbrev pub merge_of : List ScriptRead → Merged
+merge_of reads =
+    record { inputs = inputs_of (inputs_in_order reads); lines = lines_of (inputs_in_order reads) }
 
 -- two sorted lists as one; of two that are alike, that of the first list comes first
 abbrev pub joined_onto : ScriptInput → (List ScriptInput → List ScriptInput) →

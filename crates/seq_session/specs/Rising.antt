@@ -1,4 +1,4 @@
--- Client numbers that rise.
+-- Definition: Client numbers that rise.
 use Rattle.std.specs.Prelude.{◌<◌, ℕ, List, [], ◌∷◌}
 
 -- each is above the one before, and the first above this one

@@ -1,21 +1,23 @@
--- Sessions worked out: scripts as text, and the logs that they have.
+-- Worked rows: Sessions worked out: scripts as text, and the logs that they have.
 use Rattle.std.specs.Prelude.{◌≡◌, ℕ, List, [], ◌∷◌, ◌++◌, codes}
 use Rattle.std.specs.List.{flat_map}
 use Rattle.seq_state.specs.declared.log.LogEntry.{LogEntry}
 use Rattle.seq_state.specs.declared.log.LogEntry.TheVariants.{Delivered, Replied}
 use Rattle.seq_state.specs.declared.log.Reply.TheVariants.{Done, Messages, Refused}
+use Rattle.seq_state.specs.declared.refusal.Refusal.TheVariants.{NoDest}
+use Rattle.seq_state.specs.Refusals.{refused}
 use Rattle.script_text.specs.declared.reading.SkipReason.TheVariants.{TooLong}
 use Rattle.script_text.specs.Rows.{hostile_text}
 use Rattle.seq_session.specs.declared.source.Script.{Script}
 use Rattle.seq_session.specs.Merging.{lines_of}
 use Rattle.seq_session.specs.Logs.{outcome, log_text}
-use Rattle.seq_session.specs.Sessions.{Folder, read, session}
-use Rattle.seq_session.specs.Blank.{blanked}
+use Rattle.seq_session.specs.Sessions.{FolderContents, script_reading, session}
+use Rattle.seq_session.specs.Blank.{text_with_blanks}
 
 abbrev pub a_script : ℕ → List ℕ → Script
 a_script client text = record { client = client; text = text }
 
-abbrev pub no_files : Folder
+abbrev pub no_files : FolderContents
 no_files = record { names = []; files = [] }
 
 -- a log entry in short
@@ -44,11 +46,12 @@ abbrev pub three_log : List LogEntry
 three_log =
     Replied 0 0 128 Done ∷ Replied 1 0 128 Done ∷ Replied 2 0 129 Done ∷ Replied 3 0 129 Done
     ∷ Replied 4 0 129 Done ∷ Replied 5 0 131 Done ∷ Replied 6 1 131 Done ∷ Replied 7 2 131 Done
-    ∷ Replied 8 3 131 (Refused 9) ∷ delivered_entry 5 129 (0x90 ∷ 0x3C ∷ 0x40 ∷ [])
+    ∷ Replied 8 3 131 (refused NoDest) ∷ delivered_entry 5 129 (0x90 ∷ 0x3C ∷ 0x40 ∷ [])
     ∷ delivered_entry 5 131 (0x90 ∷ 0x3C ∷ 0x40 ∷ []) ∷ Replied 9 5 128 (Messages 1) ∷ []
 
 abbrev pub log_in_three : Script → List ℕ
-log_in_three s = log_text (read no_files 10 s) (lines_of (session no_files 10 three)) three_log
+log_in_three s =
+    log_text (script_reading no_files 10 s) (lines_of (session no_files 10 three)) three_log
 
 pub record HostileLog : Type 0 where
   pub lines : lines_of (session no_files 10 three) ≡ 1 ∷ 2 ∷ 1 ∷ 2 ∷ 3 ∷ 1 ∷ 3 ∷ 5 ∷ 7 ∷ 3 ∷ []
@@ -92,10 +95,10 @@ pub record RefusalTexts : Type 0 where
 -- The reply lines of line 3 end after their number, those of line 13 stay; so does what only looks
 -- alike.
 pub record BlankForms : Type 0 where
-  pub log : blanked (3 ∷ 8 ∷ [])
+  pub log : text_with_blanks (3 ∷ 8 ∷ [])
       (codes "skip 3 late\n0 line 3 refused 9 NoDest\n3 port 3 F8\n3 line 13 ok\n"
       ++ codes "got 3 port 0 90 3C 40\n9 line 8 ok\n")
       ≡ codes "skip 3 late\n0 line 3\n3 port 3 F8\n3 line 13 ok\ngot 3 port 0 90 3C 40\n9 line 8\n"
-  pub twice : blanked (3 ∷ []) (codes "0 line 3\n") ≡ codes "0 line 3\n"
-  pub none : blanked [] (codes "0 line 3 ok\n") ≡ codes "0 line 3 ok\n"
-  pub empty : blanked (3 ∷ []) [] ≡ []
+  pub twice : text_with_blanks (3 ∷ []) (codes "0 line 3\n") ≡ codes "0 line 3\n"
+  pub none : text_with_blanks [] (codes "0 line 3 ok\n") ≡ codes "0 line 3 ok\n"
+  pub empty : text_with_blanks (3 ∷ []) [] ≡ []

@@ -1,8 +1,8 @@
--- A session: scripts of clients, run together, and the log of each.
+-- Definition: A session: scripts of clients, run together, and the log of each.
 use Rattle.std.specs.Prelude.{ℕ, ◌==◌, Bool, if◌then◌else◌, List, [], ◌∷◌, map, Option, Some, None}
 use Rattle.std.specs.List.{filter}
 use Rattle.seq_state.specs.declared.log.LogEntry.{LogEntry}
-use Rattle.seq_state.specs.Files.{File}
+use Rattle.smf_grammar.specs.Played.{PlayedFile}
 use Rattle.seq_state.specs.State.{start}
 use Rattle.seq_state.specs.Step.{plain, state_after}
 use Rattle.seq_engine.specs.Ending.{listing_of}
@@ -14,33 +14,33 @@ use Rattle.seq_session.specs.Merging.{inputs_in_order, inputs_of, lines_of}
 use Rattle.seq_session.specs.Logs.{log_text}
 
 -- The files of a run, with their names.
-pub record Folder : Type 0 where
+pub record FolderContents : Type 0 where
   pub names : List (List ℕ)
-  pub files : List File
+  pub files : List PlayedFile
 
-abbrev pub read : Folder → ℕ → Script → ScriptRead
-read folder end s = script s.client folder.names end s.text
+abbrev pub script_reading : FolderContents → ℕ → Script → ScriptRead
+script_reading folder end s = script s.client folder.names end s.text
 
 -- the inputs of the session, in order, with their lines
-abbrev pub session : Folder → ℕ → List Script → List ScriptInput
-session folder end scripts = inputs_in_order (map (read folder end) scripts)
+abbrev pub session : FolderContents → ℕ → List Script → List ScriptInput
+session folder end scripts = inputs_in_order (map (script_reading folder end) scripts)
 
 -- what happens
-abbrev pub happens : Folder → ℕ → List Script → List LogEntry
+abbrev pub happens : FolderContents → ℕ → List Script → List LogEntry
 happens folder end scripts = plain folder.files (inputs_of (session folder end scripts)) end
 
 -- the log of one of the scripts
-abbrev pub log_of : Folder → ℕ → List Script → Script → List ℕ
+abbrev pub log_of : FolderContents → ℕ → List Script → Script → List ℕ
 log_of folder end scripts s =
-    log_text (read folder end s) (lines_of (session folder end scripts))
+    log_text (script_reading folder end s) (lines_of (session folder end scripts))
     (happens folder end scripts)
 
 -- each script's log
-abbrev pub all_logs : Folder → ℕ → List Script → List (List ℕ)
+abbrev pub all_logs : FolderContents → ℕ → List Script → List (List ℕ)
 all_logs folder end scripts = map (log_of folder end scripts) scripts
 
--- who is there at the end, as text
-abbrev pub listing_after : Folder → ℕ → List Script → List ℕ
+-- the listing at the end
+abbrev pub listing_after : FolderContents → ℕ → List Script → List ℕ
 listing_after folder end scripts =
     listing_of (state_after folder.files start (inputs_of (session folder end scripts)))
 

@@ -1,7 +1,7 @@
 //! The scripts of all clients as one list.
 
 ghost use Rattle.std.specs.Prelude.{◌≡◌, ◌<◌, map, length, IfOk};
-ghost use Rattle.seq_session.specs.Merging.{inputs_in_order, merged, AreSorted, inputs_of, lines_of};
+ghost use Rattle.seq_session.specs.Merging.{inputs_in_order, merge_of, AreSorted, inputs_of, lines_of};
 
 use crate::join::join;
 use crate::merged::Merged;
@@ -13,7 +13,7 @@ use std::alloc::Global;
 /// The inputs of all scripts by moment, then by client, then by line.
 pub fn merge(alloc: Global, reads: &[ScriptRead]) -> Result<Merged, OutOfMemory>
     requires { AreSorted reads.now }
-    ensures { IfOk result (λ m. m ≡ merged reads.now) }
+    ensures { IfOk result (λ m. m ≡ merge_of reads.now) }
 {
     let order = references(alloc, reads)?;
     let inputs = inputs_of(alloc, order.as_slice())?;

@@ -1,7 +1,7 @@
 //! The files of a run, with their names.
 
 ghost use Rattle.std.specs.Prelude.{◌≡◌, ◌≤◌, ◌↔◌, map, length, IsSome, IfSome};
-ghost use Rattle.smf_grammar.specs.Played.{played};
+ghost use Rattle.smf_grammar.specs.Played.{as_played};
 ghost use Rattle.script_text.specs.declared.script.TheConstants.{MOST_FILES};
 
 use script_text::MOST_FILES;
@@ -17,15 +17,15 @@ pub struct NamedFiles<'f, 'b> {
 
 impl<'f, 'b> Model for NamedFiles<'f, 'b> {
     ghost use Rattle.std.specs.Prelude.{◌≡◌, ◌≤◌, map, length};
-    ghost use Rattle.smf_grammar.specs.Played.{played};
+    ghost use Rattle.smf_grammar.specs.Played.{as_played};
     ghost use Rattle.script_text.specs.declared.script.TheConstants.{MOST_FILES};
-    ghost use Rattle.seq_session.specs.Sessions.{Folder};
+    ghost use Rattle.seq_session.specs.Sessions.{FolderContents};
 
-    ghost Value = { Folder };
+    ghost Value = { FolderContents };
 
     ghost view = { λ n. record {
       names = map (λ name. name.items) n.names.now;
-      files = map played n.files.now;
+      files = map as_played n.files.now;
     } };
 
     ghost invariant = { λ n. length n.names.now ≤ MOST_FILES };
@@ -38,7 +38,7 @@ impl<'f, 'b> NamedFiles<'f, 'b> {
             × (length names.now ≤ MOST_FILES)) }
         ensures value { IfSome result (λ n. n ≡ record {
           names = map (λ name. name.items) names.now;
-          files = map played files.now;
+          files = map as_played files.now;
         }) }
     {
         if names.len() == files.len() && names.len() <= MOST_FILES {
@@ -58,7 +58,7 @@ impl<'f, 'b> NamedFiles<'f, 'b> {
 
     /// The files, in the order of their names.
     pub fn files(&self) -> &'f [SmfFile<'b>]
-        ensures { map played result.now ≡ self.now.files }
+        ensures { map as_played result.now ≡ self.now.files }
     {
         self.files
     }

@@ -4,7 +4,7 @@ ghost use Rattle.std.specs.Prelude.{◌≡◌, map, IfOk, OnOk};
 ghost use Rattle.script_text.specs.Scripts.{script};
 ghost use Rattle.seq_session.specs.AllLogs.{clients_read};
 ghost use Rattle.seq_session.specs.Merging.{sorted_inputs, AreSorted};
-ghost use Rattle.seq_session.specs.Sessions.{read, script_clients};
+ghost use Rattle.seq_session.specs.Sessions.{script_reading, script_clients};
 
 use crate::named_files::NamedFiles;
 use crate::source::Script;
@@ -34,7 +34,7 @@ pub(crate) fn parse_all(
     files: &NamedFiles<'_, '_>,
     until: u64,
 ) -> Result<Vec<ScriptRead>, OutOfMemory>
-    ensures readings { IfOk result (λ rs. rs.items ≡ map (read files.now until) scripts.now) }
+    ensures readings { IfOk result (λ rs. rs.items ≡ map (script_reading files.now until) scripts.now) }
 {
     let mut reads = Vec::new(alloc);
     for one in scripts {

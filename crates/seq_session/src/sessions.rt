@@ -27,14 +27,14 @@ use seq_engine::{RunLog, run};
 use std::alloc::Global;
 
 /// Reads the script of each client, runs all of them together up to `until`, and writes each
-/// client's log, in the order of the scripts, and then the listing of who is there at the end.
+/// client's log, in the order of the scripts, and then the listing at the end.
 ///
 /// The numbers of the clients rise, `logs` are as many as the scripts, no device has failed, and the
 /// agenda is empty. All is read, and the texts of all logs and of the listing are made, before
 /// anything is written. Of a script with more than `MOST_SCRIPT` bytes one byte more is read.
 ///
 /// A sink that finds no memory has failed: that is `Write` or `WriteListing`. A reader that finds
-/// none is `Read`. `OutOfMemory` is want of memory anywhere else.
+/// none is `Read`. `OutOfMemory` is out of memory anywhere else.
 pub fn run_sessions<'f, 'b, R: Source, W: Sink, A: Agenda + Drop>(
     alloc: Global,
     scripts: &mut [ScriptSource<R>],
@@ -52,7 +52,7 @@ pub fn run_sessions<'f, 'b, R: Source, W: Sink, A: Agenda + Drop>(
     requires empty { A.content agenda ≡ finmap.empty }
 
     // Once all is read, there are scripts, each what the calls of its reader gave, and what is written is that of the
-    // session of just these: each log gains the client's log, and the listing who is there at the end. Where a circle
+    // session of just these: each log gains the client's log, and the listing its own at the end. Where a circle
     // of clients is closed round the owner of a log, what the log gains tells what it tells in the session of the
     // circle's scripts alone, whatever all others say. At a write fault the earlier logs are whole, that one has the
     // first part of its text, and nothing is written any more.
@@ -83,7 +83,7 @@ pub fn run_sessions<'f, 'b, R: Source, W: Sink, A: Agenda + Drop>(
 /// Reads the script of each client and runs all of them together up to `until`, without their logs.
 ///
 /// The numbers of the clients rise, no device has failed, and the agenda is empty. A reader that finds no memory is
-/// `Read`; `OutOfMemory` is want of memory anywhere else.
+/// `Read`; `OutOfMemory` is out of memory anywhere else.
 pub fn run_scripts<'f, 'b, R: Source, A: Agenda + Drop>(
     alloc: Global,
     scripts: &mut [ScriptSource<R>],

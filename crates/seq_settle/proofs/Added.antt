@@ -7,13 +7,13 @@ use Rattle.std.specs.FinMap.{FinMap}
 use Rattle.tempo_clock.specs.declared.due.Due.{Due}
 use Rattle.std.specs.Prelude.{unwrap_or}
 use Rattle.std.proofs.lemmas.Bool.{eqb-true}
-use Rattle.cell_pools.specs.Cells.{Held, Store, held, no_cells, keys_of, size_of, with_cell}
-use Rattle.seq_state.specs.State.{Client, Event, put}
+use Rattle.cell_pools.specs.Cells.{Holding, Store, holding_of, no_cells, keys_of, size_of, with_cell}
+use Rattle.seq_state.specs.State.{Client, DueMessage, with_entry}
 use Rattle.seq_state.proofs.Effects.{get-put}
 use Rattle.node_table.specs.declared.number.QueueAddr.{QueueAddr}
 use Rattle.seq_state.specs.Step.{is_left}
 use Rattle.agenda_heap.specs.declared.due_key.DueKey.{DueKey}
-use Rattle.seq_settle.specs.Cells.{Left, Cell, pending_in, playbacks, are_in_order, AreCells, key_of, AreFirstKeys}
+use Rattle.seq_settle.specs.Cells.{RankedPlayback, PlaybackCell, pending_in, playbacks, are_in_order, AreCells, key_of, AreFirstKeys}
 use Rattle.seq_settle.specs.Sends.{next_due, new_left}
 use Rattle.seq_settle.proofs.Stores.{Fits, put_cells, playbacks-new, playbacks-later}
 use Rattle.seq_settle.proofs.Turn.{key_of-some}
@@ -25,7 +25,7 @@ none_some x e = cc
 some_of : {X : Type 0} (x y : X) → Some x ≡ Some y → x ≡ y
 some_of x y e = cc
 
-pub later_cells : (cells : FinMap nat_cmp Cell) (n : ℕ) → AreCells cells n → AreCells cells (n + 1)
+pub later_cells : (cells : FinMap nat_cmp PlaybackCell) (n : ℕ) → AreCells cells n → AreCells cells (n + 1)
 later_cells cells n are = record {
   early = λ q c e. let l : c.1.rank < n = are.early q c e in omega arith;
   apart = are.apart;
@@ -34,16 +34,16 @@ later_cells cells n are = record {
 }
 
 -- nothing to send
-pub none_added : (cells : FinMap nat_cmp Cell) (n : ℕ) (client port : ℕ) (queue : QueueAddr) (accepted : ℕ) (es : List Event) → AreCells cells n → next_due es ≡ None → playbacks cells (n + 1) ≡ playbacks cells n ++ filter is_left (pending_in (client, new_left n port queue accepted es) ∷ [])
+pub none_added : (cells : FinMap nat_cmp PlaybackCell) (n : ℕ) (client port : ℕ) (queue : QueueAddr) (accepted : ℕ) (es : List DueMessage) → AreCells cells n → next_due es ≡ None → playbacks cells (n + 1) ≡ playbacks cells n ++ filter is_left (pending_in (client, new_left n port queue accepted es) ∷ [])
 none_added cells n client port queue accepted [] are e = playbacks-later cells n are ∙ sym (append-nil (playbacks cells n))
 none_added cells n client port queue accepted (x ∷ xs) are e = absurd (none_some x.due (sym e))
 
-module _ (clients : FinMap nat_cmp Client) (cells cells' : FinMap nat_cmp Cell) (agenda : FinMap nat_cmp DueKey) (n k : ℕ) (client port : ℕ) (queue : QueueAddr) (accepted : ℕ) (es : List Event) (due : Due) (are : AreCells cells n) (keys : AreFirstKeys clients cells agenda) (ordered : are_in_order es ≡ true) (some : next_due es ≡ Some due)
-    (free : FinMap.get cells k ≡ None) (added : cells' ≡ put cells k (Some ((client, new_left n port queue accepted es)))) where
-  abbrev new : Cell
+module _ (clients : FinMap nat_cmp Client) (cells cells' : FinMap nat_cmp PlaybackCell) (agenda : FinMap nat_cmp DueKey) (n k : ℕ) (client port : ℕ) (queue : QueueAddr) (accepted : ℕ) (es : List DueMessage) (due : Due) (are : AreCells cells n) (keys : AreFirstKeys clients cells agenda) (ordered : are_in_order es ≡ true) (some : next_due es ≡ Some due)
+    (free : FinMap.get cells k ≡ None) (added : cells' ≡ with_entry cells k (Some ((client, new_left n port queue accepted es)))) where
+  abbrev new : PlaybackCell
   new = (client, new_left n port queue accepted es)
 
-  filled : (xs : List Event) → next_due xs ≡ Some due → is_left (pending_in (client, new_left n port queue accepted xs)) ≡ true
+  filled : (xs : List DueMessage) → next_due xs ≡ Some due → is_left (pending_in (client, new_left n port queue accepted xs)) ≡ true
   filled [] e = absurd (none_some due e)
   filled (x ∷ xs) e = refl
 
@@ -55,7 +55,7 @@ module _ (clients : FinMap nat_cmp Client) (cells cells' : FinMap nat_cmp Cell) 
     ordered = ordered;
   }
 
-  there : AreCells (put cells k (Some new)) (n + 1)
+  there : AreCells (with_entry cells k (Some new)) (n + 1)
   there = put_cells cells n (n + 1) k (Some new) (omega arith) (λ d e. subst (Fits cells k (n + 1)) (some_of new d e) fits) are
 
   pub added_cells : AreCells cells' (n + 1)
@@ -64,24 +64,24 @@ module _ (clients : FinMap nat_cmp Client) (cells cells' : FinMap nat_cmp Cell) 
   pub added_tasks : playbacks cells' (n + 1) ≡ playbacks cells n ++ filter is_left (pending_in (client, new_left n port queue accepted es) ∷ [])
   added_tasks = ap (λ x. playbacks x (n + 1)) added ∙ playbacks-new cells n k new are there free refl ∙ ap (λ b. playbacks cells n ++ cond b (pending_in (client, new_left n port queue accepted es) ∷ []) []) (sym (filled es some))
 
-  pub added_keys : (agenda' : FinMap nat_cmp DueKey) → agenda' ≡ put agenda k (key_of clients (Some new)) → AreFirstKeys clients cells' agenda'
-  added_keys agenda' a = subst (λ x. AreFirstKeys clients x agenda') (sym added) (subst (AreFirstKeys clients (put cells k (Some new))) (sym a) (keys_put clients cells agenda k (Some new) keys))
+  pub added_keys : (agenda' : FinMap nat_cmp DueKey) → agenda' ≡ with_entry agenda k (key_of clients (Some new)) → AreFirstKeys clients cells' agenda'
+  added_keys agenda' a = subst (λ x. AreFirstKeys clients x agenda') (sym added) (subst (AreFirstKeys clients (with_entry cells k (Some new))) (sym a) (keys_put clients cells agenda k (Some new) keys))
 
   pub added_fresh : (x : DueKey) (q : ℕ) → key_of clients (Some new) ≡ Some x → FinMap.get agenda q ≡ Some x → q ≡ k
   added_fresh x q e f =
       let h = key_of-some clients (Some new) x e in
       let o = key_of-some clients (FinMap.get cells q) x (sym (keys.keyed q) ∙ f) in
-      let mine : n ≡ h.0.1.rank = ap (λ (c : Cell). c.1.rank) (some_of new h.0 h.1) in
+      let mine : n ≡ h.0.1.rank = ap (λ (c : PlaybackCell). c.1.rank) (some_of new h.0 h.1) in
       let r : h.0.1.rank ≡ x.rank = h.3 in
       let l : o.0.1.rank < n = are.early q o.0 o.1 in
       let s : o.0.1.rank ≡ x.rank = o.3 in
       absurd (omega arith)
 
 -- the sizes stay
-pub sizes-with : (s : Store Left) (client key : ℕ) (x : Left) (other : ℕ) → size_of (with_cell s client key x) other ≡ size_of s other
+pub sizes-with : (s : Store RankedPlayback) (client key : ℕ) (x : RankedPlayback) (other : ℕ) → size_of (with_cell s client key x) other ≡ size_of s other
 sizes-with s client key x other =
-    ap (λ o. (unwrap_or o no_cells).size) (get-put s.clients client (Some (record { size = (held s.clients client).size; keys = keys_of s client ++ key ∷ [] })) other) ∙ go (eqb other client) refl
+    ap (λ o. (unwrap_or o no_cells).size) (get-put s.clients client (Some (record { size = (holding_of s.clients client).size; keys = keys_of s client ++ key ∷ [] })) other) ∙ go (eqb other client) refl
   where
-    go : (b : Bool) → eqb other client ≡ b → (unwrap_or (cond b (Some (let h : Held = record { size = (held s.clients client).size; keys = keys_of s client ++ key ∷ [] } in h)) (FinMap.get s.clients other)) no_cells).size ≡ (held s.clients other).size
-    go true t = ap (λ c. (held s.clients c).size) (sym (eqb-true other client t))
+    go : (b : Bool) → eqb other client ≡ b → (unwrap_or (cond b (Some (let h : Holding = record { size = (holding_of s.clients client).size; keys = keys_of s client ++ key ∷ [] } in h)) (FinMap.get s.clients other)) no_cells).size ≡ (holding_of s.clients other).size
+    go true t = ap (λ c. (holding_of s.clients c).size) (sym (eqb-true other client t))
     go false t = refl

@@ -10,10 +10,10 @@ use Rattle.tempo_clock.specs.Laws.{NoLater}
 use Rattle.tempo_clock.specs.Ticks.{Tempos}
 use Rattle.tempo_clock.proofs.MomentLaws.{moments_rise}
 use Rattle.tempo_clock.proofs.TickLaws.{nanos_rise}
-use Rattle.seq_state.specs.State.{Client, Queue, Event, Pending}
+use Rattle.seq_state.specs.State.{Client, Queue, DueMessage, OwnedPlayback}
 use Rattle.seq_state.specs.Step.{moment_in, event_moment}
 use Rattle.seq_state.proofs.Pop.{not_before}
-use Rattle.seq_settle.specs.Moments.{queue_at, moment_at}
+use Rattle.seq_settle.specs.Moments.{queue_in, moment_at}
 use Rattle.seq_settle.specs.Cells.{due_le}
 
 -- what is due later is due later in time
@@ -39,10 +39,10 @@ module _ (clients : FinMap nat_cmp Client) where
   by_queue (Some q) accepted d e l = told (moment_of q.clock accepted d) (moment_of q.clock accepted e) (moments_rise q.clock accepted accepted d e (omega arith) (times_rise q.clock.map d e l))
 
   -- an event's moment is that of its due time
-  pub event_moment-is : (p : Pending) (e : Event) → event_moment clients p e ≡ moment_at clients p.queue p.playback.accepted e.due
+  pub event_moment-is : (p : OwnedPlayback) (e : DueMessage) → event_moment clients p e ≡ moment_at clients p.queue p.playback.accepted e.due
   event_moment-is p e = refl
 
   -- what is due later has no earlier moment
-  pub event_moment-rises : (p : Pending) (d e : Event) → due_le d.due e.due ≡ true → not_before clients (event_moment clients p d) (event_moment clients p e) ≡ true
+  pub event_moment-rises : (p : OwnedPlayback) (d e : DueMessage) → due_le d.due e.due ≡ true → not_before clients (event_moment clients p d) (event_moment clients p e) ≡ true
   event_moment-rises p d e l =
-      by_queue (queue_at clients p.queue) p.playback.accepted d.due e.due l
+      by_queue (queue_in clients p.queue) p.playback.accepted d.due e.due l

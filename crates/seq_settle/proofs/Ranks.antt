@@ -8,9 +8,9 @@ use Rattle.std.specs.FinMap
 use Rattle.std.specs.FinMap.{FinMap}
 use Rattle.std.proofs.lemmas.Bool.{false≢true, eqb-true, ne_eqb, cases_lt, ltb-true, lt-ltb, le-ltb}
 use Rattle.std.proofs.lemmas.Bool.Decides.{nat_tests}
-use Rattle.seq_state.specs.State.{Pending}
+use Rattle.seq_state.specs.State.{OwnedPlayback}
 use Rattle.seq_state.proofs.Lists.{filter-append, list_all-append, and_both}
-use Rattle.seq_settle.specs.Cells.{Cell, pending_in, of_rank, or_else, first_of, at_rank, ranked}
+use Rattle.seq_settle.specs.Cells.{PlaybackCell, pending_in, of_rank, or_else, first_of, at_rank, by_rank}
 
 some_of : {X : Type 0} (x y : X) → Some x ≡ Some y → x ≡ y
 some_of x y e = cc
@@ -20,30 +20,30 @@ none_some x e = cc
 
 -- ---- one rank
 
-of_rank-some : (r : ℕ) (o : Option Cell) (p : Pending) → of_rank r o ≡ Some p → (c : Cell) × (o ≡ Some c) × (c.1.rank ≡ r) × ((pending_in c) ≡ p)
+of_rank-some : (r : ℕ) (o : Option PlaybackCell) (p : OwnedPlayback) → of_rank r o ≡ Some p → (c : PlaybackCell) × (o ≡ Some c) × (c.1.rank ≡ r) × ((pending_in c) ≡ p)
 of_rank-some r None p e = absurd (none_some p e)
 of_rank-some r (Some c) p e = go (eqb c.1.rank r) refl e
   where
-    go : (b : Bool) → eqb c.1.rank r ≡ b → cond b (Some (pending_in c)) None ≡ Some p → (d : Cell) × (Some c ≡ Some d) × (d.1.rank ≡ r) × ((pending_in d) ≡ p)
+    go : (b : Bool) → eqb c.1.rank r ≡ b → cond b (Some (pending_in c)) None ≡ Some p → (d : PlaybackCell) × (Some c ≡ Some d) × (d.1.rank ≡ r) × ((pending_in d) ≡ p)
     go true t f = (c, refl, eqb-true c.1.rank r t, some_of (pending_in c) p f)
     go false t f = absurd (none_some p f)
 
-of_rank-here : (r : ℕ) (o : Option Cell) (c : Cell) → o ≡ Some c → c.1.rank ≡ r → of_rank r o ≡ Some (pending_in c)
+of_rank-here : (r : ℕ) (o : Option PlaybackCell) (c : PlaybackCell) → o ≡ Some c → c.1.rank ≡ r → of_rank r o ≡ Some (pending_in c)
 of_rank-here r o c e f = ap (of_rank r) e ∙ ap (λ b. cond b (Some (pending_in c)) None) (eq-eqb c.1.rank r f)
 
-first_of-some : (cells : FinMap nat_cmp Cell) (r : ℕ) (p : Pending) (qs : List ℕ) → first_of cells r qs ≡ Some p → (q : ℕ) × (c : Cell) × (FinMap.get cells q ≡ Some c) × (c.1.rank ≡ r) × ((pending_in c) ≡ p)
+first_of-some : (cells : FinMap nat_cmp PlaybackCell) (r : ℕ) (p : OwnedPlayback) (qs : List ℕ) → first_of cells r qs ≡ Some p → (q : ℕ) × (c : PlaybackCell) × (FinMap.get cells q ≡ Some c) × (c.1.rank ≡ r) × ((pending_in c) ≡ p)
 first_of-some cells r p [] e = absurd (none_some p e)
 first_of-some cells r p (q ∷ qs) e = go (of_rank r (FinMap.get cells q)) refl e (λ g. first_of-some cells r p qs g)
   where
-    go : (o : Option Pending) → of_rank r (FinMap.get cells q) ≡ o → or_else o (first_of cells r qs) ≡ Some p → (first_of cells r qs ≡ Some p → (k : ℕ) × (c : Cell) × (FinMap.get cells k ≡ Some c) × (c.1.rank ≡ r) × ((pending_in c) ≡ p)) →
-        (k : ℕ) × (c : Cell) × (FinMap.get cells k ≡ Some c) × (c.1.rank ≡ r) × ((pending_in c) ≡ p)
+    go : (o : Option OwnedPlayback) → of_rank r (FinMap.get cells q) ≡ o → or_else o (first_of cells r qs) ≡ Some p → (first_of cells r qs ≡ Some p → (k : ℕ) × (c : PlaybackCell) × (FinMap.get cells k ≡ Some c) × (c.1.rank ≡ r) × ((pending_in c) ≡ p)) →
+        (k : ℕ) × (c : PlaybackCell) × (FinMap.get cells k ≡ Some c) × (c.1.rank ≡ r) × ((pending_in c) ≡ p)
     go None f g later = later g
     go (Some x) f g later = let h = of_rank-some r (FinMap.get cells q) x f in (q, h.0, h.1, h.2, h.3 ∙ some_of x p g)
 
 pub same_number : (q c : ℕ) → eq_by_cmp nat_cmp q c ≡ eqb q c
 same_number q c = grind (arith, nat_tests)
 
-first_of-here : (cells : FinMap nat_cmp Cell) (r k : ℕ) (p : Pending) → of_rank r (FinMap.get cells k) ≡ Some p → ((q : ℕ) (x : Pending) → of_rank r (FinMap.get cells q) ≡ Some x → x ≡ p) →
+first_of-here : (cells : FinMap nat_cmp PlaybackCell) (r k : ℕ) (p : OwnedPlayback) → of_rank r (FinMap.get cells k) ≡ Some p → ((q : ℕ) (x : OwnedPlayback) → of_rank r (FinMap.get cells q) ≡ Some x → x ≡ p) →
     (qs : List ℕ) → list_any (eq_by_cmp nat_cmp k) qs ≡ true → first_of cells r qs ≡ Some p
 first_of-here cells r k p here one [] h = absurd (false≢true h)
 first_of-here cells r k p here one (q ∷ qs) h = go (of_rank r (FinMap.get cells q)) refl (λ g. first_of-here cells r k p here one qs g)
@@ -52,52 +52,52 @@ first_of-here cells r k p here one (q ∷ qs) h = go (of_rank r (FinMap.get cell
     other true t n g = let same : k ≡ q = eqb-true k q t in absurd (none_some p (sym n ∙ subst (λ j. of_rank r (FinMap.get cells j) ≡ Some p) same here))
     other false t n g = g
 
-    go : (o : Option Pending) → of_rank r (FinMap.get cells q) ≡ o → (list_any (eq_by_cmp nat_cmp k) qs ≡ true → first_of cells r qs ≡ Some p) → or_else o (first_of cells r qs) ≡ Some p
+    go : (o : Option OwnedPlayback) → of_rank r (FinMap.get cells q) ≡ o → (list_any (eq_by_cmp nat_cmp k) qs ≡ true → first_of cells r qs ≡ Some p) → or_else o (first_of cells r qs) ≡ Some p
     go None f later = later (other (eqb k q) refl f (subst (λ b. (b || list_any (eq_by_cmp nat_cmp k) qs) ≡ true) (same_number k q) h))
     go (Some x) f later = ap (λ y. Some y) (one q x f)
 
-first_of-none : (cells : FinMap nat_cmp Cell) (r : ℕ) → ((q : ℕ) → of_rank r (FinMap.get cells q) ≡ None) → (qs : List ℕ) → first_of cells r qs ≡ None
+first_of-none : (cells : FinMap nat_cmp PlaybackCell) (r : ℕ) → ((q : ℕ) → of_rank r (FinMap.get cells q) ≡ None) → (qs : List ℕ) → first_of cells r qs ≡ None
 first_of-none cells r none [] = refl
 first_of-none cells r none (q ∷ qs) = ap (λ o. or_else o (first_of cells r qs)) (none q) ∙ first_of-none cells r none qs
 
 -- ---- the cell of a rank
 
 -- no two cells are of one command
-abbrev pub AreApart : FinMap nat_cmp Cell → Type 0
-AreApart cells = (q r : ℕ) (c d : Cell) → FinMap.get cells q ≡ Some c → FinMap.get cells r ≡ Some d → c.1.rank ≡ d.1.rank → q ≡ r
+abbrev pub AreApart : FinMap nat_cmp PlaybackCell → Type 0
+AreApart cells = (q r : ℕ) (c d : PlaybackCell) → FinMap.get cells q ≡ Some c → FinMap.get cells r ≡ Some d → c.1.rank ≡ d.1.rank → q ≡ r
 
 -- a cell is found by its rank
-pub at_rank-here : (cells : FinMap nat_cmp Cell) → AreApart cells → (k : ℕ) (c : Cell) → FinMap.get cells k ≡ Some c → (r : ℕ) → c.1.rank ≡ r → at_rank cells r ≡ Some (pending_in c)
+pub at_rank-here : (cells : FinMap nat_cmp PlaybackCell) → AreApart cells → (k : ℕ) (c : PlaybackCell) → FinMap.get cells k ≡ Some c → (r : ℕ) → c.1.rank ≡ r → at_rank cells r ≡ Some (pending_in c)
 unfolding at_rank
 at_rank-here cells apart k c here r e =
     first_of-here cells r k (pending_in c) (of_rank-here r (FinMap.get cells k) c here e)
     (λ q x f. let h = of_rank-some r (FinMap.get cells q) x f in
     let same : q ≡ k = apart q k h.0 c h.1 here (h.2 ∙ sym e) in
     let one : h.0 ≡ c = some_of h.0 c (sym h.1 ∙ ap (FinMap.get cells) same ∙ here) in
-    sym h.3 ∙ ap (λ (d : Cell). pending_in d) one)
+    sym h.3 ∙ ap (λ (d : PlaybackCell). pending_in d) one)
     (FinMap.keys cells) (sym (FinMap.contains_key-keys cells k) ∙ ap is_some here)
 
 -- what is found is a cell's
-pub at_rank-some : (cells : FinMap nat_cmp Cell) (r : ℕ) (p : Pending) → at_rank cells r ≡ Some p → (q : ℕ) × (c : Cell) × (FinMap.get cells q ≡ Some c) × (c.1.rank ≡ r) × ((pending_in c) ≡ p)
+pub at_rank-some : (cells : FinMap nat_cmp PlaybackCell) (r : ℕ) (p : OwnedPlayback) → at_rank cells r ≡ Some p → (q : ℕ) × (c : PlaybackCell) × (FinMap.get cells q ≡ Some c) × (c.1.rank ≡ r) × ((pending_in c) ≡ p)
 unfolding at_rank
 at_rank-some cells r p e = first_of-some cells r p (FinMap.keys cells) e
 
-not_of_rank : (r : ℕ) (o : Option Cell) → ((c : Cell) → o ≡ Some c → c.1.rank ≡ r → ⊥) → of_rank r o ≡ None
+not_of_rank : (r : ℕ) (o : Option PlaybackCell) → ((c : PlaybackCell) → o ≡ Some c → c.1.rank ≡ r → ⊥) → of_rank r o ≡ None
 not_of_rank r None n = refl
 not_of_rank r (Some c) n = ap (λ b. cond b (Some (pending_in c)) None) (ne_eqb c.1.rank r (n c refl))
 
-pub at_rank-none : (cells : FinMap nat_cmp Cell) (r : ℕ) → ((q : ℕ) (c : Cell) → FinMap.get cells q ≡ Some c → c.1.rank ≡ r → ⊥) → at_rank cells r ≡ None
+pub at_rank-none : (cells : FinMap nat_cmp PlaybackCell) (r : ℕ) → ((q : ℕ) (c : PlaybackCell) → FinMap.get cells q ≡ Some c → c.1.rank ≡ r → ⊥) → at_rank cells r ≡ None
 unfolding at_rank
 at_rank-none cells r none = first_of-none cells r (λ q. not_of_rank r (FinMap.get cells q) (none q)) (FinMap.keys cells)
 
 -- ---- the list of all
 
 module _ {X : Type 0} where
-  pub ranked-agree : (f g : ℕ → Option X) (n : ℕ) → ((r : ℕ) → r < n → f r ≡ g r) → ranked f n ≡ ranked g n
-  unfolding ranked
+  pub ranked-agree : (f g : ℕ → Option X) (n : ℕ) → ((r : ℕ) → r < n → f r ≡ g r) → by_rank f n ≡ by_rank g n
+  unfolding by_rank
   ranked-agree f g zero h = refl
-  ranked-agree f g (suc n) h = let last : f n ≡ g n = h n (omega arith) in let more : ranked f n ≡ ranked g n = ranked-agree f g n (λ r l. h r (omega arith)) in
-      ap (λ xs. xs ++ option_to_list (f n)) more ∙ ap (λ o. ranked g n ++ option_to_list o) last
+  ranked-agree f g (suc n) h = let last : f n ≡ g n = h n (omega arith) in let more : by_rank f n ≡ by_rank g n = ranked-agree f g n (λ r l. h r (omega arith)) in
+      ap (λ xs. xs ++ option_to_list (f n)) more ∙ ap (λ o. by_rank g n ++ option_to_list o) last
 
   -- what stands after k and up to n
   unfoldable pub ranked_from : (ℕ → Option X) → ℕ → ℕ → List X
@@ -114,22 +114,22 @@ module _ {X : Type 0} where
           ap (λ xs. xs ++ option_to_list (f n)) more ∙ ap (λ o. ranked_from g k n ++ option_to_list o) (h n (λ e. omega arith))
       go false l more = refl
 
-  pub ranked-split : (f : ℕ → Option X) (k n : ℕ) → k < n → ranked f n ≡ ranked f k ++ (option_to_list (f k) ++ ranked_from f k n)
-  unfolding ranked ranked_from
+  pub ranked-split : (f : ℕ → Option X) (k n : ℕ) → k < n → by_rank f n ≡ by_rank f k ++ (option_to_list (f k) ++ ranked_from f k n)
+  unfolding by_rank ranked_from
   ranked-split f k zero l = absurd (omega arith)
   ranked-split f k (suc n) l = go (cases_lt k n) (ranked-split f k n)
     where
-      go : (k < n) ⊎ (n ≤ k) → (k < n → ranked f n ≡ ranked f k ++ (option_to_list (f k) ++ ranked_from f k n)) → ranked f n ++ option_to_list (f n) ≡ ranked f k ++ (option_to_list (f k) ++ cond (ltb k n) (ranked_from f k n ++ option_to_list (f n)) [])
+      go : (k < n) ⊎ (n ≤ k) → (k < n → by_rank f n ≡ by_rank f k ++ (option_to_list (f k) ++ ranked_from f k n)) → by_rank f n ++ option_to_list (f n) ≡ by_rank f k ++ (option_to_list (f k) ++ cond (ltb k n) (ranked_from f k n ++ option_to_list (f n)) [])
       go (inl lt) more =
           ap (λ xs. xs ++ option_to_list (f n)) (more lt)
-          ∙ append_assoc (ranked f k) (option_to_list (f k) ++ ranked_from f k n) (option_to_list (f n))
-          ∙ ap (λ xs. ranked f k ++ xs) (append_assoc (option_to_list (f k)) (ranked_from f k n) (option_to_list (f n)))
-          ∙ ap (λ b. ranked f k ++ (option_to_list (f k) ++ cond b (ranked_from f k n ++ option_to_list (f n)) [])) (sym (lt-ltb k n lt))
+          ∙ append_assoc (by_rank f k) (option_to_list (f k) ++ ranked_from f k n) (option_to_list (f n))
+          ∙ ap (λ xs. by_rank f k ++ xs) (append_assoc (option_to_list (f k)) (ranked_from f k n) (option_to_list (f n)))
+          ∙ ap (λ b. by_rank f k ++ (option_to_list (f k) ++ cond b (ranked_from f k n ++ option_to_list (f n)) [])) (sym (lt-ltb k n lt))
       go (inr le) more =
           let same : n ≡ k = omega arith in
-          ap (λ j. ranked f j ++ option_to_list (f j)) same
-          ∙ ap (λ xs. ranked f k ++ xs) (sym (append-nil (option_to_list (f k))))
-          ∙ ap (λ b. ranked f k ++ (option_to_list (f k) ++ cond b (ranked_from f k n ++ option_to_list (f n)) [])) (sym (le-ltb k n le))
+          ap (λ j. by_rank f j ++ option_to_list (f j)) same
+          ∙ ap (λ xs. by_rank f k ++ xs) (sym (append-nil (option_to_list (f k))))
+          ∙ ap (λ b. by_rank f k ++ (option_to_list (f k) ++ cond b (ranked_from f k n ++ option_to_list (f n)) [])) (sym (le-ltb k n le))
 
   abbrev pub all_of : (X → Bool) → Option X → Bool
   all_of p None = true
@@ -139,10 +139,10 @@ module _ {X : Type 0} where
   all_option p None h = refl
   all_option p (Some x) h = and_both (p x) true h refl
 
-  pub ranked-all : (p : X → Bool) (f : ℕ → Option X) (n : ℕ) → ((r : ℕ) → r < n → all_of p (f r) ≡ true) → list_all p (ranked f n) ≡ true
-  unfolding ranked
+  pub ranked-all : (p : X → Bool) (f : ℕ → Option X) (n : ℕ) → ((r : ℕ) → r < n → all_of p (f r) ≡ true) → list_all p (by_rank f n) ≡ true
+  unfolding by_rank
   ranked-all p f zero h = refl
-  ranked-all p f (suc n) h = list_all-append p (ranked f n) (option_to_list (f n)) (ranked-all p f n (λ r l. h r (omega arith))) (all_option p (f n) (h n (omega arith)))
+  ranked-all p f (suc n) h = list_all-append p (by_rank f n) (option_to_list (f n)) (ranked-all p f n (λ r l. h r (omega arith))) (all_option p (f n) (h n (omega arith)))
 
   abbrev pub keep : (X → Bool) → Option X → Option X
   keep p None = None
@@ -156,7 +156,7 @@ module _ {X : Type 0} where
       go true = refl
       go false = refl
 
-  pub filter-ranked : (p : X → Bool) (f : ℕ → Option X) (n : ℕ) → filter p (ranked f n) ≡ ranked (λ r. keep p (f r)) n
-  unfolding ranked
+  pub filter-ranked : (p : X → Bool) (f : ℕ → Option X) (n : ℕ) → filter p (by_rank f n) ≡ by_rank (λ r. keep p (f r)) n
+  unfolding by_rank
   filter-ranked p f zero = refl
-  filter-ranked p f (suc n) = filter-append p (ranked f n) (option_to_list (f n)) ∙ ap (λ xs. xs ++ filter p (option_to_list (f n))) (filter-ranked p f n) ∙ ap (λ xs. ranked (λ r. keep p (f r)) n ++ xs) (filter-option p (f n))
+  filter-ranked p f (suc n) = filter-append p (by_rank f n) (option_to_list (f n)) ∙ ap (λ xs. xs ++ filter p (option_to_list (f n))) (filter-ranked p f n) ∙ ap (λ xs. by_rank (λ r. keep p (f r)) n ++ xs) (filter-option p (f n))

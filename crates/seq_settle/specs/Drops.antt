@@ -1,14 +1,15 @@
--- Cells that go with a client, with one of its ports or queues, and cells on a queue.
+-- Representation: Cells that go with a client, with one of its ports or queues, and cells on a
+-- queue.
 use Rattle.std.specs.Prelude.{◌≡◌, ℕ, ◌==◌, Bool, true, false, not, ◌&&◌, ◌||◌, if◌then◌else◌, Option, Some, None}
 use Rattle.std.specs.FinMap
 use Rattle.cell_pools.specs.Cells.{Store, StandsAt, SameBefore, keys_of, size_of}
-use Rattle.seq_state.specs.State.{Pending}
+use Rattle.seq_state.specs.State.{OwnedPlayback}
 use Rattle.seq_settle.specs.declared.which.Which.{Which}
 use Rattle.seq_settle.specs.declared.which.Which.TheVariants.{OfPort, OnQueue, All, AllAndOnQueues}
-use Rattle.seq_settle.specs.declared.head.Head.{Head}
-use Rattle.seq_settle.specs.Cells.{Left, Cell, pending_in}
+use Rattle.seq_settle.specs.declared.head.PlaybackHead.{PlaybackHead}
+use Rattle.seq_settle.specs.Cells.{RankedPlayback, PlaybackCell, pending_in}
 
-abbrev pub kept_cell : (Pending → Bool) → Option Cell → Option Cell
+abbrev pub kept_cell : (OwnedPlayback → Bool) → Option PlaybackCell → Option PlaybackCell
 kept_cell stays None = None
 kept_cell stays (Some c) = if stays (pending_in c) then Some c else None
 
@@ -27,22 +28,24 @@ queue_goes All n = false
 queue_goes AllAndOnQueues n = true
 
 -- what stays where these of a client go
-abbrev pub stays : ℕ → Which → Pending → Bool
+abbrev pub stays : ℕ → Which → OwnedPlayback → Bool
 stays client which p = not (((p.client == client)
     && goes which p.playback.port) || ((p.queue.client == client)
     && queue_goes which p.queue.queue))
 
 -- the same of what a cell says of itself
-abbrev pub chosen : ℕ → Which → Head → Bool
-chosen client which h = ((h.client == client)
+abbrev pub cell_goes : ℕ → Which → PlaybackHead → Bool
+cell_goes client which h = ((h.client == client)
     && goes which h.port) || ((h.queue.client == client) && queue_goes which h.queue.queue)
 
 -- A cell was dropped where it goes, and all else is as it was; before the place where its key stood
 -- among its owner's, the keys are the same.
-pub record IsDropped (client : ℕ) (which : Which) (old new : Store Left) (key : ℕ) : Type 0 where
+pub record IsDropped (client : ℕ) (which : Which) (old new : Store RankedPlayback)
+    (key : ℕ) : Type 0 where
   pub cells : (q : ℕ) →
       FinMap.get new.cells q
-      ≡ (if q == key then kept_cell (stays client which) (FinMap.get old.cells key) else FinMap.get old.cells q)
+      ≡ (if q == key then kept_cell (stays client which) (FinMap.get old.cells key)
+      else FinMap.get old.cells q)
   pub before : (owner i : ℕ) → StandsAt (keys_of old owner) i key →
       SameBefore i (keys_of old owner) (keys_of new owner)
   pub sizes : (owner : ℕ) → size_of new owner ≡ size_of old owner

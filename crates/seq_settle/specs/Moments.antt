@@ -1,4 +1,4 @@
--- The moments that queues give.
+-- Representation: The moments that queues give.
 use Rattle.std.specs.Prelude.{◌≡◌, ℕ, Option}
 use Rattle.std.specs.Ordering.{nat_cmp}
 use Rattle.std.specs.FinMap
@@ -9,12 +9,12 @@ use Rattle.seq_state.specs.State.{Client, Queue, queues_of}
 use Rattle.seq_state.specs.Step.{moment_in}
 
 -- the queue at an address, if one is there
-abbrev pub queue_at : FinMap nat_cmp Client → QueueAddr → Option Queue
-queue_at clients q = FinMap.get (queues_of (FinMap.get clients q.client)) q.queue
+abbrev pub queue_in : FinMap nat_cmp Client → QueueAddr → Option Queue
+queue_in clients q = FinMap.get (queues_of (FinMap.get clients q.client)) q.queue
 
 -- when something accepted then is due by a queue, if the queue comes to it as it runs now
 abbrev pub moment_at : FinMap nat_cmp Client → QueueAddr → ℕ → Due → Option ℕ
-moment_at clients q accepted due = moment_in (queue_at clients q) accepted due
+moment_at clients q accepted due = moment_in (queue_in clients q) accepted due
 
 -- a queue gives the same moments here and there
 abbrev pub SameMoments : FinMap nat_cmp Client → FinMap nat_cmp Client → QueueAddr → Type 0

@@ -10,7 +10,7 @@ ghost use Rattle.seq_settle.specs.Sends.{new_left};
 use crate::desk::Desk;
 use crate::events::Events;
 use crate::keys::{add_key, key_of};
-use crate::playing::Playing;
+use crate::playback::Playback;
 use agenda_heap::Agenda;
 use cell_pools::CellStore;
 use memory::OutOfMemory;
@@ -31,7 +31,7 @@ pub struct Accepted<'b> {
 #[inline(always)]
 pub fn add_playback<'b, D: Desk, A: Agenda>(
     desk: &D,
-    cells: &mut CellStore<Playing<'b>>,
+    cells: &mut CellStore<Playback<'b>>,
     agenda: &mut A,
     rank: u64,
     accepted: Accepted<'b>,
@@ -60,7 +60,7 @@ pub fn add_playback<'b, D: Desk, A: Agenda>(
     let Some(_) = events.first_due() else {
         return Ok(());
     };
-    let playing = Playing::new(rank, port, queue, moment, events);
+    let playing = Playback::new(rank, port, queue, moment, events);
     let key = key_of(desk, &playing.head(client));
     let Ok(cell) = cells.add(client, playing) else {
         return Err(OutOfMemory);

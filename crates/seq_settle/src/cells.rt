@@ -4,21 +4,21 @@ ghost use Rattle.std.specs.Prelude.{◌≡◌, ℕ, List, [], ◌∷◌, None, S
 ghost use Rattle.std.specs.FinMap as map;
 ghost use Rattle.std.specs.Option.{option_map};
 ghost use Rattle.cell_pools.specs.Cells.{size_of, IsTaken};
-ghost use Rattle.seq_state.specs.State.{Event};
-ghost use Rattle.seq_settle.specs.Cells.{Cell, with_rest};
+ghost use Rattle.seq_state.specs.State.{DueMessage};
+ghost use Rattle.seq_settle.specs.Cells.{PlaybackCell, with_rest};
 ghost use Rattle.seq_settle.specs.Sends.{head_of, IsFirstOf, IsWithoutFirst};
 
-use crate::head::{Head, Popped};
-use crate::playing::Playing;
+use crate::head::{PlaybackHead, PoppedMessage};
+use crate::playback::Playback;
 use cell_pools::{CellKey, CellStore};
 use memory::OutOfMemory;
 use midi_wire::Message;
 
 /// The playbacks of all clients, each in a cell.
-pub type Cells<'b> = CellStore<Playing<'b>>;
+pub type Cells<'b> = CellStore<Playback<'b>>;
 
 /// What the cell under a key says of itself.
-pub(crate) fn head_at(cells: &CellStore<Playing<'_>>, key: CellKey) -> Option<Head>
+pub(crate) fn head_at(cells: &CellStore<Playback<'_>>, key: CellKey) -> Option<PlaybackHead>
     ensures { result ≡ option_map head_of (map.get cells.now.cells key) }
 {
     let client = cells.client_of(key)?;
@@ -28,9 +28,9 @@ pub(crate) fn head_at(cells: &CellStore<Playing<'_>>, key: CellKey) -> Option<He
 
 /// Takes the first event off a cell, and drops the cell where it was the last.
 pub(crate) fn pop_first(
-    cells: &mut CellStore<Playing<'_>>,
+    cells: &mut CellStore<Playback<'_>>,
     key: CellKey,
-) -> Result<Option<Popped>, OutOfMemory>
+) -> Result<Option<PoppedMessage>, OutOfMemory>
     ensures event { IfOk result (λ r. IsFirstOf cells.old.cells key r) }
     ensures rest { OnOk result (IsWithoutFirst cells.old.cells key cells.new.cells) }
     ensures sizes { OnOk result ((client : ℕ) →
@@ -43,19 +43,19 @@ pub(crate) fn pop_first(
         return Ok(None);
     };
     drop_spent(cells, key, &head);
-    Ok(Some(Popped { message, head }))
+    Ok(Some(PoppedMessage { message, head }))
 }
 
 /// Takes a cell whose only event is a message that was scheduled, with that.
 #[inline(always)]
 pub(crate) fn pop_scheduled(
-    cells: &mut CellStore<Playing<'_>>,
+    cells: &mut CellStore<Playback<'_>>,
     key: CellKey,
-) -> Result<Option<Popped>, OutOfMemory>
+) -> Result<Option<PoppedMessage>, OutOfMemory>
     ensures event { IfOk result (λ r. IsSome r → IsFirstOf cells.old.cells key r) }
     ensures rest { IfOk result (λ r. IsSome r →
         IsWithoutFirst cells.old.cells key cells.new.cells) }
-    ensures last { IfOk result (λ r. (p : Popped) → r ≡ Some p → p.head.due ≡ None) }
+    ensures last { IfOk result (λ r. (p : PoppedMessage) → r ≡ Some p → p.head.due ≡ None) }
     ensures none { IfOk result (λ r. r ≡ None → cells.new ≡ cells.old) }
     ensures sizes { OnOk result ((client : ℕ) →
         size_of cells.new client ≡ size_of cells.old client) }
@@ -74,10 +74,10 @@ pub(crate) fn pop_scheduled(
 
 /// Whether a cell is there whose only event is a message that was scheduled.
 #[inline(always)]
-fn is_scheduled_at(cells: &CellStore<Playing<'_>>, key: CellKey) -> bool
+fn is_scheduled_at(cells: &CellStore<Playback<'_>>, key: CellKey) -> bool
     ensures there { IsTrue result → IsSome (map.get cells.now.cells key) }
-    ensures alone { IsTrue result → (c : Cell) → map.get cells.now.cells key ≡ Some c →
-        (e : Event) × (c.1.events ≡ e ∷ []) }
+    ensures alone { IsTrue result → (c : PlaybackCell) → map.get cells.now.cells key ≡ Some c →
+        (e : DueMessage) × (c.1.events ≡ e ∷ []) }
 {
     match cells.get(key) {
         Some(playing) => playing.is_scheduled(),
@@ -86,7 +86,7 @@ fn is_scheduled_at(cells: &CellStore<Playing<'_>>, key: CellKey) -> bool
 }
 
 /// Drops a cell that has no event left.
-fn drop_spent(cells: &mut CellStore<Playing<'_>>, key: CellKey, head: &Head)
+fn drop_spent(cells: &mut CellStore<Playback<'_>>, key: CellKey, head: &PlaybackHead)
     ensures spent { head.now.due ≡ None → IsTaken cells.old cells.new key }
     ensures left { IsSome head.now.due → cells.new ≡ cells.old }
 {
@@ -97,18 +97,21 @@ fn drop_spent(cells: &mut CellStore<Playing<'_>>, key: CellKey, head: &Head)
 
 /// Drops a cell, if it is there.
 #[inline(always)]
-pub(crate) fn drop_cell(cells: &mut CellStore<Playing<'_>>, key: CellKey)
+pub(crate) fn drop_cell(cells: &mut CellStore<Playback<'_>>, key: CellKey)
     ensures { IsTaken cells.old cells.new key }
 {
     cells.take(key);
 }
 
 /// Takes the message of the first event of a cell.
-fn next_of(cells: &mut CellStore<Playing<'_>>, key: CellKey) -> Result<Option<Message>, OutOfMemory>
-    ensures event { IfOk result (λ r. (c : Cell) (e : Event) (es : List Event) →
+fn next_of(
+    cells: &mut CellStore<Playback<'_>>,
+    key: CellKey,
+) -> Result<Option<Message>, OutOfMemory>
+    ensures event { IfOk result (λ r. (c : PlaybackCell) (e : DueMessage) (es : List DueMessage) →
         map.get cells.old.cells key ≡ Some c
         → c.1.events ≡ e ∷ es → r ≡ Some e.message) }
-    ensures rest { OnOk result ((c : Cell) (e : Event) (es : List Event) →
+    ensures rest { OnOk result ((c : PlaybackCell) (e : DueMessage) (es : List DueMessage) →
         map.get cells.old.cells key ≡ Some c
         → c.1.events ≡ e ∷ es →
         cells.new.cells ≡ map.insert cells.old.cells key (c.0, with_rest c.1 es)) }

@@ -5,7 +5,7 @@ ghost use Rattle.std.specs.Ordering.{nat_cmp};
 ghost use Rattle.std.specs.FinMap as map;
 ghost use Rattle.patch_graph.specs.declared.edge.Edge.{Edge};
 ghost use Rattle.seq_state.specs.State.{Client, ClientPool};
-ghost use Rattle.seq_state.specs.Step.{offered, delivered};
+ghost use Rattle.seq_state.specs.Step.{pools_after, copies_with_room};
 ghost use Rattle.seq_settle.specs.Moments.{moment_at};
 ghost use Rattle.seq_settle.specs.Sends.{copies_of};
 
@@ -27,7 +27,7 @@ pub trait Desk {
     fn moment_of(&self, queue: &QueueAddr, accepted: u64, due: Due) -> Option<u64>
         ensures { result ≡ moment_at (clients self.now) queue.now accepted due };
 
-    /// Sends a message from a port: a copy along each path, to the input pools that have room. Want of memory may leave
+    /// Sends a message from a port: a copy along each path, to the input pools that have room. Running out of memory may leave
     /// some copies sent.
     fn send(
         &mut self,
@@ -40,9 +40,9 @@ pub trait Desk {
         ensures clients { OnOk result (clients self.new ≡ clients self.old) }
         ensures edges { OnOk result (edges self.new ≡ edges self.old) }
         ensures pools { OnOk result (pools self.new
-            ≡ offered (pools self.old)
+            ≡ pools_after (pools self.old)
             (copies_of (clients self.old) (edges self.old) moment client port message)) }
         ensures sent { OnOk result (out.new.items ≡ out.old.items
-            ++ delivered (pools self.old)
+            ++ copies_with_room (pools self.old)
             (copies_of (clients self.old) (edges self.old) moment client port message)) };
 }

@@ -6,12 +6,12 @@ ghost use Rattle.std.specs.Ordering.{nat_cmp};
 ghost use Rattle.std.specs.FinMap as map;
 ghost use Rattle.cell_pools.specs.Cells.{size_of, is_of};
 ghost use Rattle.seq_state.specs.State.{Client};
-ghost use Rattle.seq_settle.specs.Cells.{Cell, AreCells, AreFirstKeys, pending_in, playbacks};
-ghost use Rattle.seq_settle.specs.Drops.{chosen, kept_cell, stays, IsDropped};
+ghost use Rattle.seq_settle.specs.Cells.{PlaybackCell, AreCells, AreFirstKeys, pending_in, playbacks};
+ghost use Rattle.seq_settle.specs.Drops.{cell_goes, kept_cell, stays, IsDropped};
 
 use crate::cells::{drop_cell, head_at};
-use crate::head::Head;
-use crate::playing::Playing;
+use crate::head::PlaybackHead;
+use crate::playback::Playback;
 use crate::which::Which;
 use agenda_heap::Agenda;
 use cell_pools::{CellKey, CellStore};
@@ -22,7 +22,7 @@ use node_table::{ClientId, FIRST_CLIENT, LAST_CLIENT};
 /// `foreign` says whether others may have something on the client's queues: without it only the client's own cells are
 /// looked at.
 pub fn drop_playbacks<A: Agenda>(
-    cells: &mut CellStore<Playing<'_>>,
+    cells: &mut CellStore<Playback<'_>>,
     agenda: &mut A,
     steps: u64,
     client: ClientId,
@@ -30,7 +30,7 @@ pub fn drop_playbacks<A: Agenda>(
     foreign: bool,
 )
     requires cells { AreCells cells.old.cells steps }
-    requires alone { foreign ≡ false → (q : ℕ) (c : Cell) → map.get cells.old.cells q ≡ Some c
+    requires alone { foreign ≡ false → (q : ℕ) (c : PlaybackCell) → map.get cells.old.cells q ≡ Some c
         → stays client which.now (pending_in c) ≡ false → c.0 ≡ client }
     ensures playbacks { playbacks cells.new.cells steps
         ≡ filter (stays client which.now) (playbacks cells.old.cells steps) }
@@ -38,7 +38,7 @@ pub fn drop_playbacks<A: Agenda>(
     ensures keys { (clients : map.FinMap nat_cmp Client) →
         AreFirstKeys clients cells.old.cells (A.content agenda.old)
         → AreFirstKeys clients cells.new.cells (A.content agenda.new) }
-    ensures left { (q : ℕ) (c : Cell) → map.get cells.new.cells q ≡ Some c →
+    ensures left { (q : ℕ) (c : PlaybackCell) → map.get cells.new.cells q ≡ Some c →
         stays client which.now (pending_in c) ≡ true }
     ensures sizes { (owner : ℕ) → size_of cells.new owner ≡ size_of cells.old owner }
 {
@@ -55,7 +55,7 @@ pub fn drop_playbacks<A: Agenda>(
 
 /// Drops those of one owner's cells that go.
 fn drop_of<A: Agenda>(
-    cells: &mut CellStore<Playing<'_>>,
+    cells: &mut CellStore<Playback<'_>>,
     agenda: &mut A,
     owner: ClientId,
     client: ClientId,
@@ -79,7 +79,7 @@ fn drop_of<A: Agenda>(
 
 /// Drops a cell, if it is there and goes.
 fn drop_one<A: Agenda>(
-    cells: &mut CellStore<Playing<'_>>,
+    cells: &mut CellStore<Playback<'_>>,
     agenda: &mut A,
     cell: CellKey,
     client: ClientId,
@@ -99,8 +99,8 @@ fn drop_one<A: Agenda>(
 }
 
 /// Whether the cell goes.
-fn chosen(head: &Head, client: ClientId, which: &Which) -> bool
-    ensures { result ≡ chosen client which.now head.now }
+fn chosen(head: &PlaybackHead, client: ClientId, which: &Which) -> bool
+    ensures { result ≡ cell_goes client which.now head.now }
 {
     let own = head.client == client;
     let on_own = head.queue.client == client;

@@ -6,7 +6,7 @@ use tempo_clock::Due;
 
 /// What a cell says of itself, with the due time of its first event.
 #[derive(Clone, Copy, Debug, Drop)]
-pub struct Head {
+pub struct PlaybackHead {
     pub client: ClientId,
     pub port: PortNo,
     pub queue: QueueAddr,
@@ -20,7 +20,7 @@ pub struct Head {
 
 /// An event that left its cell, and what the cell says of itself without it.
 #[derive(Drop)]
-pub struct Popped {
+pub struct PoppedMessage {
     pub message: Message,
-    pub head: Head,
+    pub head: PlaybackHead,
 }

@@ -7,13 +7,13 @@ ghost use Rattle.cell_pools.specs.Cells.{is_of};
 ghost use Rattle.node_table.specs.declared.number.QueueAddr.{QueueAddr};
 ghost use Rattle.seq_state.specs.State.{Client};
 ghost use Rattle.seq_settle.specs.Moments.{SameMoments};
-ghost use Rattle.seq_settle.specs.Cells.{Cell, AreCells, AreFirstKeys};
+ghost use Rattle.seq_settle.specs.Cells.{PlaybackCell, AreCells, AreFirstKeys};
 ghost use Rattle.seq_settle.specs.Rekeyed.{AreKeysSo, OthersSame};
 
 use crate::cells::head_at;
 use crate::desk::Desk;
 use crate::keys::{key_of, set_key};
-use crate::playing::Playing;
+use crate::playback::Playback;
 use agenda_heap::Agenda;
 use cell_pools::CellStore;
 use memory::OutOfMemory;
@@ -25,7 +25,7 @@ use node_table::{ClientId, FIRST_CLIENT, LAST_CLIENT, QueueAddr};
 /// of memory may leave the agenda without a cell.
 pub fn rekey_all<D: Desk, A: Agenda>(
     desk: &D,
-    cells: &CellStore<Playing<'_>>,
+    cells: &CellStore<Playback<'_>>,
     agenda: &mut A,
     steps: u64,
     queue: &QueueAddr,
@@ -35,7 +35,7 @@ pub fn rekey_all<D: Desk, A: Agenda>(
     requires keys { (was : map.FinMap nat_cmp Client)
         × OthersSame was (D.clients desk.now) queue.now
         × AreFirstKeys was cells.now.cells (A.content agenda.old) }
-    requires alone { foreign ≡ false → (q : ℕ) (c : Cell) → map.get cells.now.cells q ≡ Some c
+    requires alone { foreign ≡ false → (q : ℕ) (c : PlaybackCell) → map.get cells.now.cells q ≡ Some c
         → c.1.queue ≡ queue.now → c.0 ≡ queue.now.client }
     ensures { OnOk result
         (AreFirstKeys (D.clients desk.now) cells.now.cells (A.content agenda.new)) }
@@ -54,7 +54,7 @@ pub fn rekey_all<D: Desk, A: Agenda>(
 /// Gives those of an owner's cells that are on a queue their keys.
 fn rekey_of<D: Desk, A: Agenda>(
     desk: &D,
-    cells: &CellStore<Playing<'_>>,
+    cells: &CellStore<Playback<'_>>,
     agenda: &mut A,
     steps: u64,
     owner: ClientId,

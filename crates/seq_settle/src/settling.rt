@@ -3,15 +3,15 @@
 ghost use Rattle.std.specs.Prelude.{◌≡◌, ℕ, ◌++◌, IsOk, IfOk, OnOk};
 ghost use Rattle.agenda_heap.specs.Due.{NoneDue};
 ghost use Rattle.cell_pools.specs.Cells.{size_of};
-ghost use Rattle.seq_state.specs.Step.{offered, delivered, settle};
-ghost use Rattle.seq_settle.specs.Cells.{AreCells, AreFirstKeys, seen};
+ghost use Rattle.seq_state.specs.Step.{pools_after, copies_with_room, settle};
+ghost use Rattle.seq_settle.specs.Cells.{AreCells, AreFirstKeys, seen_state};
 ghost use Rattle.seq_settle.specs.Sends.{copies_of};
 
 use crate::cells::{pop_first, pop_scheduled};
 use crate::desk::Desk;
-use crate::head::{Head, Popped};
+use crate::head::{PlaybackHead, PoppedMessage};
 use crate::keys::{add_key, key_of};
-use crate::playing::Playing;
+use crate::playback::Playback;
 use agenda_heap::Agenda;
 use cell_pools::CellStore;
 use memory::OutOfMemory;
@@ -19,10 +19,10 @@ use seq_state::Delivery;
 
 /// Sends all that is due by a moment, in order, and adds what came to ports to `out`.
 ///
-/// `steps` is the number of inputs so far. Want of memory may leave the agenda without a cell.
+/// `steps` is the number of inputs so far. Running out of memory may leave the agenda without a cell.
 pub fn settle_all<D: Desk, A: Agenda>(
     desk: &mut D,
-    cells: &mut CellStore<Playing<'_>>,
+    cells: &mut CellStore<Playback<'_>>,
     agenda: &mut A,
     steps: u64,
     moment: u64,
@@ -31,12 +31,12 @@ pub fn settle_all<D: Desk, A: Agenda>(
     requires cells { AreCells cells.old.cells steps }
     requires keys { AreFirstKeys (D.clients desk.old) cells.old.cells (A.content agenda.old) }
     ensures state { let was = desk.old in
-        let s = seen (D.clients was) (D.pools was) (D.edges was) cells.old.cells steps in
+        let s = seen_state (D.clients was) (D.pools was) (D.edges was) cells.old.cells steps in
         OnOk result
-        (seen (D.clients desk.new) (D.pools desk.new) (D.edges desk.new) cells.new.cells steps
+        (seen_state (D.clients desk.new) (D.pools desk.new) (D.edges desk.new) cells.new.cells steps
         ≡ (settle s moment).state) }
     ensures delivered { let was = desk.old in
-        let s = seen (D.clients was) (D.pools was) (D.edges was) cells.old.cells steps in
+        let s = seen_state (D.clients was) (D.pools was) (D.edges was) cells.old.cells steps in
         OnOk result (out.new.items ≡ out.old.items ++ (settle s moment).delivered) }
     ensures cells { OnOk result (AreCells cells.new.cells steps) }
     ensures keys { OnOk result
@@ -69,22 +69,22 @@ pub fn settle_all<D: Desk, A: Agenda>(
 fn send_popped<D: Desk>(
     desk: &mut D,
     moment: u64,
-    popped: Popped,
+    popped: PoppedMessage,
     out: &mut Vec<Delivery>,
-) -> Result<Head, OutOfMemory>
+) -> Result<PlaybackHead, OutOfMemory>
     ensures head { IfOk result (λ h. h ≡ popped.head) }
     ensures clients { OnOk result (D.clients desk.new ≡ D.clients desk.old) }
     ensures edges { OnOk result (D.edges desk.new ≡ D.edges desk.old) }
     ensures pools { let h = popped.head in
         let ds = copies_of (D.clients desk.old) (D.edges desk.old)
         moment h.client h.port popped.message in
-        OnOk result (D.pools desk.new ≡ offered (D.pools desk.old) ds) }
+        OnOk result (D.pools desk.new ≡ pools_after (D.pools desk.old) ds) }
     ensures sent { let h = popped.head in
         let ds = copies_of (D.clients desk.old) (D.edges desk.old)
         moment h.client h.port popped.message in
-        OnOk result (out.new.items ≡ out.old.items ++ delivered (D.pools desk.old) ds) }
+        OnOk result (out.new.items ≡ out.old.items ++ copies_with_room (D.pools desk.old) ds) }
 {
-    let Popped { message, head } = popped;
+    let PoppedMessage { message, head } = popped;
     desk.send(moment, head.client, head.port, message, out)?;
     Ok(head)
 }

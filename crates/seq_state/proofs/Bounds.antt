@@ -8,7 +8,7 @@ use Rattle.std.specs.FinMap.{FinMap}
 use Rattle.std.proofs.lemmas.Bool.Decides.{nat_tests}
 use Rattle.std.proofs.lemmas.Bool.{false≢true, eqb-true, ltb-true, leb-false}
 use Rattle.std.proofs.lemmas.List.{length-append, length-drop, length-map}
-use Rattle.tempo_clock.specs.Clocks.{started, stopped, resumed, with_tempo}
+use Rattle.tempo_clock.specs.Clocks.{running_from_zero, at_rest, running_on, with_tempo}
 use Rattle.node_table.specs.Addresses.{same}
 use Rattle.node_table.specs.declared.number.Addr.{Addr}
 use Rattle.patch_graph.specs.Edges.{edge, is_edge, sources_of, most_sources}
@@ -22,13 +22,13 @@ use Rattle.seq_state.specs.declared.log.Arrival.{Arrival}
 use Rattle.seq_state.specs.declared.log.Delivery.{Delivery}
 use Rattle.seq_state.specs.declared.refusal.Refusal.{Refusal}
 use Rattle.seq_state.specs.declared.refusal.Refusal.TheVariants as refusal
-use Rattle.seq_state.specs.Files.{File}
-use Rattle.seq_state.specs.State.{PortInfo, FilterInfo, Queue, Client, ClientPool, Playback, Pending, State, start, put}
+use Rattle.smf_grammar.specs.Played.{PlayedFile}
+use Rattle.seq_state.specs.State.{PortInfo, FilterInfo, Queue, Client, ClientPool, Playback, OwnedPlayback, State, start, with_entry}
 use Rattle.cell_pools.specs.Pools.{empty_pool}
-use Rattle.seq_state.specs.Own.{Own, with_change, out_size, put_port, put_filter, put_queue, port_fed, port_of, filter_ruled, filter_of, queue_of, queue_map, clocked, public, new_port, new_filter, held_queue, one_tempo, file_queue, file_at, without_oldest}
-use Rattle.seq_state.specs.Table.{Asked, Condition, first_refusal, command_row, queue_named, connected, already_open, bad_name, bad_sizes, not_open, no_port, not_shared, none_named, bad_time, no_file, division_differs, no_sender, no_dest, not_permitted, already_connected}
+use Rattle.seq_state.specs.Effect.{Effect, with_change, out_size, put_port, put_filter, put_queue, port_fed, port_of, filter_ruled, filter_of, queue_of, queue_map, with_clock, public, new_port, new_filter, held_queue, one_tempo, file_queue, file_at, without_oldest}
+use Rattle.seq_state.specs.Table.{CommandView, Condition, first_refusal, command_row, queue_named, with_edge, already_open, bad_name, bad_sizes, not_open, no_port, not_shared, none_named, bad_time, no_file, division_differs, no_sender, no_dest, not_permitted, already_connected}
 use Rattle.cell_pools.specs.Pools.{most_lost}
-use Rattle.seq_state.specs.Step.{offer, offered, playback_after, is_left, due, event_copies, settle, without_due, Stepped, used, loses, drops, pending_of, with_own, send_copies, unless, asked, row_of, refusal_of, effect_of, command_step}
+use Rattle.seq_state.specs.Step.{offer, pools_after, playback_after, is_left, due, event_copies, settle, without_due, Stepped, playback_count, loses, drops, pending_of, with_effect, send_copies, unless, view_of, row_of, refusal_of, effect_of, command_step}
 use Rattle.seq_state.specs.Laws.{pool_size, in_size, Bounded, BoundsLaw}
 use Rattle.seq_state.proofs.Lists.{filter-append, filter-map, filter-filter, filter-apart}
 use Rattle.seq_state.proofs.Effects.{get-put, none-lost}
@@ -74,18 +74,18 @@ fits-offer (Some p) d h =
     choose (nat_lt (length p.waiting) p.size) (record p { waiting = p.waiting ++ came ∷ [] }) (record p { lost = min (p.lost + 1) most_lost })
     (λ e. let l : length p.waiting < p.size = ltb-true (length p.waiting) p.size e in omega (arith, length-append p.waiting (came ∷ []))) (h p refl)
 
-fits-put : (pools : FinMap nat_cmp ClientPool) (k : ℕ) (o : Option ClientPool) → ((c : ℕ) → FitsPool (FinMap.get pools c)) → FitsPool o → (c : ℕ) → FitsPool (FinMap.get (put pools k o) c)
+fits-put : (pools : FinMap nat_cmp ClientPool) (k : ℕ) (o : Option ClientPool) → ((c : ℕ) → FitsPool (FinMap.get pools c)) → FitsPool o → (c : ℕ) → FitsPool (FinMap.get (with_entry pools k o) c)
 fits-put pools k o h f c = subst (λ x. FitsPool x) (sym (get-put pools k o c)) (go (eqb c k))
   where
     go : (b : Bool) → FitsPool (cond b o (FinMap.get pools c))
     go true = f
     go false = h c
 
-fits-offered : (pools : FinMap nat_cmp ClientPool) (ds : List Delivery) → ((c : ℕ) → FitsPool (FinMap.get pools c)) → (c : ℕ) → FitsPool (FinMap.get (offered pools ds) c)
+fits-offered : (pools : FinMap nat_cmp ClientPool) (ds : List Delivery) → ((c : ℕ) → FitsPool (FinMap.get pools c)) → (c : ℕ) → FitsPool (FinMap.get (pools_after pools ds) c)
 fits-offered pools [] h c = h c
 fits-offered pools (d ∷ ds) h c =
     let o : Option ClientPool = offer (FinMap.get pools d.target.client) d in
-    fits-offered (put pools d.target.client o) ds (fits-put pools d.target.client o h (fits-offer (FinMap.get pools d.target.client) d (h d.target.client))) c
+    fits-offered (with_entry pools d.target.client o) ds (fits-put pools d.target.client o h (fits-offer (FinMap.get pools d.target.client) d (h d.target.client))) c
 
 fits-taken : (max : ℕ) (o : Option ClientPool) → FitsPool o → FitsPool (without_oldest max o)
 fits-taken max None h = h
@@ -101,18 +101,18 @@ offer-size (Some p) d = go (nat_lt (length p.waiting) p.size)
     go true = refl
     go false = refl
 
-put-size : (pools : FinMap nat_cmp ClientPool) (k : ℕ) (o : Option ClientPool) → pool_size o ≡ pool_size (FinMap.get pools k) → (c : ℕ) → pool_size (FinMap.get (put pools k o) c) ≡ pool_size (FinMap.get pools c)
+put-size : (pools : FinMap nat_cmp ClientPool) (k : ℕ) (o : Option ClientPool) → pool_size o ≡ pool_size (FinMap.get pools k) → (c : ℕ) → pool_size (FinMap.get (with_entry pools k o) c) ≡ pool_size (FinMap.get pools c)
 put-size pools k o h c = ap pool_size (get-put pools k o c) ∙ go (eqb c k) refl
   where
     go : (b : Bool) → eqb c k ≡ b → pool_size (cond b o (FinMap.get pools c)) ≡ pool_size (FinMap.get pools c)
     go true e = h ∙ ap (λ i. pool_size (FinMap.get pools i)) (sym (eqb-true c k e))
     go false e = refl
 
-offered-size : (pools : FinMap nat_cmp ClientPool) (ds : List Delivery) (c : ℕ) → pool_size (FinMap.get (offered pools ds) c) ≡ pool_size (FinMap.get pools c)
+offered-size : (pools : FinMap nat_cmp ClientPool) (ds : List Delivery) (c : ℕ) → pool_size (FinMap.get (pools_after pools ds) c) ≡ pool_size (FinMap.get pools c)
 offered-size pools [] c = refl
 offered-size pools (d ∷ ds) c =
     let o : Option ClientPool = offer (FinMap.get pools d.target.client) d in
-    offered-size (put pools d.target.client o) ds c ∙ put-size pools d.target.client o (offer-size (FinMap.get pools d.target.client) d) c
+    offered-size (with_entry pools d.target.client o) ds c ∙ put-size pools d.target.client o (offer-size (FinMap.get pools d.target.client) d) c
 
 taken-size : (max : ℕ) (o : Option ClientPool) → pool_size (without_oldest max o) ≡ pool_size o
 taken-size max None = refl
@@ -120,19 +120,19 @@ taken-size max (Some p) = refl
 
 -- ---- what is used
 
-abbrev mine : ℕ → Pending → Bool
+abbrev mine : ℕ → OwnedPlayback → Bool
 mine c p = eqb p.client c
 
-used-settled : (s : State) (m c : ℕ) → used (without_due s m) c ≤ used s c
+used-settled : (s : State) (m c : ℕ) → playback_count (without_due s m) c ≤ playback_count s c
 used-settled s m c =
-    let f : Pending → Pending = playback_after s.clients m in
+    let f : OwnedPlayback → OwnedPlayback = playback_after s.clients m in
     omega (arith, fewer-filtered (mine c) is_left (map f s.pending), ap length (filter-map (mine c) f s.pending), length-map (filter (mine c) s.pending) f)
 
 -- what a row leaves of what is used, and of the pool
-record Fits (used : ℕ) (client : Option Client) (own : Own) : Type 0 where
-  room : (used ≤ out_size client → length own.added + used ≤ out_size own.client) ⊎ ((own.added ≡ []) × ((p : Playback) → own.dropped p ≡ true))
-  pool : (o : Option ClientPool) → FitsPool o → FitsPool (own.pool o)
-  size : (o : Option ClientPool) → pool_size o ≡ in_size client → pool_size (own.pool o) ≡ in_size own.client
+record Fits (playback_count : ℕ) (client : Option Client) (effect : Effect) : Type 0 where
+  room : (playback_count ≤ out_size client → length effect.added + playback_count ≤ out_size effect.client) ⊎ ((effect.added ≡ []) × ((p : Playback) → effect.dropped p ≡ true))
+  pool : (o : Option ClientPool) → FitsPool o → FitsPool (effect.pool o)
+  size : (o : Option ClientPool) → pool_size o ≡ in_size client → pool_size (effect.pool o) ≡ in_size effect.client
 
 same-size : (client : Option Client) (f : Client → Client) → ((c : Client) → (f c).out_size ≡ c.out_size) → out_size (with_change client f) ≡ out_size client
 same-size None f h = refl
@@ -182,15 +182,15 @@ one-added : (n m : ℕ) → (n == m) ≡ false → n ≤ m → suc zero + n ≤ 
 one-added n m e l = grind (arith, nat_tests)
 
 -- a row that changes neither the sizes of the client nor what it has to send
-fits-same : (n : ℕ) (client : Option Client) (own : Own) (f : Client → Client) → ((c : Client) → (f c).out_size ≡ c.out_size) → ((c : Client) → (f c).in_size ≡ c.in_size) →
-    own.client ≡ with_change client f → own.added ≡ [] → ((o : Option ClientPool) → own.pool o ≡ o) → Fits n client own
-fits-same n client own f out inn c a p = record {
+fits-same : (n : ℕ) (client : Option Client) (effect : Effect) (f : Client → Client) → ((c : Client) → (f c).out_size ≡ c.out_size) → ((c : Client) → (f c).in_size ≡ c.in_size) →
+    effect.client ≡ with_change client f → effect.added ≡ [] → ((o : Option ClientPool) → effect.pool o ≡ o) → Fits n client effect
+fits-same n client effect f out inn c a p = record {
   room = inl (λ l. omega (arith, nothing-added n client f out l, ap out_size c, ap length a));
   pool = λ o h. subst FitsPool (sym (p o)) h;
   size = λ o h. ap pool_size (p o) ∙ h ∙ sym (same-in client f inn) ∙ sym (ap in_size c);
 }
 
-fits : (a : Asked) (command : Command) → first_refusal (command_row a command).conditions ≡ None → Fits a.used a.client (command_row a command).own
+fits : (a : CommandView) (command : Command) → first_refusal (command_row a command).conditions ≡ None → Fits a.used a.client (command_row a command).effect
 unfolding command_row
 fits a (Open name in_size size) r = record { room = inl (go a.client r); pool = λ o h. fits-some (empty_pool in_size) (omega arith); size = λ o h. refl }
   where
@@ -200,46 +200,46 @@ fits a (Open name in_size size) r = record { room = inl (go a.client r); pool = 
 fits a Close r = record { room = inr (refl, λ p. refl); pool = λ o h p e. absurd (none_some p e); size = λ o h. refl }
 fits a (CreatePort port name caps) r =
     let f : Client → Client = put_port port (Some (new_port name caps)) in
-    fits-same a.used a.client (command_row a (CreatePort port name caps)).own f (put_port-size port (Some (new_port name caps))) (put_port-in port (Some (new_port name caps))) refl refl (λ p. refl)
+    fits-same a.used a.client (command_row a (CreatePort port name caps)).effect f (put_port-size port (Some (new_port name caps))) (put_port-in port (Some (new_port name caps))) refl refl (λ p. refl)
 fits a (DeletePort port) r =
     let f : Client → Client = put_port port None in
-    fits-same a.used a.client (command_row a (DeletePort port)).own f (put_port-size port None) (put_port-in port None) refl refl (λ p. refl)
+    fits-same a.used a.client (command_row a (DeletePort port)).effect f (put_port-size port None) (put_port-in port None) refl refl (λ p. refl)
 fits a (CreateFilter n caps rule) r =
     let f : Client → Client = put_filter n (Some (new_filter caps rule)) in
-    fits-same a.used a.client (command_row a (CreateFilter n caps rule)).own f (put_filter-size n (Some (new_filter caps rule))) (put_filter-in n (Some (new_filter caps rule))) refl refl (λ p. refl)
+    fits-same a.used a.client (command_row a (CreateFilter n caps rule)).effect f (put_filter-size n (Some (new_filter caps rule))) (put_filter-in n (Some (new_filter caps rule))) refl refl (λ p. refl)
 fits a (SetFilter n rule) r =
     let f : Client → Client = put_filter n (filter_ruled rule (filter_of a.client n)) in
-    fits-same a.used a.client (command_row a (SetFilter n rule)).own f (put_filter-size n (filter_ruled rule (filter_of a.client n))) (put_filter-in n (filter_ruled rule (filter_of a.client n))) refl refl (λ p. refl)
+    fits-same a.used a.client (command_row a (SetFilter n rule)).effect f (put_filter-size n (filter_ruled rule (filter_of a.client n))) (put_filter-in n (filter_ruled rule (filter_of a.client n))) refl refl (λ p. refl)
 fits a (DeleteFilter n) r =
     let f : Client → Client = put_filter n None in
-    fits-same a.used a.client (command_row a (DeleteFilter n)).own f (put_filter-size n None) (put_filter-in n None) refl refl (λ p. refl)
+    fits-same a.used a.client (command_row a (DeleteFilter n)).effect f (put_filter-size n None) (put_filter-in n None) refl refl (λ p. refl)
 fits a (Bytes port bytes) r =
     let f : Client → Client = put_port port (port_fed bytes (port_of a.client port)) in
-    fits-same a.used a.client (command_row a (Bytes port bytes)).own f (put_port-size port (port_fed bytes (port_of a.client port))) (put_port-in port (port_fed bytes (port_of a.client port))) refl refl (λ p. refl)
+    fits-same a.used a.client (command_row a (Bytes port bytes)).effect f (put_port-size port (port_fed bytes (port_of a.client port))) (put_port-in port (port_fed bytes (port_of a.client port))) refl refl (λ p. refl)
 fits a (CreateQueue n ppq tempo) r =
     let f : Client → Client = put_queue n (Some (held_queue (one_tempo ppq tempo))) in
-    fits-same a.used a.client (command_row a (CreateQueue n ppq tempo)).own f (put_queue-size n (Some (held_queue (one_tempo ppq tempo)))) (put_queue-in n (Some (held_queue (one_tempo ppq tempo)))) refl refl (λ p. refl)
+    fits-same a.used a.client (command_row a (CreateQueue n ppq tempo)).effect f (put_queue-size n (Some (held_queue (one_tempo ppq tempo)))) (put_queue-in n (Some (held_queue (one_tempo ppq tempo)))) refl refl (λ p. refl)
 fits a (CreateQueueFrom n file) r =
     let f : Client → Client = put_queue n (file_queue (file_at a.files file)) in
-    fits-same a.used a.client (command_row a (CreateQueueFrom n file)).own f (put_queue-size n (file_queue (file_at a.files file))) (put_queue-in n (file_queue (file_at a.files file))) refl refl (λ p. refl)
+    fits-same a.used a.client (command_row a (CreateQueueFrom n file)).effect f (put_queue-size n (file_queue (file_at a.files file))) (put_queue-in n (file_queue (file_at a.files file))) refl refl (λ p. refl)
 fits a (DeleteQueue q) r =
     let f : Client → Client = put_queue q.queue None in
-    fits-same a.used a.client (command_row a (DeleteQueue q)).own f (put_queue-size q.queue None) (put_queue-in q.queue None) refl refl (λ p. refl)
+    fits-same a.used a.client (command_row a (DeleteQueue q)).effect f (put_queue-size q.queue None) (put_queue-in q.queue None) refl refl (λ p. refl)
 fits a (Start q) r =
-    let f : Client → Client = put_queue q.queue (queue_map (clocked (λ c. started c a.moment)) (queue_of a.client q.queue)) in
-    fits-same a.used a.client (command_row a (Start q)).own f (put_queue-size q.queue (queue_map (clocked (λ c. started c a.moment)) (queue_of a.client q.queue))) (put_queue-in q.queue (queue_map (clocked (λ c. started c a.moment)) (queue_of a.client q.queue))) refl refl (λ p. refl)
+    let f : Client → Client = put_queue q.queue (queue_map (with_clock (λ c. running_from_zero c a.moment)) (queue_of a.client q.queue)) in
+    fits-same a.used a.client (command_row a (Start q)).effect f (put_queue-size q.queue (queue_map (with_clock (λ c. running_from_zero c a.moment)) (queue_of a.client q.queue))) (put_queue-in q.queue (queue_map (with_clock (λ c. running_from_zero c a.moment)) (queue_of a.client q.queue))) refl refl (λ p. refl)
 fits a (Stop q) r =
-    let f : Client → Client = put_queue q.queue (queue_map (clocked (λ c. stopped c a.moment)) (queue_of a.client q.queue)) in
-    fits-same a.used a.client (command_row a (Stop q)).own f (put_queue-size q.queue (queue_map (clocked (λ c. stopped c a.moment)) (queue_of a.client q.queue))) (put_queue-in q.queue (queue_map (clocked (λ c. stopped c a.moment)) (queue_of a.client q.queue))) refl refl (λ p. refl)
+    let f : Client → Client = put_queue q.queue (queue_map (with_clock (λ c. at_rest c a.moment)) (queue_of a.client q.queue)) in
+    fits-same a.used a.client (command_row a (Stop q)).effect f (put_queue-size q.queue (queue_map (with_clock (λ c. at_rest c a.moment)) (queue_of a.client q.queue))) (put_queue-in q.queue (queue_map (with_clock (λ c. at_rest c a.moment)) (queue_of a.client q.queue))) refl refl (λ p. refl)
 fits a (Continue q) r =
-    let f : Client → Client = put_queue q.queue (queue_map (clocked (λ c. resumed c a.moment)) (queue_of a.client q.queue)) in
-    fits-same a.used a.client (command_row a (Continue q)).own f (put_queue-size q.queue (queue_map (clocked (λ c. resumed c a.moment)) (queue_of a.client q.queue))) (put_queue-in q.queue (queue_map (clocked (λ c. resumed c a.moment)) (queue_of a.client q.queue))) refl refl (λ p. refl)
+    let f : Client → Client = put_queue q.queue (queue_map (with_clock (λ c. running_on c a.moment)) (queue_of a.client q.queue)) in
+    fits-same a.used a.client (command_row a (Continue q)).effect f (put_queue-size q.queue (queue_map (with_clock (λ c. running_on c a.moment)) (queue_of a.client q.queue))) (put_queue-in q.queue (queue_map (with_clock (λ c. running_on c a.moment)) (queue_of a.client q.queue))) refl refl (λ p. refl)
 fits a (Tempo q tempo) r =
-    let f : Client → Client = put_queue q.queue (queue_map (clocked (λ c. with_tempo c a.moment tempo)) (queue_of a.client q.queue)) in
-    fits-same a.used a.client (command_row a (Tempo q tempo)).own f (put_queue-size q.queue (queue_map (clocked (λ c. with_tempo c a.moment tempo)) (queue_of a.client q.queue))) (put_queue-in q.queue (queue_map (clocked (λ c. with_tempo c a.moment tempo)) (queue_of a.client q.queue))) refl refl (λ p. refl)
+    let f : Client → Client = put_queue q.queue (queue_map (with_clock (λ c. with_tempo c a.moment tempo)) (queue_of a.client q.queue)) in
+    fits-same a.used a.client (command_row a (Tempo q tempo)).effect f (put_queue-size q.queue (queue_map (with_clock (λ c. with_tempo c a.moment tempo)) (queue_of a.client q.queue))) (put_queue-in q.queue (queue_map (with_clock (λ c. with_tempo c a.moment tempo)) (queue_of a.client q.queue))) refl refl (λ p. refl)
 fits a (Share q) r =
     let f : Client → Client = put_queue q.queue (queue_map public (queue_of a.client q.queue)) in
-    fits-same a.used a.client (command_row a (Share q)).own f (put_queue-size q.queue (queue_map public (queue_of a.client q.queue))) (put_queue-in q.queue (queue_map public (queue_of a.client q.queue))) refl refl (λ p. refl)
+    fits-same a.used a.client (command_row a (Share q)).effect f (put_queue-size q.queue (queue_map public (queue_of a.client q.queue))) (put_queue-in q.queue (queue_map public (queue_of a.client q.queue))) refl refl (λ p. refl)
 fits a (Schedule q port due message) r =
     let rs : List Condition = not_open a ∷ no_port a port ∷ not_shared a q ∷ none_named a ∷ bad_time a due ∷ [] in
     record { room = inl (one-added a.used (out_size a.client) (last_fails rs refusal.OutFull (a.used == out_size a.client) r)); pool = λ o h. h; size = λ o h. h }
@@ -251,24 +251,24 @@ fits a command r = record { room = inl (λ h. omega arith); pool = λ o h. h; si
 
 -- ---- after a command of the actor's own
 
-module _ (s : State) (actor : ℕ) (q : Option QueueAddr) (own : Own) (b : Bounded s) (a : Fits (used s actor) (FinMap.get s.clients actor) own) (few : (t : Addr) → sources_of (with_own s actor q own).edges t ≤ most_sources) where
-  abbrev stays : Pending → Bool
-  stays p = not (drops actor own p)
+module _ (s : State) (actor : ℕ) (q : Option QueueAddr) (effect : Effect) (b : Bounded s) (a : Fits (playback_count s actor) (FinMap.get s.clients actor) effect) (few : (t : Addr) → sources_of (with_effect s actor q effect).edges t ≤ most_sources) where
+  abbrev stays : OwnedPlayback → Bool
+  stays p = not (drops actor effect p)
 
-  abbrev new : List Pending
-  new = filter is_left (map (pending_of actor q) own.added)
+  abbrev new : List OwnedPlayback
+  new = filter is_left (map (pending_of actor q) effect.added)
 
-  few-kept : (c : ℕ) → length (filter (mine c) (filter stays s.pending)) ≤ used s c
+  few-kept : (c : ℕ) → length (filter (mine c) (filter stays s.pending)) ≤ playback_count s c
   few-kept c = fewer-filtered (mine c) stays s.pending
 
-  few-new : (c : ℕ) → length (filter (mine c) new) ≤ length own.added
-  few-new c = omega (arith, fewer (mine c) new, fewer is_left (map (pending_of actor q) own.added), length-map own.added (pending_of actor q))
+  few-new : (c : ℕ) → length (filter (mine c) new) ≤ length effect.added
+  few-new c = omega (arith, fewer (mine c) new, fewer is_left (map (pending_of actor q) effect.added), length-map effect.added (pending_of actor q))
 
-  counted : (c : ℕ) → used (with_own s actor q own) c ≡ length (filter (mine c) (filter stays s.pending)) + length (filter (mine c) new)
+  counted : (c : ℕ) → playback_count (with_effect s actor q effect) c ≡ length (filter (mine c) (filter stays s.pending)) + length (filter (mine c) new)
   counted c = ap length (filter-append (mine c) (filter stays s.pending) new) ∙ length-append (filter (mine c) (filter stays s.pending)) (filter (mine c) new)
 
   others-new : (c : ℕ) → eqb c actor ≡ false → length (filter (mine c) new) ≡ zero
-  others-new c h = ap length (filter-filter (mine c) is_left (map (pending_of actor q) own.added) ∙ ap (filter is_left) (filter-map (mine c) (pending_of actor q) own.added ∙ ap (map (pending_of actor q)) (none own.added)))
+  others-new c h = ap length (filter-filter (mine c) is_left (map (pending_of actor q) effect.added) ∙ ap (filter is_left) (filter-map (mine c) (pending_of actor q) effect.added ∙ ap (map (pending_of actor q)) (none effect.added)))
     where
       not_mine : (i : Option QueueAddr) (p : Playback) → mine c (pending_of actor i p) ≡ false
       not_mine None p = grind (arith, nat_tests)
@@ -278,40 +278,40 @@ module _ (s : State) (actor : ℕ) (q : Option QueueAddr) (own : Own) (b : Bound
       none [] = refl
       none (p ∷ ps) = ap (λ x. cond x (p ∷ filter (λ y. mine c (pending_of actor q y)) ps) (filter (λ y. mine c (pending_of actor q y)) ps)) (not_mine q p) ∙ none ps
 
-  actor-used : used (with_own s actor q own) actor ≤ out_size own.client
+  actor-used : playback_count (with_effect s actor q effect) actor ≤ out_size effect.client
   actor-used = go a.room
     where
-      gone : ((p : Playback) → own.dropped p ≡ true) → (p : Pending) → mine actor p ≡ true → stays p ≡ false
-      gone d p h = ap (λ x. not ((x && own.dropped p.playback) || (eqb p.queue.client actor && own.queue_gone p.queue.queue))) h ∙ ap (λ x. not (x || (eqb p.queue.client actor && own.queue_gone p.queue.queue))) (d p.playback)
+      gone : ((p : Playback) → effect.dropped p ≡ true) → (p : OwnedPlayback) → mine actor p ≡ true → stays p ≡ false
+      gone d p h = ap (λ x. not ((x && effect.dropped p.playback) || (eqb p.queue.client actor && effect.queue_gone p.queue.queue))) h ∙ ap (λ x. not (x || (eqb p.queue.client actor && effect.queue_gone p.queue.queue))) (d p.playback)
 
-      go : (used s actor ≤ out_size (FinMap.get s.clients actor) → length own.added + used s actor ≤ out_size own.client) ⊎ ((own.added ≡ []) × ((p : Playback) → own.dropped p ≡ true)) → used (with_own s actor q own) actor ≤ out_size own.client
+      go : (playback_count s actor ≤ out_size (FinMap.get s.clients actor) → length effect.added + playback_count s actor ≤ out_size effect.client) ⊎ ((effect.added ≡ []) × ((p : Playback) → effect.dropped p ≡ true)) → playback_count (with_effect s actor q effect) actor ≤ out_size effect.client
       go (inl f) =
-          let l : length own.added + used s actor ≤ out_size own.client = f (b.used actor) in
+          let l : length effect.added + playback_count s actor ≤ out_size effect.client = f (b.used actor) in
           omega (arith, counted actor, few-kept actor, few-new actor)
       go (inr g) =
           let kept : length (filter (mine actor) (filter stays s.pending)) ≡ zero = ap length (none-of (mine actor) stays (gone g.1) s.pending) in
-          let empty : length own.added ≡ zero = ap length g.0 in
+          let empty : length effect.added ≡ zero = ap length g.0 in
           omega (arith, counted actor, few-new actor)
 
-  bounded-own : Bounded (with_own s actor q own)
+  bounded-own : Bounded (with_effect s actor q effect)
   bounded-own = record {
-    waiting = fits-put s.pools actor (own.pool (FinMap.get s.pools actor)) b.waiting (a.pool (FinMap.get s.pools actor) (b.waiting actor));
-    used = λ c. subst (λ o. used (with_own s actor q own) c ≤ out_size o) (sym (get-put s.clients actor own.client c)) (one c (eqb c actor) refl);
+    waiting = fits-put s.pools actor (effect.pool (FinMap.get s.pools actor)) b.waiting (a.pool (FinMap.get s.pools actor) (b.waiting actor));
+    used = λ c. subst (λ o. playback_count (with_effect s actor q effect) c ≤ out_size o) (sym (get-put s.clients actor effect.client c)) (one c (eqb c actor) refl);
     sources = few;
-    sizes = λ c. ap pool_size (get-put s.pools actor (own.pool (FinMap.get s.pools actor)) c) ∙ two c (eqb c actor) refl ∙ sym (ap in_size (get-put s.clients actor own.client c));
+    sizes = λ c. ap pool_size (get-put s.pools actor (effect.pool (FinMap.get s.pools actor)) c) ∙ two c (eqb c actor) refl ∙ sym (ap in_size (get-put s.clients actor effect.client c));
   }
     where
-      two : (c : ℕ) (x : Bool) → eqb c actor ≡ x → pool_size (cond x (own.pool (FinMap.get s.pools actor)) (FinMap.get s.pools c)) ≡ in_size (cond x own.client (FinMap.get s.clients c))
+      two : (c : ℕ) (x : Bool) → eqb c actor ≡ x → pool_size (cond x (effect.pool (FinMap.get s.pools actor)) (FinMap.get s.pools c)) ≡ in_size (cond x effect.client (FinMap.get s.clients c))
       two c true h = a.size (FinMap.get s.pools actor) (b.sizes actor)
       two c false h = b.sizes c
 
-      one : (c : ℕ) (x : Bool) → eqb c actor ≡ x → used (with_own s actor q own) c ≤ out_size (cond x own.client (FinMap.get s.clients c))
-      one c true h = subst (λ i. used (with_own s actor q own) i ≤ out_size own.client) (sym (eqb-true c actor h)) actor-used
-      one c false h = let l : used s c ≤ out_size (FinMap.get s.clients c) = b.used c in omega (arith, counted c, few-kept c, others-new c h)
+      one : (c : ℕ) (x : Bool) → eqb c actor ≡ x → playback_count (with_effect s actor q effect) c ≤ out_size (cond x effect.client (FinMap.get s.clients c))
+      one c true h = subst (λ i. playback_count (with_effect s actor q effect) i ≤ out_size effect.client) (sym (eqb-true c actor h)) actor-used
+      one c false h = let l : playback_count s c ≤ out_size (FinMap.get s.clients c) = b.used c in omega (arith, counted c, few-kept c, others-new c h)
 
 -- ---- subscriptions
 
-few-sources : (a : Asked) (source target : Addr) → first_refusal (command_row a (Connect source target)).conditions ≡ None → sources_of a.edges target < most_sources
+few-sources : (a : CommandView) (source target : Addr) → first_refusal (command_row a (Connect source target)).conditions ≡ None → sources_of a.edges target < most_sources
 unfolding command_row
 few-sources a source target e =
     let rs : List Condition = not_open a ∷ no_sender a source ∷ no_dest a target ∷ not_permitted a source target ∷ already_connected a source target ∷ [] in
@@ -330,7 +330,7 @@ few-sources a source target e =
 abbrev FewSources : List Edge → Type 0
 FewSources edges = (t : Addr) → sources_of edges t ≤ most_sources
 
-few-connected : (edges : List Edge) (source target : Addr) → FewSources edges → sources_of edges target < most_sources → FewSources (connected source target edges)
+few-connected : (edges : List Edge) (source target : Addr) → FewSources edges → sources_of edges target < most_sources → FewSources (with_edge source target edges)
 few-connected edges source target b l t =
     subst (λ n. n ≤ most_sources) (sym (ap length (filter-append (λ e. same t e.target) edges (edge source target ∷ [])) ∙ length-append (filter (λ e. same t e.target) edges) (filter (λ e. same t e.target) (edge source target ∷ []))))
     (go (same t target) refl)
@@ -343,22 +343,22 @@ few-filtered : (p : Edge → Bool) (edges : List Edge) → FewSources edges → 
 few-filtered p edges b t = let l : sources_of edges t ≤ most_sources = b t in omega (arith, fewer-filtered (λ e. same t e.target) p edges)
 
 -- what a row leaves of the subscriptions
-few-row : (a : Asked) (command : Command) → first_refusal (command_row a command).conditions ≡ None → FewSources a.edges →
-    FewSources ((command_row a command).own.edges (filter (λ e. not (loses a.actor (command_row a command).own.gone e)) a.edges))
+few-row : (a : CommandView) (command : Command) → first_refusal (command_row a command).conditions ≡ None → FewSources a.edges →
+    FewSources ((command_row a command).effect.edges (filter (λ e. not (loses a.actor (command_row a command).effect.gone e)) a.edges))
 unfolding command_row
 few-row a (Connect source target) r b =
-    subst (λ es. FewSources (connected source target es)) (sym (none-lost a.actor a.edges)) (few-connected a.edges source target b (few-sources a source target r))
+    subst (λ es. FewSources (with_edge source target es)) (sym (none-lost a.actor a.edges)) (few-connected a.edges source target b (few-sources a source target r))
 few-row a (Disconnect source target) r b =
     let kept : List Edge = filter (λ e. not (loses a.actor (λ _. false) e)) a.edges in
     few-filtered (λ e. not (is_edge source target e)) kept (few-filtered (λ e. not (loses a.actor (λ _. false) e)) a.edges b)
-few-row a command r b = few-filtered (λ e. not (loses a.actor (command_row a command).own.gone e)) a.edges b
+few-row a command r b = few-filtered (λ e. not (loses a.actor (command_row a command).effect.gone e)) a.edges b
 
 -- ---- each step
 
 bounded-settled : (s : State) (m : ℕ) → Bounded s → Bounded (settle s m).state
 bounded-settled s m b = record {
   waiting = fits-offered s.pools (flat_map (event_copies s) (due s m)) b.waiting;
-  used = λ c. let l : used s c ≤ out_size (FinMap.get s.clients c) = b.used c in omega (arith, used-settled s m c);
+  used = λ c. let l : playback_count s c ≤ out_size (FinMap.get s.clients c) = b.used c in omega (arith, used-settled s m c);
   sources = b.sources;
   sizes = λ c. offered-size s.pools (flat_map (event_copies s) (due s m)) c ∙ b.sizes c;
 }
@@ -367,15 +367,15 @@ bounded-unless : (s : State) → Bounded s → (o : Option Refusal) (effect : St
 bounded-unless s b None effect h = h refl
 bounded-unless s b (Some n) effect h = b
 
-pub bounded-command : (files : List File) (s : State) (m actor : ℕ) (command : Command) → Bounded s → Bounded (command_step files s m actor command).state
+pub bounded-command : (files : List PlayedFile) (s : State) (m actor : ℕ) (command : Command) → Bounded s → Bounded (command_step files s m actor command).state
 bounded-command files s m actor command b =
     let q : Option QueueAddr = queue_named command in
-    let a : Asked = asked files s m actor command in
-    let own : Own = (row_of files s m actor command).own in
-    let u : State = with_own s actor q own in
-    let ds : List Delivery = send_copies s m actor own.sends in
+    let a : CommandView = view_of files s m actor command in
+    let effect : Effect = (row_of files s m actor command).effect in
+    let u : State = with_effect s actor q effect in
+    let ds : List Delivery = send_copies s m actor effect.sends in
     bounded-unless s b (refusal_of files s m actor command) (effect_of files s m actor command) (λ e.
-    let after : Bounded u = bounded-own s actor q own b (fits a command e) (few-row a command e b.sources) in
+    let after : Bounded u = bounded-own s actor q effect b (fits a command e) (few-row a command e b.sources) in
     record { waiting = fits-offered u.pools ds after.waiting; used = after.used; sources = after.sources; sizes = λ c. offered-size u.pools ds c ∙ after.sizes c })
 
 bounded-start : Bounded start

@@ -7,7 +7,7 @@ use Rattle.seq_state.specs.declared.input.Command.{Command}
 use Rattle.seq_state.specs.declared.input.Command.TheVariants.{Connect, Disconnect}
 use Rattle.seq_state.specs.declared.input.Input.{Input}
 use Rattle.seq_state.specs.declared.log.Reply.{Reply}
-use Rattle.seq_state.specs.Files.{File}
+use Rattle.smf_grammar.specs.Played.{PlayedFile}
 use Rattle.seq_state.specs.State.{State, start}
 use Rattle.seq_state.specs.Table.{queue_named}
 use Rattle.seq_state.specs.Step.{step}
@@ -31,7 +31,7 @@ names_all : (actor : ℕ) (q : Option QueueAddr) → NamesWithin (λ c. true) ac
 names_all actor None = tt
 names_all actor (Some q) = λ m. refl
 
-closed_from : (files : List File) (owner : ℕ) (s : State) (inputs : List Input) → IsClosedFrom files owner (λ c. true) s inputs
+closed_from : (files : List PlayedFile) (owner : ℕ) (s : State) (inputs : List Input) → IsClosedFrom files owner (λ c. true) s inputs
 closed_from files owner s [] = tt
 closed_from files owner s (i ∷ inputs) =
     (closed_at owner i.actor i.command (step files s i).reply, names_all i.actor (queue_named i.command), closed_from files owner (step files s i).state inputs)

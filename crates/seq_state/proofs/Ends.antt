@@ -18,12 +18,12 @@ use Rattle.seq_state.specs.declared.input.Command.{Command}
 use Rattle.seq_state.specs.declared.input.Command.TheVariants.{Open, Close, CreatePort, DeletePort, CreateFilter, SetFilter, DeleteFilter, Connect, Disconnect, Bytes, CreateQueue, CreateQueueFrom, DeleteQueue, Start, Stop, Continue, Tempo, Share}
 use Rattle.seq_state.specs.declared.refusal.Refusal.{Refusal}
 use Rattle.seq_state.specs.declared.refusal.Refusal.TheVariants as refusal
-use Rattle.tempo_clock.specs.Clocks.{started, stopped, resumed, with_tempo}
-use Rattle.seq_state.specs.Files.{File}
+use Rattle.tempo_clock.specs.Clocks.{running_from_zero, at_rest, running_on, with_tempo}
+use Rattle.smf_grammar.specs.Played.{PlayedFile}
 use Rattle.seq_state.specs.State.{PortInfo, FilterInfo, Queue, Client, State}
-use Rattle.seq_state.specs.Own.{Own, with_change, port_of, filter_of, port_caps, filter_caps, node_caps, put_port, put_filter, put_queue, port_fed, filter_ruled, queue_of, queue_map, new_port, new_filter, held_queue, one_tempo, file_queue, file_at, clocked, public}
-use Rattle.seq_state.specs.Table.{Asked, Condition, first_refusal, command_row, queue_named, bad_name, bad_sizes, not_open, not_permitted, already_connected, sources_full, cycle}
-use Rattle.seq_state.specs.Step.{Stepped, playback_after, is_left, settle, loses, drops, pending_of, with_own, unless, asked, row_of, refusal_of, effect_of, command_step}
+use Rattle.seq_state.specs.Effect.{Effect, with_change, port_of, filter_of, port_caps, filter_caps, node_caps, put_port, put_filter, put_queue, port_fed, filter_ruled, queue_of, queue_map, new_port, new_filter, held_queue, one_tempo, file_queue, file_at, with_clock, public}
+use Rattle.seq_state.specs.Table.{CommandView, Condition, first_refusal, command_row, queue_named, bad_name, bad_sizes, not_open, not_permitted, already_connected, sources_full, cycle}
+use Rattle.seq_state.specs.Step.{Stepped, playback_after, is_left, settle, loses, drops, pending_of, with_effect, unless, view_of, row_of, refusal_of, effect_of, command_step}
 use Rattle.seq_state.specs.Laws.{is_there, has_ends, EndsThere, EndsLaw, AreFilled, FilledLaw}
 use Rattle.seq_state.proofs.Effects.{get-put, none_some}
 use Rattle.seq_state.proofs.Lists.{both_left, both_right, and_both, list_all-filter, list_all-append, list_all-both, list_all-passed, list_all-weaker}
@@ -57,8 +57,8 @@ filters-put_queue n (Some q) c = refl
 -- ---- what a row leaves of the actor's nodes
 
 -- a node of the client that does not go is there still
-abbrev NodesStay : Option Client → Own → Type 0
-NodesStay client own = (n : Node) → own.gone n ≡ false → is_some (node_caps client n) ≡ true → is_some (node_caps own.client n) ≡ true
+abbrev NodesStay : Option Client → Effect → Type 0
+NodesStay client effect = (n : Node) → effect.gone n ≡ false → is_some (node_caps client n) ≡ true → is_some (node_caps effect.client n) ≡ true
 
 -- a port's change that takes none but this
 port_stays : (client : Option Client) (port : ℕ) (o : Option PortInfo) (gone : Node → Bool) → ((n : ℕ) → eqb n port ≡ true → gone (Port n) ≡ false → is_some (port_caps (port_of client n)) ≡ true → is_some (port_caps o) ≡ true) →
@@ -97,7 +97,7 @@ ruled : (o : Option FilterInfo) (rule : RuleArgs) → is_some (filter_caps o) �
 ruled None rule h = h
 ruled (Some f) rule h = refl
 
-nodes_stay : (a : Asked) (command : Command) → first_refusal (command_row a command).conditions ≡ None → NodesStay a.client (command_row a command).own
+nodes_stay : (a : CommandView) (command : Command) → first_refusal (command_row a command).conditions ≡ None → NodesStay a.client (command_row a command).effect
 unfolding command_row
 nodes_stay a (Open name in_size out_size) r n g t = absurd (none_open a.client refusal.AlreadyOpen (bad_name name ∷ bad_sizes in_size out_size ∷ []) n r t)
 nodes_stay a Close r n g t = absurd (false≢true (sym g))
@@ -121,28 +121,28 @@ nodes_stay a (Bytes port bytes) r n g t = port_stays a.client port (port_fed byt
 nodes_stay a (CreateQueue q ppq tempo) r n g t = queue_stays a.client q (Some (held_queue (one_tempo ppq tempo))) n t
 nodes_stay a (CreateQueueFrom q file) r n g t = queue_stays a.client q (file_queue (file_at a.files file)) n t
 nodes_stay a (DeleteQueue q) r n g t = queue_stays a.client q.queue None n t
-nodes_stay a (Start q) r n g t = queue_stays a.client q.queue (queue_map (clocked (λ c. started c a.moment)) (queue_of a.client q.queue)) n t
-nodes_stay a (Stop q) r n g t = queue_stays a.client q.queue (queue_map (clocked (λ c. stopped c a.moment)) (queue_of a.client q.queue)) n t
-nodes_stay a (Continue q) r n g t = queue_stays a.client q.queue (queue_map (clocked (λ c. resumed c a.moment)) (queue_of a.client q.queue)) n t
-nodes_stay a (Tempo q tempo) r n g t = queue_stays a.client q.queue (queue_map (clocked (λ c. with_tempo c a.moment tempo)) (queue_of a.client q.queue)) n t
+nodes_stay a (Start q) r n g t = queue_stays a.client q.queue (queue_map (with_clock (λ c. running_from_zero c a.moment)) (queue_of a.client q.queue)) n t
+nodes_stay a (Stop q) r n g t = queue_stays a.client q.queue (queue_map (with_clock (λ c. at_rest c a.moment)) (queue_of a.client q.queue)) n t
+nodes_stay a (Continue q) r n g t = queue_stays a.client q.queue (queue_map (with_clock (λ c. running_on c a.moment)) (queue_of a.client q.queue)) n t
+nodes_stay a (Tempo q tempo) r n g t = queue_stays a.client q.queue (queue_map (with_clock (λ c. with_tempo c a.moment tempo)) (queue_of a.client q.queue)) n t
 nodes_stay a (Share q) r n g t = queue_stays a.client q.queue (queue_map public (queue_of a.client q.queue)) n t
 nodes_stay a command r n g t = t
 
 -- ---- the ends of edges
 
 -- an end that does not go is there after the command
-end_stays : (s : State) (actor : ℕ) (q : Option QueueAddr) (own : Own) → NodesStay (FinMap.get s.clients actor) own → (x : Addr) → (eqb x.client actor && own.gone x.node) ≡ false → is_there s x ≡ true → is_there (with_own s actor q own) x ≡ true
-end_stays s actor q own h x g t = subst (λ o. is_some (node_caps o x.node) ≡ true) (sym (get-put s.clients actor own.client x.client)) (go (eqb x.client actor) refl g)
+end_stays : (s : State) (actor : ℕ) (q : Option QueueAddr) (effect : Effect) → NodesStay (FinMap.get s.clients actor) effect → (x : Addr) → (eqb x.client actor && effect.gone x.node) ≡ false → is_there s x ≡ true → is_there (with_effect s actor q effect) x ≡ true
+end_stays s actor q effect h x g t = subst (λ o. is_some (node_caps o x.node) ≡ true) (sym (get-put s.clients actor effect.client x.client)) (go (eqb x.client actor) refl g)
   where
-    go : (b : Bool) → eqb x.client actor ≡ b → (b && own.gone x.node) ≡ false → is_some (node_caps (cond b own.client (FinMap.get s.clients x.client)) x.node) ≡ true
+    go : (b : Bool) → eqb x.client actor ≡ b → (b && effect.gone x.node) ≡ false → is_some (node_caps (cond b effect.client (FinMap.get s.clients x.client)) x.node) ≡ true
     go true e g = h x.node g (subst (λ c. is_some (node_caps (FinMap.get s.clients c) x.node) ≡ true) (eqb-true x.client actor e) t)
     go false e g = t
 
-ends_kept : (s : State) (actor : ℕ) (q : Option QueueAddr) (own : Own) → NodesStay (FinMap.get s.clients actor) own → EndsThere s → list_all (has_ends (with_own s actor q own)) (filter (λ e. not (loses actor own.gone e)) s.edges) ≡ true
-ends_kept s actor q own h w =
-    let keeps : Edge → Bool = λ e. not (loses actor own.gone e) in
+ends_kept : (s : State) (actor : ℕ) (q : Option QueueAddr) (effect : Effect) → NodesStay (FinMap.get s.clients actor) effect → EndsThere s → list_all (has_ends (with_effect s actor q effect)) (filter (λ e. not (loses actor effect.gone e)) s.edges) ≡ true
+ends_kept s actor q effect h w =
+    let keeps : Edge → Bool = λ e. not (loses actor effect.gone e) in
     let es : List Edge = filter keeps s.edges in
-    list_all-weaker (λ e. has_ends s e && keeps e) (has_ends (with_own s actor q own)) one es
+    list_all-weaker (λ e. has_ends s e && keeps e) (has_ends (with_effect s actor q effect)) one es
     (list_all-both (has_ends s) keeps es (list_all-filter (has_ends s) keeps s.edges w) (list_all-passed keeps s.edges))
   where
     neither : (x y : Bool) → not (x || y) ≡ true → (x ≡ false) × (y ≡ false)
@@ -150,13 +150,13 @@ ends_kept s actor q own h w =
     neither false true h = absurd (false≢true h)
     neither false false h = (refl, refl)
 
-    one : (e : Edge) → (has_ends s e && not (loses actor own.gone e)) ≡ true → has_ends (with_own s actor q own) e ≡ true
+    one : (e : Edge) → (has_ends s e && not (loses actor effect.gone e)) ≡ true → has_ends (with_effect s actor q effect) e ≡ true
     one e k =
-        let ends : has_ends s e ≡ true = both_left (has_ends s e) (not (loses actor own.gone e)) k in
-        let none = neither (eqb e.source.client actor && own.gone e.source.node) (eqb e.target.client actor && own.gone e.target.node) (both_right (has_ends s e) (not (loses actor own.gone e)) k) in
-        and_both (is_there (with_own s actor q own) e.source) (is_there (with_own s actor q own) e.target)
-        (end_stays s actor q own h e.source none.0 (both_left (is_there s e.source) (is_there s e.target) ends))
-        (end_stays s actor q own h e.target none.1 (both_right (is_there s e.source) (is_there s e.target) ends))
+        let ends : has_ends s e ≡ true = both_left (has_ends s e) (not (loses actor effect.gone e)) k in
+        let none = neither (eqb e.source.client actor && effect.gone e.source.node) (eqb e.target.client actor && effect.gone e.target.node) (both_right (has_ends s e) (not (loses actor effect.gone e)) k) in
+        and_both (is_there (with_effect s actor q effect) e.source) (is_there (with_effect s actor q effect) e.target)
+        (end_stays s actor q effect h e.source none.0 (both_left (is_there s e.source) (is_there s e.target) ends))
+        (end_stays s actor q effect h e.target none.1 (both_right (is_there s e.source) (is_there s e.target) ends))
 
 -- a Connect that is not refused has both ends
 ends_found : (a : Condition) (x y : Bool) (n m : Refusal) (rest : List Condition) → first_refusal (a ∷ (n, not x) ∷ (m, not y) ∷ rest) ≡ None → (x ≡ true) × (y ≡ true)
@@ -168,36 +168,36 @@ ends_found a x y n m rest e = go a.1 x y e
     go false true false e = absurd (none_some m (sym e))
     go false true true e = (refl, refl)
 
-ends_row : (files : List File) (s : State) (moment actor : ℕ) (command : Command) → refusal_of files s moment actor command ≡ None → EndsThere s → EndsThere (with_own s actor (queue_named command) (row_of files s moment actor command).own)
+ends_row : (files : List PlayedFile) (s : State) (moment actor : ℕ) (command : Command) → refusal_of files s moment actor command ≡ None → EndsThere s → EndsThere (with_effect s actor (queue_named command) (row_of files s moment actor command).effect)
 unfolding command_row
 ends_row files s moment actor (Connect source target) r w =
-    let own : Own = (row_of files s moment actor (Connect source target)).own in
-    let u : State = with_own s actor None own in
-    let kept : List Edge = filter (λ e. not (loses actor own.gone e)) s.edges in
-    let stay : NodesStay (FinMap.get s.clients actor) own = nodes_stay (asked files s moment actor (Connect source target)) (Connect source target) r in
-    let a : Asked = asked files s moment actor (Connect source target) in
+    let effect : Effect = (row_of files s moment actor (Connect source target)).effect in
+    let u : State = with_effect s actor None effect in
+    let kept : List Edge = filter (λ e. not (loses actor effect.gone e)) s.edges in
+    let stay : NodesStay (FinMap.get s.clients actor) effect = nodes_stay (view_of files s moment actor (Connect source target)) (Connect source target) r in
+    let a : CommandView = view_of files s moment actor (Connect source target) in
     let rest : List Condition = not_permitted a source target ∷ already_connected a source target ∷ sources_full a target ∷ cycle a source target ∷ [] in
     let found = ends_found (not_open a) (is_there s source) (is_there s target) refusal.NoSender refusal.NoDest rest r in
-    list_all-append (has_ends u) kept (edge source target ∷ []) (ends_kept s actor None own stay w)
+    list_all-append (has_ends u) kept (edge source target ∷ []) (ends_kept s actor None effect stay w)
     (and_both (is_there u source && is_there u target) true
-    (and_both (is_there u source) (is_there u target) (end_stays s actor None own stay source (no_node source) found.0) (end_stays s actor None own stay target (no_node target) found.1)) refl)
+    (and_both (is_there u source) (is_there u target) (end_stays s actor None effect stay source (no_node source) found.0) (end_stays s actor None effect stay target (no_node target) found.1)) refl)
   where
     no_node : (x : Addr) → (eqb x.client actor && false) ≡ false
     no_node x = grind arith
 ends_row files s moment actor (Disconnect source target) r w =
-    let own : Own = (row_of files s moment actor (Disconnect source target)).own in
-    let u : State = with_own s actor None own in
-    let kept : List Edge = filter (λ e. not (loses actor own.gone e)) s.edges in
+    let effect : Effect = (row_of files s moment actor (Disconnect source target)).effect in
+    let u : State = with_effect s actor None effect in
+    let kept : List Edge = filter (λ e. not (loses actor effect.gone e)) s.edges in
     list_all-filter (has_ends u) (λ e. not (is_edge source target e)) kept
-    (ends_kept s actor None own (nodes_stay (asked files s moment actor (Disconnect source target)) (Disconnect source target) r) w)
+    (ends_kept s actor None effect (nodes_stay (view_of files s moment actor (Disconnect source target)) (Disconnect source target) r) w)
 ends_row files s moment actor command r w =
-    ends_kept s actor (queue_named command) (row_of files s moment actor command).own (nodes_stay (asked files s moment actor command) command r) w
+    ends_kept s actor (queue_named command) (row_of files s moment actor command).effect (nodes_stay (view_of files s moment actor command) command r) w
 
 ends_unless : (s : State) → EndsThere s → (o : Option Refusal) (effect : Stepped) → (o ≡ None → EndsThere effect.state) → EndsThere (unless o s effect).state
 ends_unless s w None effect h = h refl
 ends_unless s w (Some n) effect h = w
 
-ends_command : (files : List File) (s : State) (moment actor : ℕ) (command : Command) → EndsThere s → EndsThere (command_step files s moment actor command).state
+ends_command : (files : List PlayedFile) (s : State) (moment actor : ℕ) (command : Command) → EndsThere s → EndsThere (command_step files s moment actor command).state
 ends_command files s moment actor command w =
     ends_unless s w (refusal_of files s moment actor command) (effect_of files s moment actor command) (λ r. ends_row files s moment actor command r w)
 
@@ -210,10 +210,10 @@ ends_law = record {
 
 -- ---- playbacks
 
-filled_own : (s : State) (actor : ℕ) (q : Option QueueAddr) (own : Own) → AreFilled s → AreFilled (with_own s actor q own)
-filled_own s actor q own w =
-    list_all-append is_left (filter (λ p. not (drops actor own p)) s.pending) (filter is_left (map (pending_of actor q) own.added))
-    (list_all-filter is_left (λ p. not (drops actor own p)) s.pending w) (list_all-passed is_left (map (pending_of actor q) own.added))
+filled_own : (s : State) (actor : ℕ) (q : Option QueueAddr) (effect : Effect) → AreFilled s → AreFilled (with_effect s actor q effect)
+filled_own s actor q effect w =
+    list_all-append is_left (filter (λ p. not (drops actor effect p)) s.pending) (filter is_left (map (pending_of actor q) effect.added))
+    (list_all-filter is_left (λ p. not (drops actor effect p)) s.pending w) (list_all-passed is_left (map (pending_of actor q) effect.added))
 
 filled_unless : (s : State) → AreFilled s → (o : Option Refusal) (effect : Stepped) → AreFilled effect.state → AreFilled (unless o s effect).state
 filled_unless s w None effect h = h
@@ -226,5 +226,5 @@ filled_law = record {
   stepped = λ files s i w.
       let u : State = (settle s i.moment).state in
       filled_unless u (list_all-passed is_left (map (playback_after s.clients i.moment) s.pending)) (refusal_of files u i.moment i.actor i.command) (effect_of files u i.moment i.actor i.command)
-      (filled_own u i.actor (queue_named i.command) (row_of files u i.moment i.actor i.command).own (list_all-passed is_left (map (playback_after s.clients i.moment) s.pending)));
+      (filled_own u i.actor (queue_named i.command) (row_of files u i.moment i.actor i.command).effect (list_all-passed is_left (map (playback_after s.clients i.moment) s.pending)));
 }

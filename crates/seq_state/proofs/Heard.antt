@@ -2,7 +2,7 @@
 use Rattle.std.proofs.Common.{◌≡◌, ℕ, Bool, true, false, cond, eqb, ◌&&◌, List, [], ◌∷◌, ◌++◌, Option, Some, None, refl, sym, ap, ◌∙◌}
 use Rattle.std.specs.Prelude.{slice_get}
 use Rattle.std.specs.List.{filter_map, cons_option}
-use Rattle.midi_wire.specs.Writings.{written}
+use Rattle.midi_wire.specs.Writings.{wire_bytes}
 use Rattle.node_table.specs.declared.number.PortAddr.{PortAddr}
 use Rattle.seq_state.specs.declared.input.Input.{Input}
 use Rattle.seq_state.specs.declared.log.LogEntry.{LogEntry}
@@ -51,7 +51,7 @@ module _ (owner : ℕ) (member : ℕ → Bool) (port : ℕ) where
 
 pub port_bytes_law : PortBytesLaw
 port_bytes_law files owner member inputs end port timed closed =
-    ap written (all_seen owner member port inputs (plain files inputs end)
+    ap wire_bytes (all_seen owner member port inputs (plain files inputs end)
     ∙ ap (filter_map (seen_at owner member port)) (isolation_law files owner member inputs end timed closed)
     ∙ sym (all_seen owner member port (only member inputs) (plain files (only member inputs) end)))
 

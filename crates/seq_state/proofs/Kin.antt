@@ -8,7 +8,7 @@ use Rattle.std.specs.FinMap.{FinMap}
 use Rattle.std.proofs.lemmas.Bool.Decides.{nat_tests}
 use Rattle.std.proofs.lemmas.Bool.{false≢true, eqb-true, eq-eqb}
 use Rattle.node_table.specs.Addresses.{same, is_filter}
-use Rattle.patch_graph.specs.Chains.{makes_cycle, joined}
+use Rattle.patch_graph.specs.Chains.{makes_cycle, is_joined}
 use Rattle.patch_graph.specs.Edges.{edge, is_edge, has_edge, sources_of, most_sources}
 use Rattle.node_table.specs.declared.caps.Caps.{Caps}
 use Rattle.node_table.specs.declared.number.Addr.{Addr}
@@ -21,12 +21,12 @@ use Rattle.seq_state.specs.declared.log.Reply.{Reply}
 use Rattle.seq_state.specs.declared.input.Command.TheVariants.{Connect, Disconnect}
 use Rattle.seq_state.specs.declared.refusal.Refusal.{Refusal}
 use Rattle.seq_state.specs.declared.refusal.Refusal.TheVariants as refusal
-use Rattle.seq_state.specs.Files.{File}
-use Rattle.seq_state.specs.State.{put, ClientPool, Pending, State, Client, Event, Queue, queues_of, Playback}
+use Rattle.smf_grammar.specs.Played.{PlayedFile}
+use Rattle.seq_state.specs.State.{with_entry, ClientPool, OwnedPlayback, State, Client, DueMessage, Queue, queues_of, Playback}
 use Rattle.seq_state.specs.Copies.{copies}
-use Rattle.seq_state.specs.Own.{Own, node_caps}
-use Rattle.seq_state.specs.Table.{Row, first_refusal, visible, queue_named, command_row, permitted, connected, disconnected}
-use Rattle.seq_state.specs.Step.{delivered, upto, offer, pool_has_room, offered, sent, Timed, playback_at, is_at, event_moment, moment_in, playback_after, is_by, due, all_at, event_copies, port_addr, without_due, is_left, settle, loses, drops, pending_of, with_own, send_copies, Stepped, unless, after_own, used, caps_at, IsRefusal, named_queue, asked, row_of, refusal_of, command_step}
+use Rattle.seq_state.specs.Effect.{Effect, node_caps}
+use Rattle.seq_state.specs.Table.{Row, first_refusal, visible, queue_named, command_row, is_permitted, with_edge, without_edge_of}
+use Rattle.seq_state.specs.Step.{copies_with_room, upto, offer, pool_has_room, pools_after, with_copies, Timed, playback_at, is_at, event_moment, moment_in, playback_after, is_by, due, all_at, event_copies, port_addr, without_due, is_left, settle, loses, drops, pending_of, with_effect, send_copies, Stepped, unless, after_effect, playback_count, caps_at, IsRefusal, named_queue, view_of, row_of, refusal_of, command_step}
 use Rattle.seq_state.specs.Circle.{is_to, NamesWithin, Sight, aims_outside, Outside, Told, is_inner, IsClosedAt}
 use Rattle.seq_state.specs.Laws.{is_mine, AreKin, into}
 use Rattle.seq_state.proofs.Effects.{get-put, none_some, is_patch, same_row, edges_stay, patch_step, step-connects, step-parts}
@@ -54,7 +54,7 @@ takes p [] = []
 takes p (d ∷ ds) = cond (pool_has_room p) (d ∷ takes (offer p d) ds) (takes (offer p d) ds)
 
 abbrev after_one : FinMap nat_cmp ClientPool → Delivery → FinMap nat_cmp ClientPool
-after_one pools d = put pools d.target.client (offer (FinMap.get pools d.target.client) d)
+after_one pools d = with_entry pools d.target.client (offer (FinMap.get pools d.target.client) d)
 
 -- at one number the two are one
 turned : {X : Type 0} (f : ℕ → X) (x : X) (m n : ℕ) → cond (eqb m n) (f n) x ≡ cond (eqb n m) (f m) x
@@ -69,7 +69,7 @@ module _ (owner : ℕ) where
   one_offer : (pools : FinMap nat_cmp ClientPool) (d : Delivery) → FinMap.get (after_one pools d) owner ≡ cond (is_to owner d) (offer (FinMap.get pools owner) d) (FinMap.get pools owner)
   one_offer pools d = get-put pools d.target.client (offer (FinMap.get pools d.target.client) d) owner ∙ turned (λ c. offer (FinMap.get pools c) d) (FinMap.get pools owner) owner d.target.client
 
-  get-offered : (pools : FinMap nat_cmp ClientPool) (ds : List Delivery) → FinMap.get (offered pools ds) owner ≡ offers (FinMap.get pools owner) (heard owner ds)
+  get-offered : (pools : FinMap nat_cmp ClientPool) (ds : List Delivery) → FinMap.get (pools_after pools ds) owner ≡ offers (FinMap.get pools owner) (heard owner ds)
   unfolding offers heard
   get-offered pools [] = refl
   get-offered pools (d ∷ ds) = get-offered (after_one pools d) ds ∙ ap (λ p. offers p (heard owner ds)) (one_offer pools d) ∙ go (is_to owner d)
@@ -78,13 +78,13 @@ module _ (owner : ℕ) where
       go true = refl
       go false = refl
 
-  heard-delivered : (pools : FinMap nat_cmp ClientPool) (ds : List Delivery) → heard owner (delivered pools ds) ≡ takes (FinMap.get pools owner) (heard owner ds)
+  heard-delivered : (pools : FinMap nat_cmp ClientPool) (ds : List Delivery) → heard owner (copies_with_room pools ds) ≡ takes (FinMap.get pools owner) (heard owner ds)
   unfolding takes heard
   heard-delivered pools [] = refl
   heard-delivered pools (d ∷ ds) = go (pool_has_room (FinMap.get pools d.target.client)) (is_to owner d) refl refl (heard-delivered (after_one pools d) ds)
     where
       rest : List Delivery
-      rest = delivered (after_one pools d) ds
+      rest = copies_with_room (after_one pools d) ds
 
       P : Option ClientPool
       P = FinMap.get pools owner
@@ -108,14 +108,14 @@ module _ (owner : ℕ) where
           others false k = refl
 
 module _ (owner : ℕ) (member : ℕ → Bool) where
-  abbrev pub mine : Pending → Bool
+  abbrev pub mine : OwnedPlayback → Bool
   mine p = is_mine member p
 
   abbrev pub Kin : State → State → Type 0
   Kin s t = AreKin owner member s t
 
   -- a playback on a member's queue
-  abbrev pub on_member : Pending → Bool
+  abbrev pub on_member : OwnedPlayback → Bool
   on_member p = member p.queue.client
 
   -- edges into the circle come from members, and members' playbacks are on members' queues
@@ -131,7 +131,7 @@ module _ (owner : ℕ) (member : ℕ → Bool) where
 
   -- ---- sending
 
-  kin_sent : (s t : State) (ds es : List Delivery) → Kin s t → heard owner ds ≡ heard owner es → Kin (sent s ds).state (sent t es).state
+  kin_sent : (s t : State) (ds es : List Delivery) → Kin s t → heard owner ds ≡ heard owner es → Kin (with_copies s ds).state (with_copies t es).state
   kin_sent s t ds es k h = record {
     clients = k.clients;
     pool = get-offered owner s.pools ds ∙ ap (λ p. offers p (heard owner ds)) k.pool ∙ ap (offers (FinMap.get t.pools owner)) h ∙ sym (get-offered owner t.pools es);
@@ -139,11 +139,11 @@ module _ (owner : ℕ) (member : ℕ → Bool) where
     pending = k.pending;
   }
 
-  heard_sent : (s t : State) (ds es : List Delivery) → Kin s t → heard owner ds ≡ heard owner es → heard owner (sent s ds).delivered ≡ heard owner (sent t es).delivered
+  heard_sent : (s t : State) (ds es : List Delivery) → Kin s t → heard owner ds ≡ heard owner es → heard owner (with_copies s ds).delivered ≡ heard owner (with_copies t es).delivered
   heard_sent s t ds es k h =
       heard-delivered owner s.pools ds ∙ ap (λ p. takes p (heard owner ds)) k.pool ∙ ap (takes (FinMap.get t.pools owner)) h ∙ sym (heard-delivered owner t.pools es)
 
-  kin_unheard : (s : State) (ds : List Delivery) → heard owner ds ≡ [] → Kin (sent s ds).state s
+  kin_unheard : (s : State) (ds : List Delivery) → heard owner ds ≡ [] → Kin (with_copies s ds).state s
   unfolding offers
   kin_unheard s ds h = record {
     clients = λ c m. refl;
@@ -152,7 +152,7 @@ module _ (owner : ℕ) (member : ℕ → Bool) where
     pending = refl;
   }
 
-  heard_unheard : (s : State) (ds : List Delivery) → heard owner ds ≡ [] → heard owner (sent s ds).delivered ≡ []
+  heard_unheard : (s : State) (ds : List Delivery) → heard owner ds ≡ [] → heard owner (with_copies s ds).delivered ≡ []
   unfolding takes
   heard_unheard s ds h = heard-delivered owner s.pools ds ∙ ap (takes (FinMap.get s.pools owner)) h
 
@@ -161,23 +161,23 @@ module _ (owner : ℕ) (member : ℕ → Bool) where
   timed_mine : Timed → Bool
   timed_mine t = member t.client
 
-  playback_mine : (clients : FinMap nat_cmp Client) (k : ℕ) (p : Pending) → filter timed_mine (playback_at clients k p) ≡ cond (mine p) (playback_at clients k p) []
+  playback_mine : (clients : FinMap nat_cmp Client) (k : ℕ) (p : OwnedPlayback) → filter timed_mine (playback_at clients k p) ≡ cond (mine p) (playback_at clients k p) []
   unfolding timed_mine
   playback_mine clients k p =
-      let f : Event → Timed = λ e. record { moment = k; client = p.client; port = p.playback.port; message = e.message } in
-      let es : List Event = filter (λ e. is_at k (event_moment clients p e)) p.playback.events in
+      let f : DueMessage → Timed = λ e. record { moment = k; client = p.client; port = p.playback.port; message = e.message } in
+      let es : List DueMessage = filter (λ e. is_at k (event_moment clients p e)) p.playback.events in
       filter-map (λ t. member t.client) f es ∙ ap (map f) (filter-constant (mine p) es) ∙ go f es (mine p)
     where
-      go : (f : Event → Timed) (es : List Event) (b : Bool) → map f (cond b es []) ≡ cond b (map f es) []
+      go : (f : DueMessage → Timed) (es : List DueMessage) (b : Bool) → map f (cond b es []) ≡ cond b (map f es) []
       go f es true = refl
       go f es false = refl
 
   -- a member's playback is the same in both
-  same_playback_at : (s t : State) → Kin s t → (k : ℕ) (p : Pending) → on_member p ≡ true → playback_at s.clients k p ≡ playback_at t.clients k p
+  same_playback_at : (s t : State) → Kin s t → (k : ℕ) (p : OwnedPlayback) → on_member p ≡ true → playback_at s.clients k p ≡ playback_at t.clients k p
   same_playback_at s t kin k p m =
       ap (λ o. map (λ e. record { moment = k; client = p.client; port = p.playback.port; message = e.message }) (filter (λ e. is_at k (moment_in (FinMap.get (queues_of o) p.queue.queue) p.playback.accepted e.due)) p.playback.events)) (kin.clients p.queue.client m)
 
-  same_playback_after : (s t : State) → Kin s t → (k : ℕ) (p : Pending) → on_member p ≡ true → playback_after s.clients k p ≡ playback_after t.clients k p
+  same_playback_after : (s t : State) → Kin s t → (k : ℕ) (p : OwnedPlayback) → on_member p ≡ true → playback_after s.clients k p ≡ playback_after t.clients k p
   same_playback_after s t kin k p m =
       ap (λ o. record { client = p.client; queue = p.queue; playback = record { port = p.playback.port; accepted = p.playback.accepted; events = filter (λ e. not (is_by k (moment_in (FinMap.get (queues_of o) p.queue.queue) p.playback.accepted e.due))) p.playback.events } }) (kin.clients p.queue.client m)
 
@@ -244,87 +244,87 @@ module _ (owner : ℕ) (member : ℕ → Bool) where
   keeps : ℕ → (Node → Bool) → Edge → Bool
   keeps actor gone e = not (loses actor gone e)
 
-  stays : ℕ → Own → Pending → Bool
-  stays actor own p = not (drops actor own p)
+  stays : ℕ → Effect → OwnedPlayback → Bool
+  stays actor effect p = not (drops actor effect p)
 
-  got : ℕ → Option QueueAddr → List Playback → List Pending
+  got : ℕ → Option QueueAddr → List Playback → List OwnedPlayback
   got actor q added = filter is_left (map (pending_of actor q) added)
 
   -- its edges stay, but for those that go with a node
-  abbrev Stay : Own → Type 0
-  Stay own = (es : List Edge) → own.edges es ≡ es
+  abbrev Stay : Effect → Type 0
+  Stay effect = (es : List Edge) → effect.edges es ≡ es
 
-  kin_own : (s t : State) (actor : ℕ) (q : Option QueueAddr) (own : Own) → Stay own → Kin s t → Kin (with_own s actor q own) (with_own t actor q own)
+  kin_own : (s t : State) (actor : ℕ) (q : Option QueueAddr) (effect : Effect) → Stay effect → Kin s t → Kin (with_effect s actor q effect) (with_effect t actor q effect)
   unfolding keeps stays got
-  kin_own s t actor q own f k = record {
-    clients = λ c m. get-put s.clients actor own.client c ∙ ap (cond (eqb c actor) own.client) (k.clients c m) ∙ sym (get-put t.clients actor own.client c);
-    pool = at_owner s ∙ ap (λ p. cond (eqb actor owner) (own.pool p) p) k.pool ∙ sym (at_owner t);
-    edges = at_edges s ∙ ap (filter (keeps actor own.gone)) k.edges ∙ sym (at_edges t);
-    pending = at_pending s ∙ ap (λ ps. filter (stays actor own) ps ++ filter mine (got actor q own.added)) k.pending ∙ sym (at_pending t);
+  kin_own s t actor q effect f k = record {
+    clients = λ c m. get-put s.clients actor effect.client c ∙ ap (cond (eqb c actor) effect.client) (k.clients c m) ∙ sym (get-put t.clients actor effect.client c);
+    pool = at_owner s ∙ ap (λ p. cond (eqb actor owner) (effect.pool p) p) k.pool ∙ sym (at_owner t);
+    edges = at_edges s ∙ ap (filter (keeps actor effect.gone)) k.edges ∙ sym (at_edges t);
+    pending = at_pending s ∙ ap (λ ps. filter (stays actor effect) ps ++ filter mine (got actor q effect.added)) k.pending ∙ sym (at_pending t);
   }
     where
-      at_edges : (u : State) → filter (into owner member) (own.edges (filter (keeps actor own.gone) u.edges)) ≡ filter (keeps actor own.gone) (filter (into owner member) u.edges)
-      at_edges u = ap (filter (into owner member)) (f (filter (keeps actor own.gone) u.edges)) ∙ filter-filter (into owner member) (keeps actor own.gone) u.edges
+      at_edges : (u : State) → filter (into owner member) (effect.edges (filter (keeps actor effect.gone) u.edges)) ≡ filter (keeps actor effect.gone) (filter (into owner member) u.edges)
+      at_edges u = ap (filter (into owner member)) (f (filter (keeps actor effect.gone) u.edges)) ∙ filter-filter (into owner member) (keeps actor effect.gone) u.edges
 
-      at_owner : (u : State) → FinMap.get (put u.pools actor (own.pool (FinMap.get u.pools actor))) owner ≡ cond (eqb actor owner) (own.pool (FinMap.get u.pools owner)) (FinMap.get u.pools owner)
-      at_owner u = get-put u.pools actor (own.pool (FinMap.get u.pools actor)) owner ∙ turned (λ c. own.pool (FinMap.get u.pools c)) (FinMap.get u.pools owner) owner actor
+      at_owner : (u : State) → FinMap.get (with_entry u.pools actor (effect.pool (FinMap.get u.pools actor))) owner ≡ cond (eqb actor owner) (effect.pool (FinMap.get u.pools owner)) (FinMap.get u.pools owner)
+      at_owner u = get-put u.pools actor (effect.pool (FinMap.get u.pools actor)) owner ∙ turned (λ c. effect.pool (FinMap.get u.pools c)) (FinMap.get u.pools owner) owner actor
 
-      at_pending : (u : State) → filter mine (filter (stays actor own) u.pending ++ got actor q own.added) ≡ filter (stays actor own) (filter mine u.pending) ++ filter mine (got actor q own.added)
-      at_pending u = filter-append mine (filter (stays actor own) u.pending) (got actor q own.added) ∙ ap (λ ps. ps ++ filter mine (got actor q own.added)) (filter-filter mine (stays actor own) u.pending)
+      at_pending : (u : State) → filter mine (filter (stays actor effect) u.pending ++ got actor q effect.added) ≡ filter (stays actor effect) (filter mine u.pending) ++ filter mine (got actor q effect.added)
+      at_pending u = filter-append mine (filter (stays actor effect) u.pending) (got actor q effect.added) ∙ ap (λ ps. ps ++ filter mine (got actor q effect.added)) (filter-filter mine (stays actor effect) u.pending)
 
-  within_own : (s : State) (actor : ℕ) (q : Option QueueAddr) (own : Own) → Stay own → AreWithin owner member s.edges → AreWithin owner member (with_own s actor q own).edges
+  within_own : (s : State) (actor : ℕ) (q : Option QueueAddr) (effect : Effect) → Stay effect → AreWithin owner member s.edges → AreWithin owner member (with_effect s actor q effect).edges
   unfolding keeps
-  within_own s actor q own f w =
-      subst (λ es. list_all (from_member owner member) es ≡ true) (sym (ap (filter (into owner member)) (f (filter (keeps actor own.gone) s.edges)) ∙ filter-filter (into owner member) (keeps actor own.gone) s.edges))
-      (list_all-filter (from_member owner member) (keeps actor own.gone) (filter (into owner member) s.edges) w)
+  within_own s actor q effect f w =
+      subst (λ es. list_all (from_member owner member) es ≡ true) (sym (ap (filter (into owner member)) (f (filter (keeps actor effect.gone) s.edges)) ∙ filter-filter (into owner member) (keeps actor effect.gone) s.edges))
+      (list_all-filter (from_member owner member) (keeps actor effect.gone) (filter (into owner member) s.edges) w)
 
   -- a stranger's leaves the circle as it was
-  kin_stranger : member owner ≡ true → (s : State) (actor : ℕ) (q : Option QueueAddr) (own : Own) → Stay own → member actor ≡ false → Within s → Kin (with_own s actor q own) s
+  kin_stranger : member owner ≡ true → (s : State) (actor : ℕ) (q : Option QueueAddr) (effect : Effect) → Stay effect → member actor ≡ false → Within s → Kin (with_effect s actor q effect) s
   unfolding keeps stays got
-  kin_stranger o s actor q own f m w = record {
-    clients = λ c mc. get-put s.clients actor own.client c ∙ ap (λ b. cond b own.client (FinMap.get s.clients c)) (apart c mc);
-    pool = get-put s.pools actor (own.pool (FinMap.get s.pools actor)) owner ∙ ap (λ b. cond b (own.pool (FinMap.get s.pools actor)) (FinMap.get s.pools owner)) (apart owner o);
-    edges = ap (filter (into owner member)) (f (filter (keeps actor own.gone) s.edges)) ∙ filter-under (keeps actor own.gone) (into owner member) (from_member owner member) on s.edges w.edges;
+  kin_stranger o s actor q effect f m w = record {
+    clients = λ c mc. get-put s.clients actor effect.client c ∙ ap (λ b. cond b effect.client (FinMap.get s.clients c)) (apart c mc);
+    pool = get-put s.pools actor (effect.pool (FinMap.get s.pools actor)) owner ∙ ap (λ b. cond b (effect.pool (FinMap.get s.pools actor)) (FinMap.get s.pools owner)) (apart owner o);
+    edges = ap (filter (into owner member)) (f (filter (keeps actor effect.gone) s.edges)) ∙ filter-under (keeps actor effect.gone) (into owner member) (from_member owner member) on s.edges w.edges;
     pending =
-        filter-append mine (filter (stays actor own) s.pending) (got actor q own.added)
-        ∙ ap (λ ps. filter mine (filter (stays actor own) s.pending) ++ ps) none_got
-        ∙ append-nil (filter mine (filter (stays actor own) s.pending))
-        ∙ filter-under (stays actor own) mine on_member stay s.pending w.playbacks;
+        filter-append mine (filter (stays actor effect) s.pending) (got actor q effect.added)
+        ∙ ap (λ ps. filter mine (filter (stays actor effect) s.pending) ++ ps) none_got
+        ∙ append-nil (filter mine (filter (stays actor effect) s.pending))
+        ∙ filter-under (stays actor effect) mine on_member stay s.pending w.playbacks;
   }
     where
       apart : (c : ℕ) → member c ≡ true → eqb c actor ≡ false
       apart c mc = grind (arith, nat_tests)
 
-      on : (e : Edge) → into owner member e ≡ true → member e.source.client ≡ true → keeps actor own.gone e ≡ true
+      on : (e : Edge) → into owner member e ≡ true → member e.source.client ≡ true → keeps actor effect.gone e ≡ true
       on e i r =
           let t : eqb e.target.client actor ≡ false = apart e.target.client (inner_member owner member o e.target i) in
           let f : eqb e.source.client actor ≡ false = apart e.source.client r in
-          ap (λ b. not ((b && own.gone e.source.node) || ((eqb e.target.client actor) && own.gone e.target.node))) f
-          ∙ ap (λ b. not (b && own.gone e.target.node)) t
+          ap (λ b. not ((b && effect.gone e.source.node) || ((eqb e.target.client actor) && effect.gone e.target.node))) f
+          ∙ ap (λ b. not (b && effect.gone e.target.node)) t
 
-      stay : (p : Pending) → mine p ≡ true → on_member p ≡ true → stays actor own p ≡ true
+      stay : (p : OwnedPlayback) → mine p ≡ true → on_member p ≡ true → stays actor effect p ≡ true
       stay p h l =
-          ap (λ b. not ((b && own.dropped p.playback) || ((eqb p.queue.client actor) && own.queue_gone p.queue.queue))) (apart p.client h)
-          ∙ ap (λ b. not (b && own.queue_gone p.queue.queue)) (apart p.queue.client l)
+          ap (λ b. not ((b && effect.dropped p.playback) || ((eqb p.queue.client actor) && effect.queue_gone p.queue.queue))) (apart p.client h)
+          ∙ ap (λ b. not (b && effect.queue_gone p.queue.queue)) (apart p.queue.client l)
 
-      of_actor : (x : Option QueueAddr) → filter (λ t. mine (pending_of actor x t)) own.added ≡ filter (λ t. member actor) own.added
+      of_actor : (x : Option QueueAddr) → filter (λ t. mine (pending_of actor x t)) effect.added ≡ filter (λ t. member actor) effect.added
       of_actor None = refl
       of_actor (Some x) = refl
 
-      none_got : filter mine (got actor q own.added) ≡ []
+      none_got : filter mine (got actor q effect.added) ≡ []
       none_got =
-          filter-filter mine is_left (map (pending_of actor q) own.added)
-          ∙ ap (filter is_left) (filter-map mine (pending_of actor q) own.added ∙ ap (map (pending_of actor q)) (of_actor q ∙ filter-constant (member actor) own.added ∙ ap (λ b. cond b own.added []) m))
+          filter-filter mine is_left (map (pending_of actor q) effect.added)
+          ∙ ap (filter is_left) (filter-map mine (pending_of actor q) effect.added ∙ ap (map (pending_of actor q)) (of_actor q ∙ filter-constant (member actor) effect.added ∙ ap (λ b. cond b effect.added []) m))
 
   -- a member's new playbacks are on members' queues
-  playbacks_own : (s : State) (actor : ℕ) (q : Option QueueAddr) (own : Own) → Within s → member actor ≡ true → NamesWithin member actor q → list_all on_member (filter mine (with_own s actor q own).pending) ≡ true
+  playbacks_own : (s : State) (actor : ℕ) (q : Option QueueAddr) (effect : Effect) → Within s → member actor ≡ true → NamesWithin member actor q → list_all on_member (filter mine (with_effect s actor q effect).pending) ≡ true
   unfolding stays got
-  playbacks_own s actor q own w m n =
+  playbacks_own s actor q effect w m n =
       subst (λ ps. list_all on_member ps ≡ true)
-      (sym (filter-append mine (filter (stays actor own) s.pending) (got actor q own.added) ∙ ap (λ ps. ps ++ filter mine (got actor q own.added)) (filter-filter mine (stays actor own) s.pending)))
-      (list_all-append on_member (filter (stays actor own) (filter mine s.pending)) (filter mine (got actor q own.added))
-      (list_all-filter on_member (stays actor own) (filter mine s.pending) w.playbacks)
-      (list_all-filter on_member mine (got actor q own.added) (list_all-filter on_member is_left (map (pending_of actor q) own.added) (list_all-map on_member (λ t. true) (pending_of actor q) (λ t h. on q n t) own.added (list_all-always (λ t. true) (λ t. refl) own.added)))))
+      (sym (filter-append mine (filter (stays actor effect) s.pending) (got actor q effect.added) ∙ ap (λ ps. ps ++ filter mine (got actor q effect.added)) (filter-filter mine (stays actor effect) s.pending)))
+      (list_all-append on_member (filter (stays actor effect) (filter mine s.pending)) (filter mine (got actor q effect.added))
+      (list_all-filter on_member (stays actor effect) (filter mine s.pending) w.playbacks)
+      (list_all-filter on_member mine (got actor q effect.added) (list_all-filter on_member is_left (map (pending_of actor q) effect.added) (list_all-map on_member (λ t. true) (pending_of actor q) (λ t h. on q n t) effect.added (list_all-always (λ t. true) (λ t. refl) effect.added)))))
     where
       on : (x : Option QueueAddr) → NamesWithin member actor x → (t : Playback) → on_member (pending_of actor x t) ≡ true
       on None h t = m
@@ -382,25 +382,25 @@ module _ (owner : ℕ) (member : ℕ → Bool) where
   unless_told s t moment actor command None a b h = h
   unless_told s t moment actor command (Some n) a b h = refl
 
-  own_alike : (s t : State) (moment actor : ℕ) (q : Option QueueAddr) (own : Own) → Stay own → Kin s t → Within s → member actor ≡ true → NamesWithin member actor q → Alike (after_own s moment actor q own) (after_own t moment actor q own)
-  own_alike s t moment actor q own f k w m n =
-      let ds : List Delivery = send_copies s moment actor own.sends in
-      let es : List Delivery = send_copies t moment actor own.sends in
-      let h : heard owner ds ≡ heard owner es = heard_sends s t k w moment actor own.sends in
+  own_alike : (s t : State) (moment actor : ℕ) (q : Option QueueAddr) (effect : Effect) → Stay effect → Kin s t → Within s → member actor ≡ true → NamesWithin member actor q → Alike (after_effect s moment actor q effect) (after_effect t moment actor q effect)
+  own_alike s t moment actor q effect f k w m n =
+      let ds : List Delivery = send_copies s moment actor effect.sends in
+      let es : List Delivery = send_copies t moment actor effect.sends in
+      let h : heard owner ds ≡ heard owner es = heard_sends s t k w moment actor effect.sends in
       record {
-        kin = kin_sent (with_own s actor q own) (with_own t actor q own) ds es (kin_own s t actor q own f k) h;
-        within = record { edges = within_own s actor q own f w.edges; playbacks = playbacks_own s actor q own w m n };
-        heard = heard_sent (with_own s actor q own) (with_own t actor q own) ds es (kin_own s t actor q own f k) h;
+        kin = kin_sent (with_effect s actor q effect) (with_effect t actor q effect) ds es (kin_own s t actor q effect f k) h;
+        within = record { edges = within_own s actor q effect f w.edges; playbacks = playbacks_own s actor q effect w m n };
+        heard = heard_sent (with_effect s actor q effect) (with_effect t actor q effect) ds es (kin_own s t actor q effect f k) h;
       }
 
-  own_aside : member owner ≡ true → (s : State) (moment actor : ℕ) (q : Option QueueAddr) (own : Own) → Stay own → Within s → member actor ≡ false → Aside (after_own s moment actor q own) s
-  own_aside o s moment actor q own f w m =
-      let ds : List Delivery = send_copies s moment actor own.sends in
-      let h : heard owner ds ≡ [] = none_sent s w moment actor own.sends m in
-      let u : State = with_own s actor q own in
+  own_aside : member owner ≡ true → (s : State) (moment actor : ℕ) (q : Option QueueAddr) (effect : Effect) → Stay effect → Within s → member actor ≡ false → Aside (after_effect s moment actor q effect) s
+  own_aside o s moment actor q effect f w m =
+      let ds : List Delivery = send_copies s moment actor effect.sends in
+      let h : heard owner ds ≡ [] = none_sent s w moment actor effect.sends m in
+      let u : State = with_effect s actor q effect in
       record {
-        kin = kin_trans (sent u ds).state u s (kin_unheard u ds h) (kin_stranger o s actor q own f m w);
-        within = record { edges = within_own s actor q own f w.edges; playbacks = subst (λ ps. list_all on_member ps ≡ true) (sym (kin_stranger o s actor q own f m w).pending) w.playbacks };
+        kin = kin_trans (with_copies u ds).state u s (kin_unheard u ds h) (kin_stranger o s actor q effect f m w);
+        within = record { edges = within_own s actor q effect f w.edges; playbacks = subst (λ ps. list_all on_member ps ≡ true) (sym (kin_stranger o s actor q effect f m w).pending) w.playbacks };
         heard = heard_unheard u ds h;
       }
 
@@ -411,10 +411,10 @@ module _ (owner : ℕ) (member : ℕ → Bool) where
       go true h = ap (λ r. cond (aims_outside owner member command) (Outside moment) (Told moment r) ∷ []) (h refl)
       go false h = refl
 
-  same_used : (s t : State) → Kin s t → (actor : ℕ) → member actor ≡ true → used s actor ≡ used t actor
+  same_used : (s t : State) → Kin s t → (actor : ℕ) → member actor ≡ true → playback_count s actor ≡ playback_count t actor
   same_used s t k actor m =
-      let p : Pending → Bool = λ x. eqb x.client actor in
-      let w : (x : Pending) → p x ≡ true → mine x ≡ true = λ x h. ap member (eqb-true x.client actor h) ∙ m in
+      let p : OwnedPlayback → Bool = λ x. eqb x.client actor in
+      let w : (x : OwnedPlayback) → p x ≡ true → mine x ≡ true = λ x h. ap member (eqb-true x.client actor h) ∙ m in
       ap length (sym (filter-wider p mine w s.pending) ∙ ap (filter p) k.pending ∙ filter-wider p mine w t.pending)
 
   -- ---- Connect and Disconnect
@@ -441,13 +441,13 @@ module _ (owner : ℕ) (member : ℕ → Bool) where
   same_cycle s t k w v source target m = go (is_filter source) refl
     where
       rest : State → Bool
-      rest u = joined u.edges target source
+      rest u = is_joined u.edges target source
 
       same_joined : is_filter source ≡ true → rest s ≡ rest t
       same_joined h =
           let i : is_inner owner member source ≡ true = inner_filter owner member source h ∙ m in
           joined_within owner member s.edges (are_within owner member s.edges w.edges) target source i
-          ∙ ap (λ es. joined es target source) k.edges
+          ∙ ap (λ es. is_joined es target source) k.edges
           ∙ sym (joined_within owner member t.edges (are_within owner member t.edges v.edges) target source i)
 
       go : (b : Bool) → is_filter source ≡ b → (b && is_filter target && rest s) ≡ (b && is_filter target && rest t)
@@ -455,12 +455,12 @@ module _ (owner : ℕ) (member : ℕ → Bool) where
       go false h = refl
 
   -- inside the circle the refusals are the same
-  same_connect : (files : List File) (s t : State) → Kin s t → Within s → (moment actor : ℕ) (source target : Addr) → member actor ≡ true → member source.client ≡ true → member target.client ≡ true → is_inner owner member target ≡ true →
+  same_connect : (files : List PlayedFile) (s t : State) → Kin s t → Within s → (moment actor : ℕ) (source target : Addr) → member actor ≡ true → member source.client ≡ true → member target.client ≡ true → is_inner owner member target ≡ true →
       refusal_of files s moment actor (Connect source target) ≡ refusal_of files t moment actor (Connect source target)
   unfolding command_row
   same_connect files s t k w moment actor source target m a b i =
       let P : Option Client → Option Caps → Option Caps → Bool → ℕ → Bool → Option Refusal = λ o read write x n y.
-      first_refusal ((refusal.NotOpen, not (is_some o)) ∷ (refusal.NoSender, not (is_some read)) ∷ (refusal.NoDest, not (is_some write)) ∷ (refusal.NotPermitted, not (permitted actor source read target write))
+      first_refusal ((refusal.NotOpen, not (is_some o)) ∷ (refusal.NoSender, not (is_some read)) ∷ (refusal.NoDest, not (is_some write)) ∷ (refusal.NotPermitted, not (is_permitted actor source read target write))
       ∷ (refusal.AlreadyConnected, x) ∷ (refusal.SourcesFull, nat_le most_sources n) ∷ (refusal.Cycle, y) ∷ []) in
       let e : State → Bool = λ u. has_edge u.edges source target in
       let n : State → ℕ = λ u. sources_of u.edges target in
@@ -473,12 +473,12 @@ module _ (owner : ℕ) (member : ℕ → Bool) where
       ∙ ap (λ x. P (o t) (caps_at t source) (caps_at t target) (e t) x (y s)) (same_sources_of s t k target i)
       ∙ ap (λ x. P (o t) (caps_at t source) (caps_at t target) (e t) (n t) x) (same_cycle s t k w (within_kin s t k w) source target a)
 
-  same_disconnect : (files : List File) (s t : State) → Kin s t → (moment actor : ℕ) (source target : Addr) → member actor ≡ true → member source.client ≡ true → member target.client ≡ true → is_inner owner member target ≡ true →
+  same_disconnect : (files : List PlayedFile) (s t : State) → Kin s t → (moment actor : ℕ) (source target : Addr) → member actor ≡ true → member source.client ≡ true → member target.client ≡ true → is_inner owner member target ≡ true →
       refusal_of files s moment actor (Disconnect source target) ≡ refusal_of files t moment actor (Disconnect source target)
   unfolding command_row
   same_disconnect files s t k moment actor source target m a b i =
       let P : Option Client → Option Caps → Option Caps → Bool → Option Refusal = λ o read write x.
-      first_refusal ((refusal.NotOpen, not (is_some o)) ∷ (refusal.NoSender, not (is_some read)) ∷ (refusal.NoDest, not (is_some write)) ∷ (refusal.NotPermitted, not (permitted actor source read target write))
+      first_refusal ((refusal.NotOpen, not (is_some o)) ∷ (refusal.NoSender, not (is_some read)) ∷ (refusal.NoDest, not (is_some write)) ∷ (refusal.NotPermitted, not (is_permitted actor source read target write))
       ∷ (refusal.NotConnected, not x) ∷ []) in
       let e : State → Bool = λ u. has_edge u.edges source target in
       let o : State → Option Client = λ u. FinMap.get u.clients actor in
@@ -493,7 +493,7 @@ module _ (owner : ℕ) (member : ℕ → Bool) where
     inside : (es fs : List Edge) → filter (into owner member) es ≡ filter (into owner member) fs → filter (into owner member) (f es) ≡ filter (into owner member) (f fs)
     within : (is_inner owner member target ≡ true → member source.client ≡ true) → (es : List Edge) → AreWithin owner member es → AreWithin owner member (f es)
 
-  connecting : (source target : Addr) → Edit (connected source target) source target
+  connecting : (source target : Addr) → Edit (with_edge source target) source target
   connecting source target =
       let i : Edge → Bool = into owner member in
       let r : Edge → Bool = from_member owner member in
@@ -505,7 +505,7 @@ module _ (owner : ℕ) (member : ℕ → Bool) where
             (list_all-append r (filter i es) (filter i (edge source target ∷ [])) w (list_all-one i r (edge source target) h));
       }
 
-  disconnecting : (source target : Addr) → Edit (disconnected source target) source target
+  disconnecting : (source target : Addr) → Edit (without_edge_of source target) source target
   disconnecting source target =
       let i : Edge → Bool = into owner member in
       let r : Edge → Bool = from_member owner member in
@@ -569,39 +569,39 @@ module _ (owner : ℕ) (member : ℕ → Bool) where
   BothAlike moment actor command a b = Alike a b × (told moment actor command a.reply ≡ told moment actor command b.reply)
 
   -- the row of a command that changes no subscriptions is the same in both
-  alike_row : (files : List File) (s t : State) → Kin s t → (moment actor : ℕ) (command : Command) → is_patch command ≡ false → member actor ≡ true → NamesWithin member actor (queue_named command) →
+  alike_row : (files : List PlayedFile) (s t : State) → Kin s t → (moment actor : ℕ) (command : Command) → is_patch command ≡ false → member actor ≡ true → NamesWithin member actor (queue_named command) →
       row_of files s moment actor command ≡ row_of files t moment actor command
   alike_row files s t k moment actor command h m n =
       let q : Option QueueAddr = queue_named command in
-      let row : Option Client → Option Queue → ℕ → Row = λ client queue used.
-      command_row (record { files = files; moment = moment; actor = actor; client = client; queue = queue; used = used; nodes = caps_at t; edges = t.edges }) command in
-      same_row (asked files s moment actor command) (caps_at t) t.edges command h
-      ∙ ap (λ x. row x (named_queue s.clients actor q) (used s actor)) (k.clients actor m)
-      ∙ ap (λ x. row (FinMap.get t.clients actor) x (used s actor)) (same_named s t k actor q m n)
+      let row : Option Client → Option Queue → ℕ → Row = λ client queue playback_count.
+      command_row (record { files = files; moment = moment; actor = actor; client = client; queue = queue; used = playback_count; nodes = caps_at t; edges = t.edges }) command in
+      same_row (view_of files s moment actor command) (caps_at t) t.edges command h
+      ∙ ap (λ x. row x (named_queue s.clients actor q) (playback_count s actor)) (k.clients actor m)
+      ∙ ap (λ x. row (FinMap.get t.clients actor) x (playback_count s actor)) (same_named s t k actor q m n)
       ∙ ap (λ x. row (FinMap.get t.clients actor) (named_queue t.clients actor q) x) (same_used s t k actor m)
 
-  own_command_alike : (files : List File) (s t : State) → Kin s t → Within s → (moment actor : ℕ) (command : Command) → is_patch command ≡ false → member actor ≡ true → NamesWithin member actor (queue_named command) →
+  own_command_alike : (files : List PlayedFile) (s t : State) → Kin s t → Within s → (moment actor : ℕ) (command : Command) → is_patch command ≡ false → member actor ≡ true → NamesWithin member actor (queue_named command) →
       BothAlike moment actor command (command_step files s moment actor command) (command_step files t moment actor command)
   own_command_alike files s t k w moment actor command h m n =
       let q : Option QueueAddr = queue_named command in
       let r : Row = row_of files s moment actor command in
       let e : r ≡ row_of files t moment actor command = alike_row files s t k moment actor command h m n in
-      let step : State → Row → Stepped = λ u z. unless (first_refusal z.conditions) u (after_own u moment actor q z.own) in
-      let x : Stepped = after_own s moment actor q r.own in
-      let y : Stepped = after_own t moment actor q r.own in
-      let stay : Stay r.own = edges_stay (asked files s moment actor command) command h in
-      let same : told moment actor command x.reply ≡ told moment actor command y.reply = told_reply moment actor command x.reply y.reply (λ i. ap r.own.reply (same_pool s t k actor i)) in
+      let step : State → Row → Stepped = λ u z. unless (first_refusal z.conditions) u (after_effect u moment actor q z.effect) in
+      let x : Stepped = after_effect s moment actor q r.effect in
+      let y : Stepped = after_effect t moment actor q r.effect in
+      let stay : Stay r.effect = edges_stay (view_of files s moment actor command) command h in
+      let same : told moment actor command x.reply ≡ told moment actor command y.reply = told_reply moment actor command x.reply y.reply (λ i. ap r.effect.reply (same_pool s t k actor i)) in
       subst (λ z. BothAlike moment actor command (step s r) (step t z)) e (
-        unless_alike s t k w (first_refusal r.conditions) x y (own_alike s t moment actor q r.own stay k w m n),
+        unless_alike s t k w (first_refusal r.conditions) x y (own_alike s t moment actor q r.effect stay k w m n),
         unless_told s t moment actor command (first_refusal r.conditions) x y same,
       )
 
-  pub command_alike : member owner ≡ true → (files : List File) (s t : State) → Kin s t → Within s → (moment actor : ℕ) (command : Command) → member actor ≡ true → IsClosedAt owner member actor command (command_step files s moment actor command).reply → NamesWithin member actor (queue_named command) →
+  pub command_alike : member owner ≡ true → (files : List PlayedFile) (s t : State) → Kin s t → Within s → (moment actor : ℕ) (command : Command) → member actor ≡ true → IsClosedAt owner member actor command (command_step files s moment actor command).reply → NamesWithin member actor (queue_named command) →
       Alike (command_step files s moment actor command) (command_step files t moment actor command) × (told moment actor command (command_step files s moment actor command).reply ≡ told moment actor command (command_step files t moment actor command).reply)
   command_alike o files s t k w moment actor (Connect source target) m c n =
       let p : Option Refusal = refusal_of files s moment actor (Connect source target) in
       let q : Option Refusal = refusal_of files t moment actor (Connect source target) in
-      let f : List Edge → List Edge = connected source target in
+      let f : List Edge → List Edge = with_edge source target in
       let same_pq : is_inner owner member target ≡ true → p ≡ q = λ i. same_connect files s t k w moment actor source target m ((c i).0 m) (inner_member owner member o target i) i in
       subst (λ x. BothAlike moment actor (Connect source target) x (command_step files t moment actor (Connect source target))) (sym (step-connects files s moment actor source target))
       (subst (λ y. BothAlike moment actor (Connect source target) (patch_step s p f) y) (sym (step-connects files t moment actor source target)) (
@@ -611,7 +611,7 @@ module _ (owner : ℕ) (member : ℕ → Bool) where
   command_alike o files s t k w moment actor (Disconnect source target) m c n =
       let p : Option Refusal = refusal_of files s moment actor (Disconnect source target) in
       let q : Option Refusal = refusal_of files t moment actor (Disconnect source target) in
-      let f : List Edge → List Edge = disconnected source target in
+      let f : List Edge → List Edge = without_edge_of source target in
       let same_pq : is_inner owner member target ≡ true → p ≡ q = λ i. same_disconnect files s t k moment actor source target m ((c i).0 m) (inner_member owner member o target i) i in
       subst (λ x. BothAlike moment actor (Disconnect source target) x (command_step files t moment actor (Disconnect source target))) (sym (step-parts files s moment actor source target))
       (subst (λ y. BothAlike moment actor (Disconnect source target) (patch_step s p f) y) (sym (step-parts files t moment actor source target)) (
@@ -620,16 +620,16 @@ module _ (owner : ℕ) (member : ℕ → Bool) where
       ))
   command_alike o files s t k w moment actor command m c n = own_command_alike files s t k w moment actor command refl m n
 
-  pub command_aside : member owner ≡ true → (files : List File) (s : State) → Within s → (moment actor : ℕ) (command : Command) → member actor ≡ false → IsClosedAt owner member actor command (command_step files s moment actor command).reply → Aside (command_step files s moment actor command) s
+  pub command_aside : member owner ≡ true → (files : List PlayedFile) (s : State) → Within s → (moment actor : ℕ) (command : Command) → member actor ≡ false → IsClosedAt owner member actor command (command_step files s moment actor command).reply → Aside (command_step files s moment actor command) s
   command_aside o files s w moment actor (Connect source target) m c =
       let e = step-connects files s moment actor source target in
       subst (λ x. Aside x s) (sym e)
-      (patch_aside (connected source target) source target (connecting source target) s w (refusal_of files s moment actor (Connect source target)) (λ i. subst (λ (x : Stepped). IsRefusal x.reply) e ((c i).1 m)))
+      (patch_aside (with_edge source target) source target (connecting source target) s w (refusal_of files s moment actor (Connect source target)) (λ i. subst (λ (x : Stepped). IsRefusal x.reply) e ((c i).1 m)))
   command_aside o files s w moment actor (Disconnect source target) m c =
       let e = step-parts files s moment actor source target in
       subst (λ x. Aside x s) (sym e)
-      (patch_aside (disconnected source target) source target (disconnecting source target) s w (refusal_of files s moment actor (Disconnect source target)) (λ i. subst (λ (x : Stepped). IsRefusal x.reply) e ((c i).1 m)))
+      (patch_aside (without_edge_of source target) source target (disconnecting source target) s w (refusal_of files s moment actor (Disconnect source target)) (λ i. subst (λ (x : Stepped). IsRefusal x.reply) e ((c i).1 m)))
   command_aside o files s w moment actor command m c =
       let r : Row = row_of files s moment actor command in
-      unless_aside s w (first_refusal r.conditions) (after_own s moment actor (queue_named command) r.own)
-      (own_aside o s moment actor (queue_named command) r.own (edges_stay (asked files s moment actor command) command refl) w m)
+      unless_aside s w (first_refusal r.conditions) (after_effect s moment actor (queue_named command) r.effect)
+      (own_aside o s moment actor (queue_named command) r.effect (edges_stay (view_of files s moment actor command) command refl) w m)

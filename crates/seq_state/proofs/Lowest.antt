@@ -1,4 +1,4 @@
--- The refusal that is told is the lowest.
+-- The refusal that is reported is the lowest.
 use Rattle.std.proofs.Common.{◌≡◌, ℕ, Bool, true, false, not, cond, eqb, ◌||◌, List, [], ◌∷◌, Option, Some, None, refl, ap, arith}
 use Rattle.std.specs.Prelude.{nat_le, nat_lt}
 use Rattle.std.specs.List.{list_all}
@@ -8,12 +8,12 @@ use Rattle.seq_state.specs.declared.input.Command.{Command}
 use Rattle.seq_state.specs.declared.input.Command.TheVariants.{Close}
 use Rattle.seq_state.specs.declared.refusal.Refusal.{Refusal}
 use Rattle.seq_state.specs.Refusals.{number_of}
-use Rattle.seq_state.specs.Table.{Asked, Condition, first_refusal, command_row}
-use Rattle.seq_state.specs.Step.{asked, row_of}
+use Rattle.seq_state.specs.Table.{CommandView, Condition, first_refusal, command_row}
+use Rattle.seq_state.specs.Step.{view_of, row_of}
 use Rattle.seq_state.specs.Changes.{rises, numbers, holds, none_below, IsLowest, LowestLaw}
 use Rattle.seq_state.proofs.Lists.{both_left, both_right, and_both}
 
-rows_rise : (a : Asked) (command : Command) → rises (numbers (command_row a command).conditions) ≡ true
+rows_rise : (a : CommandView) (command : Command) → rises (numbers (command_row a command).conditions) ≡ true
 unfolding command_row
 rows_rise a Close = refl
 rows_rise a command = refl
@@ -57,5 +57,5 @@ lowest (c ∷ cs) h = go c.1 (lowest cs (both_right (list_all (λ m. nat_lt (num
 pub lowest_law : LowestLaw
 lowest_law = record {
   rising = rows_rise;
-  lowest = λ files s moment actor command. lowest (row_of files s moment actor command).conditions (rows_rise (asked files s moment actor command) command);
+  lowest = λ files s moment actor command. lowest (row_of files s moment actor command).conditions (rows_rise (view_of files s moment actor command) command);
 }

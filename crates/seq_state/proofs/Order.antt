@@ -6,17 +6,17 @@ use Rattle.std.specs.Ordering.{nat_cmp}
 use Rattle.std.specs.FinMap.{FinMap}
 use Rattle.std.proofs.lemmas.Bool.Decides.{nat_tests}
 use Rattle.std.proofs.lemmas.Bool.{eqb-true, eq-eqb, ne_eqb, le-leb, leb-true, leb-false, cases_lt}
-use Rattle.seq_state.specs.State.{Client, Pending, Event}
+use Rattle.seq_state.specs.State.{Client, OwnedPlayback, DueMessage}
 use Rattle.seq_state.specs.Step.{all_at, Timed, playback_at, is_at, event_moment, upto}
 use Rattle.seq_state.specs.Laws.{IsByMoment, DueLaw}
 use Rattle.seq_state.proofs.Lists.{both_left, both_right, filter-append, list_all-append, list_all-weaker}
 
 -- the events of a moment have that moment
-all_at-moment : (clients : FinMap nat_cmp Client) (pending : List Pending) (k : ℕ) → list_all (λ (x : Timed). eqb x.moment k) (all_at clients pending k) ≡ true
+all_at-moment : (clients : FinMap nat_cmp Client) (pending : List OwnedPlayback) (k : ℕ) → list_all (λ (x : Timed). eqb x.moment k) (all_at clients pending k) ≡ true
 all_at-moment clients [] k = refl
 all_at-moment clients (p ∷ ps) k = list_all-append (λ x. eqb x.moment k) (playback_at clients k p) (all_at clients ps k) (go (filter (λ e. is_at k (event_moment clients p e)) p.playback.events)) (all_at-moment clients ps k)
   where
-    go : (es : List Event) → list_all (λ (x : Timed). eqb x.moment k) (map (λ e. record { moment = k; client = p.client; port = p.playback.port; message = e.message }) es) ≡ true
+    go : (es : List DueMessage) → list_all (λ (x : Timed). eqb x.moment k) (map (λ e. record { moment = k; client = p.client; port = p.playback.port; message = e.message }) es) ≡ true
     go [] = refl
     go (e ∷ es) = ap (λ b. b && list_all (λ (x : Timed). eqb x.moment k) (map (λ e. record { moment = k; client = p.client; port = p.playback.port; message = e.message }) es)) (eq-eqb k k refl) ∙ go es
 

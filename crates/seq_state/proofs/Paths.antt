@@ -8,7 +8,7 @@ use Rattle.std.specs.FinMap.{FinMap}
 use Rattle.std.proofs.lemmas.Bool.Decides.{nat_tests}
 use Rattle.std.proofs.lemmas.Bool.{false≢true, eqb-true, or_cases}
 use Rattle.node_table.specs.Addresses.{same, is_filter, same_node, is_filter_node}
-use Rattle.patch_graph.specs.Chains.{joined}
+use Rattle.patch_graph.specs.Chains.{is_joined}
 use Rattle.patch_graph.specs.Paths.{paths, hops, end_of}
 use Rattle.patch_graph.proofs.Walked.{walk, hop, paths-walk}
 use Rattle.node_table.specs.declared.number.Addr.{Addr}
@@ -17,7 +17,7 @@ use Rattle.patch_graph.specs.declared.edge.Edge.{Edge}
 use Rattle.seq_state.specs.declared.log.Delivery.{Delivery}
 use Rattle.node_table.specs.declared.number.Node.TheVariants.{Port, Filter}
 use Rattle.seq_state.specs.State.{State, Client, filters_of}
-use Rattle.seq_state.specs.Copies.{copies, copy, delivery, carried, passed_by, filter_at}
+use Rattle.seq_state.specs.Copies.{copies, copy, delivery, copy_on_path, passed_by, filter_at}
 use Rattle.seq_state.specs.Circle.{is_to, is_inner, inner_node}
 use Rattle.seq_state.specs.Laws.{into, is_port_of, is_within}
 use Rattle.seq_state.proofs.Lists.{both_left, both_right, filter-map, filter-flat_map, flat_map-none_under, flat_map-filter, list_all-implied, list_all-weaker, list_all-passed, list_all-map, list_all-flat_map, list_all-filter, list_all-both, and_both, filter-filter_map, filter_map-agree_under, filter-wider}
@@ -148,11 +148,11 @@ module _ (owner : ℕ) (member : ℕ → Bool) where
 
   -- the copies that the owner hears are those of the paths to it
   heard_copies : (s : State) (moment : ℕ) (source : Addr) (message : List ℕ) → list_all within s.edges ≡ true →
-      heard owner (copies s moment source message) ≡ filter_map (λ p. copy moment (end_of source p) (carried s.clients p message)) (filter (ends source) (walk hops (filter inward s.edges) source))
+      heard owner (copies s moment source message) ≡ filter_map (λ p. copy moment (end_of source p) (copy_on_path s.clients p message)) (filter (ends source) (walk hops (filter inward s.edges) source))
   unfolding heard
   heard_copies s moment source message w =
-      let h : List Edge → Option Delivery = λ p. copy moment (end_of source p) (carried s.clients p message) in
-      filter-filter_map (is_to owner) (ends source) h (λ p d e. ends_there p (carried s.clients p message) d e) (paths s.edges source)
+      let h : List Edge → Option Delivery = λ p. copy moment (end_of source p) (copy_on_path s.clients p message) in
+      filter-filter_map (is_to owner) (ends source) h (λ p d e. ends_there p (copy_on_path s.clients p message) d e) (paths s.edges source)
       ∙ ap (filter_map h) (ap (filter (ends source)) (paths-walk s.edges source) ∙ restrict hops s.edges source w)
     where
       reaches_owner : Option Delivery → Bool
@@ -168,24 +168,24 @@ module _ (owner : ℕ) (member : ℕ → Bool) where
           go (Filter n) e = cc
 
   -- the same filters stand on them
-  same_filters : (c d : FinMap nat_cmp Client) → ((n : ℕ) → member n ≡ true → FinMap.get c n ≡ FinMap.get d n) → (p : List Edge) (message : List ℕ) → list_all inward p ≡ true → carried c p message ≡ carried d p message
+  same_filters : (c d : FinMap nat_cmp Client) → ((n : ℕ) → member n ≡ true → FinMap.get c n ≡ FinMap.get d n) → (p : List Edge) (message : List ℕ) → list_all inward p ≡ true → copy_on_path c p message ≡ copy_on_path d p message
   same_filters c d k [] message h = refl
   same_filters c d k (e ∷ es) message h =
-      ap (λ f. option_and_then (carried c es) (passed_by f message)) (at_node e.target.node (both_left (inward e) (list_all inward es) h))
+      ap (λ f. option_and_then (copy_on_path c es) (passed_by f message)) (at_node e.target.node (both_left (inward e) (list_all inward es) h))
       ∙ on (passed_by (filter_at d e.target.client e.target.node) message) (λ m. same_filters c d k es m (both_right (inward e) (list_all inward es) h))
     where
       at_node : (n : Node) → inner_node owner member e.target.client n ≡ true → filter_at c e.target.client n ≡ filter_at d e.target.client n
       at_node (Port n) i = refl
       at_node (Filter n) i = ap (λ x. FinMap.get (filters_of x) n) (k e.target.client i)
 
-      on : (o : Option (List ℕ)) → ((m : List ℕ) → carried c es m ≡ carried d es m) → option_and_then (carried c es) o ≡ option_and_then (carried d es) o
+      on : (o : Option (List ℕ)) → ((m : List ℕ) → copy_on_path c es m ≡ copy_on_path d es m) → option_and_then (copy_on_path c es) o ≡ option_and_then (copy_on_path d es) o
       on None more = refl
       on (Some m) more = more m
 
   pub same_heard : (s t : State) → ((n : ℕ) → member n ≡ true → FinMap.get s.clients n ≡ FinMap.get t.clients n) → filter inward s.edges ≡ filter inward t.edges → AreWithin s.edges →
       (moment : ℕ) (source : Addr) (message : List ℕ) → heard owner (copies s moment source message) ≡ heard owner (copies t moment source message)
   same_heard s t k e w moment source message =
-      let f : FinMap nat_cmp Client → List Edge → Option Delivery = λ c p. copy moment (end_of source p) (carried c p message) in
+      let f : FinMap nat_cmp Client → List Edge → Option Delivery = λ c p. copy moment (end_of source p) (copy_on_path c p message) in
       let ps : List (List Edge) = filter (ends source) (walk hops (filter inward s.edges) source) in
       let all : list_all (list_all inward) ps ≡ true = list_all-filter (list_all inward) (ends source) (walk hops (filter inward s.edges) source) (walk-all inward hops (filter inward s.edges) source (list_all-passed inward s.edges)) in
       let v : AreWithin t.edges = subst (λ es. list_all from_member es ≡ true) e w in
@@ -198,7 +198,7 @@ module _ (owner : ℕ) (member : ℕ → Bool) where
   none_heard s w moment source message m =
       let v : list_all within s.edges ≡ true = are_within s.edges w in
       heard_copies s moment source message v
-      ∙ ap (filter_map (λ p. copy moment (end_of source p) (carried s.clients p message))) (sym (restrict hops s.edges source v) ∙ no_way hops s.edges source v m)
+      ∙ ap (filter_map (λ p. copy moment (end_of source p) (copy_on_path s.clients p message))) (sym (restrict hops s.edges source v) ∙ no_way hops s.edges source v m)
 
   -- ---- chains of filters
 
@@ -225,11 +225,11 @@ module _ (owner : ℕ) (member : ℕ → Bool) where
       go x y w h = grind arith
 
   -- what is joined to a filter of the circle is one, and by the circle's edges alone
-  joined_from : (edges : List Edge) → list_all within edges ≡ true → (a b : Addr) → joined edges a b ≡ true → is_inner owner member b ≡ true → is_inner owner member a ≡ true
-  unfolding joined
+  joined_from : (edges : List Edge) → list_all within edges ≡ true → (a b : Addr) → is_joined edges a b ≡ true → is_inner owner member b ≡ true → is_inner owner member a ≡ true
+  unfolding is_joined
   joined_from [] w a b j i = same_inner a b j ∙ i
   joined_from (e ∷ es) w a b j i =
-      go (λ x y k l. joined_from es (both_right (within e) (list_all within es) w) x y k l) (or_cases (joined es a b) (is_filter e.source && is_filter e.target && joined es a e.source && joined es e.target b) j)
+      go (λ x y k l. joined_from es (both_right (within e) (list_all within es) w) x y k l) (or_cases (is_joined es a b) (is_filter e.source && is_filter e.target && is_joined es a e.source && is_joined es e.target b) j)
     where
       A : Bool
       A = is_filter e.source
@@ -238,12 +238,12 @@ module _ (owner : ℕ) (member : ℕ → Bool) where
       B = is_filter e.target
 
       C : Bool
-      C = joined es a e.source
+      C = is_joined es a e.source
 
       D : Bool
-      D = joined es e.target b
+      D = is_joined es e.target b
 
-      go : ((x y : Addr) → joined es x y ≡ true → is_inner owner member y ≡ true → is_inner owner member x ≡ true) → (joined es a b ≡ true) ⊎ ((A && B && C && D) ≡ true) → is_inner owner member a ≡ true
+      go : ((x y : Addr) → is_joined es x y ≡ true → is_inner owner member y ≡ true → is_inner owner member x ≡ true) → (is_joined es a b ≡ true) ⊎ ((A && B && C && D) ≡ true) → is_inner owner member a ≡ true
       go more (inl k) = more a b k i
       go more (inr k) =
           let target : inward e ≡ true = more e.target b (both_right (A && B && C) D k) i in
@@ -251,8 +251,8 @@ module _ (owner : ℕ) (member : ℕ → Bool) where
           let source : is_inner owner member e.source ≡ true = inner_filter e.source (both_left A B (both_left (A && B) C abc)) ∙ from_into e (both_left (within e) (list_all within es) w) target in
           more a e.source (both_right (A && B) C abc) source
 
-  pub joined_within : (edges : List Edge) → list_all within edges ≡ true → (a b : Addr) → is_inner owner member b ≡ true → joined edges a b ≡ joined (filter inward edges) a b
-  unfolding joined
+  pub joined_within : (edges : List Edge) → list_all within edges ≡ true → (a b : Addr) → is_inner owner member b ≡ true → is_joined edges a b ≡ is_joined (filter inward edges) a b
+  unfolding is_joined
   joined_within [] w a b i = refl
   joined_within (e ∷ es) w a b i =
       go (inward e) refl (λ x y k. joined_within es (both_right (within e) (list_all within es) w) x y k)
@@ -264,13 +264,13 @@ module _ (owner : ℕ) (member : ℕ → Bool) where
       B = is_filter e.target
 
       J : List Edge → Bool
-      J fs = joined fs a b || A && B && joined fs a e.source && joined fs e.target b
+      J fs = is_joined fs a b || A && B && is_joined fs a e.source && is_joined fs e.target b
 
-      go : (t : Bool) → inward e ≡ t → ((x y : Addr) → is_inner owner member y ≡ true → joined es x y ≡ joined (filter inward es) x y) → J es ≡ joined (cond t (e ∷ filter inward es) (filter inward es)) a b
+      go : (t : Bool) → inward e ≡ t → ((x y : Addr) → is_inner owner member y ≡ true → is_joined es x y ≡ is_joined (filter inward es) x y) → J es ≡ is_joined (cond t (e ∷ filter inward es) (filter inward es)) a b
       go true h more =
-          either_way (joined es a b) (joined (filter inward es) a b) A B (joined es a e.source) (joined (filter inward es) a e.source) (joined es e.target b) (joined (filter inward es) e.target b)
+          either_way (is_joined es a b) (is_joined (filter inward es) a b) A B (is_joined es a e.source) (is_joined (filter inward es) a e.source) (is_joined es e.target b) (is_joined (filter inward es) e.target b)
           (more a b i) (more e.target b i)
           (λ k. more a e.source (inner_filter e.source k ∙ from_into e (both_left (within e) (list_all within es) w) h))
       go false h more =
-          no_more (joined es a b) (joined (filter inward es) a b) A B (joined es a e.source) (joined es e.target b) (more a b i)
+          no_more (is_joined es a b) (is_joined (filter inward es) a b) A B (is_joined es a e.source) (is_joined es e.target b) (more a b i)
           (λ k. false≢true (sym h ∙ joined_from es (both_right (within e) (list_all within es) w) e.target b k i))

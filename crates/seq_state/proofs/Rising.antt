@@ -7,7 +7,7 @@ use Rattle.std.specs.FinMap
 use Rattle.std.specs.FinMap.{FinMap}
 use Rattle.std.proofs.lemmas.Bool.Decides.{nat_tests}
 use Rattle.std.proofs.lemmas.Bool.{eqb-true, eq-eqb, leb-true, le-leb, ltb-true, cases_lt}
-use Rattle.tempo_clock.specs.Clocks.{Clock, started, stopped, resumed, with_tempo, changed_from, elapsed, runs_by, moment_of}
+use Rattle.tempo_clock.specs.Clocks.{Clock, running_from_zero, at_rest, running_on, with_tempo, changed_from, elapsed_time, runs_by, moment_of}
 use Rattle.tempo_clock.specs.Entries.{is_ppq}
 use Rattle.tempo_clock.specs.Laws.{IsToldBy}
 use Rattle.tempo_clock.specs.Ticks.{Tempos, resolution, first_tick_from}
@@ -29,13 +29,13 @@ use Rattle.seq_state.specs.declared.log.LogEntry.{LogEntry}
 use Rattle.seq_state.specs.declared.log.LogEntry.TheVariants.{Delivered, Replied}
 use Rattle.seq_state.specs.declared.refusal.Refusal.{Refusal}
 use Rattle.seq_state.specs.declared.refusal.Refusal.TheVariants as refusal
-use Rattle.seq_state.specs.Files.{File}
-use Rattle.seq_state.specs.State.{PortInfo, FilterInfo, Queue, Client, ClientPool, Event, Playback, Pending, State, start, queues_of, put}
-use Rattle.seq_state.specs.Copies.{copy, delivery, carried, copies}
-use Rattle.seq_state.specs.Own.{Own, with_change, put_port, port_fed, port_of, put_filter, filter_ruled, filter_of, queue_of, put_queue, clocked, public, new_port, new_filter, held_queue, one_tempo, file_queue, file_at, queue_map}
-use Rattle.seq_state.specs.Table.{Asked, Condition, first_refusal, not_open, queue_exists, bad_tempo, queue_named, command_row}
-use Rattle.seq_state.specs.Step.{pool_has_room, offer, delivered, Timed, moment_in, event_moment, is_by, playback_after, is_left, due, port_addr, event_copies, Settled, settle, Stepped, drops, pending_of, with_own, send_copies, unless, asked, row_of, refusal_of, effect_of, command_step, step, log_from, IsTimedFrom}
-use Rattle.seq_state.specs.Laws.{IsByMoment, timed_at, timed_of, all_timed, with_timed, sorted, has_ticks, deliveries_of, NeverFall, RisingLaw, from_now, is_fresh, Ready, ReadyLaw}
+use Rattle.smf_grammar.specs.Played.{PlayedFile}
+use Rattle.seq_state.specs.State.{PortInfo, FilterInfo, Queue, Client, ClientPool, DueMessage, Playback, OwnedPlayback, State, start, queues_of, with_entry}
+use Rattle.seq_state.specs.Copies.{copy, delivery, copy_on_path, copies}
+use Rattle.seq_state.specs.Effect.{Effect, with_change, put_port, port_fed, port_of, put_filter, filter_ruled, filter_of, queue_of, put_queue, with_clock, public, new_port, new_filter, held_queue, one_tempo, file_queue, file_at, queue_map}
+use Rattle.seq_state.specs.Table.{CommandView, Condition, first_refusal, not_open, queue_exists, bad_tempo, queue_named, command_row}
+use Rattle.seq_state.specs.Step.{pool_has_room, offer, copies_with_room, Timed, moment_in, event_moment, is_by, playback_after, is_left, due, port_addr, event_copies, Settled, settle, Stepped, drops, pending_of, with_effect, send_copies, unless, view_of, row_of, refusal_of, effect_of, command_step, step, log_from, IsTimedFrom}
+use Rattle.seq_state.specs.Laws.{IsByMoment, timed_at, timed_of, all_timed, with_timed, stable_sort, has_ticks, deliveries_of, NeverFall, RisingLaw, from_now, is_fresh, Ready, ReadyLaw}
 use Rattle.seq_state.proofs.Lists.{both_left, both_right, and_both, list_all-append, list_all-weaker, list_all-filter, list_all-passed, list_all-flat_map, list_all-map, list_all-always}
 use Rattle.seq_state.proofs.Order.{due_law}
 use Rattle.seq_state.proofs.Sorted.{sort_law}
@@ -81,23 +81,23 @@ never_fall-append m (x ∷ xs) ys p q a b =
     (list_all-append (from x.moment) xs ys p.0 (from-earlier x.moment m l ys b), never_fall-append m xs ys p.1 q (both_right (until m x) (list_all (until m) xs) a) b)
 
 -- what finds room is part of what is offered
-delivered-all : (p : Delivery → Bool) (pools : FinMap nat_cmp ClientPool) (ds : List Delivery) → list_all p ds ≡ true → list_all p (delivered pools ds) ≡ true
+delivered-all : (p : Delivery → Bool) (pools : FinMap nat_cmp ClientPool) (ds : List Delivery) → list_all p ds ≡ true → list_all p (copies_with_room pools ds) ≡ true
 delivered-all p pools [] h = refl
-delivered-all p pools (d ∷ ds) h = go (pool_has_room (FinMap.get pools d.target.client)) (delivered-all p (put pools d.target.client (offer (FinMap.get pools d.target.client) d)) ds (both_right (p d) (list_all p ds) h))
+delivered-all p pools (d ∷ ds) h = go (pool_has_room (FinMap.get pools d.target.client)) (delivered-all p (with_entry pools d.target.client (offer (FinMap.get pools d.target.client) d)) ds (both_right (p d) (list_all p ds) h))
   where
-    go : (b : Bool) → list_all p (delivered (put pools d.target.client (offer (FinMap.get pools d.target.client) d)) ds) ≡ true →
-        list_all p (cond b (d ∷ delivered (put pools d.target.client (offer (FinMap.get pools d.target.client) d)) ds) (delivered (put pools d.target.client (offer (FinMap.get pools d.target.client) d)) ds)) ≡ true
+    go : (b : Bool) → list_all p (copies_with_room (with_entry pools d.target.client (offer (FinMap.get pools d.target.client) d)) ds) ≡ true →
+        list_all p (cond b (d ∷ copies_with_room (with_entry pools d.target.client (offer (FinMap.get pools d.target.client) d)) ds) (copies_with_room (with_entry pools d.target.client (offer (FinMap.get pools d.target.client) d)) ds)) ≡ true
     go true more = and_both (p d) _ (both_left (p d) (list_all p ds) h) more
     go false more = more
 
-delivered-never_falls : (pools : FinMap nat_cmp ClientPool) (ds : List Delivery) → NeverFall ds → NeverFall (delivered pools ds)
+delivered-never_falls : (pools : FinMap nat_cmp ClientPool) (ds : List Delivery) → NeverFall ds → NeverFall (copies_with_room pools ds)
 delivered-never_falls pools [] h = tt
 delivered-never_falls pools (d ∷ ds) h = go (pool_has_room (FinMap.get pools d.target.client)) (delivered-never_falls after ds h.1)
   where
     after : FinMap nat_cmp ClientPool
-    after = put pools d.target.client (offer (FinMap.get pools d.target.client) d)
+    after = with_entry pools d.target.client (offer (FinMap.get pools d.target.client) d)
 
-    go : (b : Bool) → NeverFall (delivered after ds) → NeverFall (cond b (d ∷ delivered after ds) (delivered after ds))
+    go : (b : Bool) → NeverFall (copies_with_room after ds) → NeverFall (cond b (d ∷ copies_with_room after ds) (copies_with_room after ds))
     go true more = (delivered-all (from d.moment) after ds h.0, more)
     go false more = more
 
@@ -112,7 +112,7 @@ list_all-filter_map {Y = Y} p f h (x ∷ xs) = go (f x) refl (list_all-filter_ma
     go (Some y) e more = and_both (p y) (list_all p (filter_map f xs)) (h x y e) more
 
 copies-at : (s : State) (m : ℕ) (source : Addr) (message : List ℕ) → all_at m (copies s m source message)
-copies-at s m source message = list_all-filter_map (λ d. eqb d.moment m) (λ p. copy m (end_of source p) (carried s.clients p message)) (λ p d e. at_node p (carried s.clients p message) d e) (paths s.edges source)
+copies-at s m source message = list_all-filter_map (λ d. eqb d.moment m) (λ p. copy m (end_of source p) (copy_on_path s.clients p message)) (λ p d e. at_node p (copy_on_path s.clients p message) d e) (paths s.edges source)
   where
     moment_found : Option Delivery → ℕ
     moment_found None = m
@@ -147,17 +147,17 @@ copies-never_fall s (t ∷ ts) h =
     never_fall-append t.moment (event_copies s t) (flat_map (event_copies s) ts) (one_moment t.moment (event_copies s t) (event_copies-at s t)) (copies-never_fall s ts h.1)
     (at-until t.moment (event_copies s t) (event_copies-at s t)) (copies-from s t.moment ts h.0)
 
-timed_of-from : (clients : FinMap nat_cmp Client) (m : ℕ) (p : Pending) → is_fresh clients m p ≡ true → list_all (λ t. nat_le m t.moment) (timed_of clients p) ≡ true
+timed_of-from : (clients : FinMap nat_cmp Client) (m : ℕ) (p : OwnedPlayback) → is_fresh clients m p ≡ true → list_all (λ t. nat_le m t.moment) (timed_of clients p) ≡ true
 timed_of-from clients m p h = go p.playback.events h
   where
-    one : (e : Event) (o : Option ℕ) (ts : List Timed) → from_now m o ≡ true → list_all (λ t. nat_le m t.moment) ts ≡ true → list_all (λ t. nat_le m t.moment) (cons_option (timed_at p e o) ts) ≡ true
+    one : (e : DueMessage) (o : Option ℕ) (ts : List Timed) → from_now m o ≡ true → list_all (λ t. nat_le m t.moment) ts ≡ true → list_all (λ t. nat_le m t.moment) (cons_option (timed_at p e o) ts) ≡ true
     one e None ts a b = b
     one e (Some k) ts a b = and_both (nat_le m k) (list_all (λ (t : Timed). nat_le m t.moment) ts) a b
 
-    go : (es : List Event) → list_all (λ e. from_now m (event_moment clients p e)) es ≡ true → list_all (λ t. nat_le m t.moment) (filter_map (λ e. timed_at p e (event_moment clients p e)) es) ≡ true
+    go : (es : List DueMessage) → list_all (λ e. from_now m (event_moment clients p e)) es ≡ true → list_all (λ t. nat_le m t.moment) (filter_map (λ e. timed_at p e (event_moment clients p e)) es) ≡ true
     go [] h = refl
     go (e ∷ es) h =
-        let f : Event → Bool = λ x. from_now m (event_moment clients p x) in
+        let f : DueMessage → Bool = λ x. from_now m (event_moment clients p x) in
         one e (event_moment clients p e) (filter_map (λ x. timed_at p x (event_moment clients p x)) es) (both_left (f e) (list_all f es) h) (go es (both_right (f e) (list_all f es) h))
 
 placed-all : (p : Timed → Bool) (t : Timed) (xs : List Timed) → p t ≡ true → list_all p xs ≡ true → list_all p (with_timed t xs) ≡ true
@@ -168,18 +168,18 @@ placed-all p t (x ∷ xs) a b = go (nat_le t.moment x.moment) (placed-all p t xs
     go true more = and_both (p t) (list_all p (x ∷ xs)) a b
     go false more = and_both (p x) (list_all p (with_timed t xs)) (both_left (p x) (list_all p xs) b) more
 
-sorted-all : (p : Timed → Bool) (ts : List Timed) → list_all p ts ≡ true → list_all p (sorted ts) ≡ true
+sorted-all : (p : Timed → Bool) (ts : List Timed) → list_all p ts ≡ true → list_all p (stable_sort ts) ≡ true
 sorted-all p [] h = refl
-sorted-all p (t ∷ ts) h = placed-all p t (sorted ts) (both_left (p t) (list_all p ts) h) (sorted-all p ts (both_right (p t) (list_all p ts) h))
+sorted-all p (t ∷ ts) h = placed-all p t (stable_sort ts) (both_left (p t) (list_all p ts) h) (sorted-all p ts (both_right (p t) (list_all p ts) h))
 
 due-from : (s : State) (now m : ℕ) → list_all (is_fresh s.clients now) s.pending ≡ true → list_all (λ t. nat_le now t.moment) (due s m) ≡ true
 due-from s now m h =
     let p : Timed → Bool = λ t. nat_le now t.moment in
     subst (λ ts. list_all p ts ≡ true) (sym (sort_law s m))
-    (list_all-filter p (λ t. nat_le t.moment m) (sorted (all_timed s.clients s.pending)) (sorted-all p (all_timed s.clients s.pending) (list_all-flat_map p (is_fresh s.clients now) (timed_of s.clients) (timed_of-from s.clients now) s.pending h)))
+    (list_all-filter p (λ t. nat_le t.moment m) (stable_sort (all_timed s.clients s.pending)) (sorted-all p (all_timed s.clients s.pending) (list_all-flat_map p (is_fresh s.clients now) (timed_of s.clients) (timed_of-from s.clients now) s.pending h)))
 
 due-until : (s : State) (m : ℕ) → list_all (λ t. nat_le t.moment m) (due s m) ≡ true
-due-until s m = subst (λ ts. list_all (λ t. nat_le t.moment m) ts ≡ true) (sym (sort_law s m)) (list_all-passed (λ t. nat_le t.moment m) (sorted (all_timed s.clients s.pending)))
+due-until s m = subst (λ ts. list_all (λ t. nat_le t.moment m) ts ≡ true) (sym (sort_law s m)) (list_all-passed (λ t. nat_le t.moment m) (stable_sort (all_timed s.clients s.pending)))
 
 -- ---- what holds of each state of a run
 
@@ -197,7 +197,7 @@ ready-settled s now m l r = record {
     past None h = refl
     past (Some k) h = grind (arith, nat_tests)
 
-    left : (p : Pending) → is_fresh s.clients m (playback_after s.clients m p) ≡ true
+    left : (p : OwnedPlayback) → is_fresh s.clients m (playback_after s.clients m p) ≡ true
     left p =
         list_all-weaker (λ e. not (is_by m (event_moment s.clients p e))) (λ e. from_now m (event_moment s.clients p e)) (λ e h. past (event_moment s.clients p e) h)
         (filter (λ e. not (is_by m (event_moment s.clients p e))) p.playback.events) (list_all-passed (λ e. not (is_by m (event_moment s.clients p e))) p.playback.events)
@@ -226,25 +226,25 @@ runs_from c m accepted d k s e = leb-true m k (sym (ap (λ o. runs_by o k) s) �
 follows-new : (m : ℕ) (o : Option Queue) (tempos : Tempos) (shared : Bool) → 0 < resolution tempos → Follows m o (record { clock = record { map = tempos; time = 0; since = None }; shared = shared })
 follows-new m o tempos shared h = record { ticks = λ x. h; told = λ x. clocks_begin tempos m; moments = λ x accepted d k e. absurd (no_moment tempos 0 accepted d k e) }
 
-follows-started : (m : ℕ) (x : Queue) → Follows m (Some x) (clocked (λ c. started c m) x)
+follows-started : (m : ℕ) (x : Queue) → Follows m (Some x) (with_clock (λ c. running_from_zero c m) x)
 follows-started m x = record {
   ticks = λ h. h x refl;
   told = λ h. (clocks_go_on x.clock m m 0 (h x refl) (omega arith)).start;
-  moments = λ h accepted d k e. inl (runs_from (started x.clock m) m accepted d k refl e);
+  moments = λ h accepted d k e. inl (runs_from (running_from_zero x.clock m) m accepted d k refl e);
 }
 
-follows-stopped : (m : ℕ) (x : Queue) → Follows m (Some x) (clocked (λ c. stopped c m) x)
+follows-stopped : (m : ℕ) (x : Queue) → Follows m (Some x) (with_clock (λ c. at_rest c m) x)
 follows-stopped m x = record {
   ticks = λ h. h x refl;
   told = λ h. (clocks_go_on x.clock m m 0 (h x refl) (omega arith)).stop;
-  moments = λ h accepted d k e. absurd (no_moment x.clock.map (elapsed x.clock m) accepted d k e);
+  moments = λ h accepted d k e. absurd (no_moment x.clock.map (elapsed_time x.clock m) accepted d k e);
 }
 
-follows-resumed : (m : ℕ) (x : Queue) → Follows m (Some x) (clocked (λ c. resumed c m) x)
+follows-resumed : (m : ℕ) (x : Queue) → Follows m (Some x) (with_clock (λ c. running_on c m) x)
 follows-resumed m x = record {
   ticks = λ h. h x refl;
   told = λ h. (clocks_go_on x.clock m m 0 (h x refl) (omega arith)).resume;
-  moments = λ h accepted d k e. inl (runs_from (resumed x.clock m) m accepted d k refl e);
+  moments = λ h accepted d k e. inl (runs_from (running_on x.clock m) m accepted d k refl e);
 }
 
 same_resolution : (tempos : Tempos) (o : Option ℕ) (tempo : ℕ) → resolution (changed_from tempos o tempo) ≡ resolution tempos
@@ -252,9 +252,9 @@ unfolding resolution
 same_resolution tempos None tempo = refl
 same_resolution tempos (Some tick) tempo = refl
 
-follows-tempo : (m tempo : ℕ) (x : Queue) → Follows m (Some x) (clocked (λ c. with_tempo c m tempo) x)
+follows-tempo : (m tempo : ℕ) (x : Queue) → Follows m (Some x) (with_clock (λ c. with_tempo c m tempo) x)
 follows-tempo m tempo x = record {
-  ticks = λ h. subst (λ n. 0 < n) (sym (same_resolution x.clock.map (first_tick_from x.clock.map (elapsed x.clock m)) tempo)) (h x refl);
+  ticks = λ h. subst (λ n. 0 < n) (sym (same_resolution x.clock.map (first_tick_from x.clock.map (elapsed_time x.clock m)) tempo)) (h x refl);
   told = λ h. (clocks_go_on x.clock m m tempo (h x refl) (omega arith)).set_tempo;
   moments = λ h accepted d k e. go accepted d k (h x refl) e (cases_lt k m);
 }
@@ -289,7 +289,7 @@ put_filter-queues : (n : ℕ) (o : Option FilterInfo) (c : Client) → (put_filt
 put_filter-queues n None c = refl
 put_filter-queues n (Some f) c = refl
 
-put_queue-queues : (n : ℕ) (o : Option Queue) (c : Client) → (put_queue n o c).queues ≡ put c.queues n o
+put_queue-queues : (n : ℕ) (o : Option Queue) (c : Client) → (put_queue n o c).queues ≡ with_entry c.queues n o
 put_queue-queues n None c = refl
 put_queue-queues n (Some q) c = refl
 
@@ -314,9 +314,9 @@ mapped m f h (Some x) q e = subst (λ (y : Queue). Follows m (Some x) y) some_in
 
 -- ---- each row
 
-record Steady (m : ℕ) (client : Option Client) (own : Own) : Type 0 where
-  queues : AllFollow m client own.client
-  added : list_all (λ p. eqb p.accepted m) own.added ≡ true
+record Steady (m : ℕ) (client : Option Client) (effect : Effect) : Type 0 where
+  queues : AllFollow m client effect.client
+  added : list_all (λ p. eqb p.accepted m) effect.added ≡ true
 
 now-added : (m : ℕ) → (eqb m m && true) ≡ true
 now-added m = and_both (eqb m m) true (eq-eqb m m refl) refl
@@ -351,7 +351,7 @@ only_one x y e = ap unwrapped e
     unwrapped None = x
     unwrapped (Some z) = z
 
-file-follows : (m : ℕ) (o : Option Queue) (files : List File) (n : ℕ) (q : Queue) → list_all has_ticks files ≡ true → file_queue (file_at files n) ≡ Some q → Follows m o q
+file-follows : (m : ℕ) (o : Option Queue) (files : List PlayedFile) (n : ℕ) (q : Queue) → list_all has_ticks files ≡ true → file_queue (file_at files n) ≡ Some q → Follows m o q
 file-follows m o [] zero q h e = absurd (none_some q e)
 file-follows m o [] (suc n) q h e = absurd (none_some q e)
 file-follows m o (f ∷ files) zero q h e =
@@ -359,7 +359,7 @@ file-follows m o (f ∷ files) zero q h e =
     subst (λ (y : Queue). Follows m o y) (only_one (record { clock = record { map = tempos; time = 0; since = None }; shared = false }) q e) (follows-new m o tempos false (ltb-true 0 (resolution tempos) (both_left (has_ticks f) (list_all has_ticks files) h)))
 file-follows m o (f ∷ files) (suc n) q h e = file-follows m o files n q (both_right (has_ticks f) (list_all has_ticks files) h) e
 
-steady : (a : Asked) → list_all has_ticks a.files ≡ true → (command : Command) → first_refusal (command_row a command).conditions ≡ None → Steady a.moment a.client (command_row a command).own
+steady : (a : CommandView) → list_all has_ticks a.files ≡ true → (command : Command) → first_refusal (command_row a command).conditions ≡ None → Steady a.moment a.client (command_row a command).effect
 unfolding command_row
 steady a ok (Open name in_size out_size) r = record { queues = none-left a.moment a.client; added = refl }
 steady a ok Close r = record { queues = none-left a.moment a.client; added = refl }
@@ -387,14 +387,14 @@ steady a ok (CreateQueue n ppq tempo) r =
 steady a ok (CreateQueueFrom n file) r = record { queues = one-changes a.moment a.client n (file_queue (file_at a.files file)) (λ q e. file-follows a.moment (queue_of a.client n) a.files file q ok e); added = refl }
 steady a ok (DeleteQueue q) r = record { queues = one-changes a.moment a.client q.queue None (λ x e. absurd (none_some x e)); added = refl }
 steady a ok (Start q) r =
-    record { queues = one-changes a.moment a.client q.queue (queue_map (clocked (λ c. started c a.moment)) (queue_of a.client q.queue)) (mapped a.moment (clocked (λ c. started c a.moment)) (follows-started a.moment) (queue_of a.client q.queue)); added = refl }
+    record { queues = one-changes a.moment a.client q.queue (queue_map (with_clock (λ c. running_from_zero c a.moment)) (queue_of a.client q.queue)) (mapped a.moment (with_clock (λ c. running_from_zero c a.moment)) (follows-started a.moment) (queue_of a.client q.queue)); added = refl }
 steady a ok (Stop q) r =
-    record { queues = one-changes a.moment a.client q.queue (queue_map (clocked (λ c. stopped c a.moment)) (queue_of a.client q.queue)) (mapped a.moment (clocked (λ c. stopped c a.moment)) (follows-stopped a.moment) (queue_of a.client q.queue)); added = refl }
+    record { queues = one-changes a.moment a.client q.queue (queue_map (with_clock (λ c. at_rest c a.moment)) (queue_of a.client q.queue)) (mapped a.moment (with_clock (λ c. at_rest c a.moment)) (follows-stopped a.moment) (queue_of a.client q.queue)); added = refl }
 steady a ok (Continue q) r =
-    record { queues = one-changes a.moment a.client q.queue (queue_map (clocked (λ c. resumed c a.moment)) (queue_of a.client q.queue)) (mapped a.moment (clocked (λ c. resumed c a.moment)) (follows-resumed a.moment) (queue_of a.client q.queue)); added = refl }
+    record { queues = one-changes a.moment a.client q.queue (queue_map (with_clock (λ c. running_on c a.moment)) (queue_of a.client q.queue)) (mapped a.moment (with_clock (λ c. running_on c a.moment)) (follows-resumed a.moment) (queue_of a.client q.queue)); added = refl }
 steady a ok (Tempo q tempo) r =
     record {
-      queues = one-changes a.moment a.client q.queue (queue_map (clocked (λ c. with_tempo c a.moment tempo)) (queue_of a.client q.queue)) (mapped a.moment (clocked (λ c. with_tempo c a.moment tempo)) (follows-tempo a.moment tempo) (queue_of a.client q.queue));
+      queues = one-changes a.moment a.client q.queue (queue_map (with_clock (λ c. with_tempo c a.moment tempo)) (queue_of a.client q.queue)) (mapped a.moment (with_clock (λ c. with_tempo c a.moment tempo)) (follows-tempo a.moment tempo) (queue_of a.client q.queue));
       added = refl;
     }
 steady a ok (Share q) r =
@@ -406,7 +406,7 @@ steady a ok command r = record { queues = all-same a.moment a.client; added = re
 -- ---- each command
 
 -- an event that was accepted now has no earlier moment
-new-from : (m : ℕ) (o : Option Queue) (accepted : ℕ) (e : Event) → accepted ≡ m → from_now m (moment_in o accepted e.due) ≡ true
+new-from : (m : ℕ) (o : Option Queue) (accepted : ℕ) (e : DueMessage) → accepted ≡ m → from_now m (moment_in o accepted e.due) ≡ true
 new-from m None accepted e h = refl
 new-from m (Some x) accepted e h = go (moment_of x.clock accepted e.due) refl
   where
@@ -415,7 +415,7 @@ new-from m (Some x) accepted e h = go (moment_of x.clock accepted e.due) refl
     go (Some k) f = let l : accepted ≤ k = (moments_are_later x.clock accepted e.due k f).0 in le-leb m k (omega arith)
 
 -- an event with no earlier moment has none after the command
-still-from : (m : ℕ) (o after : Option Queue) (accepted : ℕ) (e : Event) → ((x : Queue) → after ≡ Some x → Follows m o x) → ((x : Queue) → o ≡ Some x → 0 < resolution x.clock.map) →
+still-from : (m : ℕ) (o after : Option Queue) (accepted : ℕ) (e : DueMessage) → ((x : Queue) → after ≡ Some x → Follows m o x) → ((x : Queue) → o ≡ Some x → 0 < resolution x.clock.map) →
     from_now m (moment_in o accepted e.due) ≡ true → from_now m (moment_in after accepted e.due) ≡ true
 still-from m o None accepted e f t h = refl
 still-from m o (Some x) accepted e f t h = go (moment_of x.clock accepted e.due) refl
@@ -428,20 +428,20 @@ still-from m o (Some x) accepted e f t h = go (moment_of x.clock accepted e.due)
     go None g = refl
     go (Some k) g = before k ((f x refl).moments t accepted e.due k g)
 
-module _ (s : State) (m actor : ℕ) (q : Option QueueAddr) (own : Own) (r : Ready s m) (a : Steady m (FinMap.get s.clients actor) own) where
+module _ (s : State) (m actor : ℕ) (q : Option QueueAddr) (effect : Effect) (r : Ready s m) (a : Steady m (FinMap.get s.clients actor) effect) where
   abbrev clients : FinMap nat_cmp Client
-  clients = put s.clients actor own.client
+  clients = with_entry s.clients actor effect.client
 
   follows : (c n : ℕ) (x : Queue) → FinMap.get (queues_of (FinMap.get clients c)) n ≡ Some x → Follows m (FinMap.get (queues_of (FinMap.get s.clients c)) n) x
-  follows c n x e = go (eqb c actor) refl (sym (ap (λ o. FinMap.get (queues_of o) n) (get-put s.clients actor own.client c)) ∙ e)
+  follows c n x e = go (eqb c actor) refl (sym (ap (λ o. FinMap.get (queues_of o) n) (get-put s.clients actor effect.client c)) ∙ e)
     where
-      go : (b : Bool) → eqb c actor ≡ b → FinMap.get (queues_of (cond (eqb c actor) own.client (FinMap.get s.clients c))) n ≡ Some x → Follows m (FinMap.get (queues_of (FinMap.get s.clients c)) n) x
+      go : (b : Bool) → eqb c actor ≡ b → FinMap.get (queues_of (cond (eqb c actor) effect.client (FinMap.get s.clients c))) n ≡ Some x → Follows m (FinMap.get (queues_of (FinMap.get s.clients c)) n) x
       go true h f =
           subst (λ i. Follows m (FinMap.get (queues_of (FinMap.get s.clients i)) n) x) (sym (eqb-true c actor h))
-          (a.queues n x (ap (λ b. FinMap.get (queues_of (cond b own.client (FinMap.get s.clients c))) n) (sym h) ∙ f))
-      go false h f = follows-same m (FinMap.get (queues_of (FinMap.get s.clients c)) n) x (ap (λ b. FinMap.get (queues_of (cond b own.client (FinMap.get s.clients c))) n) (sym h) ∙ f)
+          (a.queues n x (ap (λ b. FinMap.get (queues_of (cond b effect.client (FinMap.get s.clients c))) n) (sym h) ∙ f))
+      go false h f = follows-same m (FinMap.get (queues_of (FinMap.get s.clients c)) n) x (ap (λ b. FinMap.get (queues_of (cond b effect.client (FinMap.get s.clients c))) n) (sym h) ∙ f)
 
-  still-fresh : (p : Pending) → is_fresh s.clients m p ≡ true → is_fresh clients m p ≡ true
+  still-fresh : (p : OwnedPlayback) → is_fresh s.clients m p ≡ true → is_fresh clients m p ≡ true
   still-fresh p h =
       list_all-weaker (λ e. from_now m (event_moment s.clients p e)) (λ e. from_now m (event_moment clients p e))
       (λ e g. still-from m (FinMap.get (queues_of (FinMap.get s.clients p.queue.client)) p.queue.queue) (FinMap.get (queues_of (FinMap.get clients p.queue.client)) p.queue.queue) p.playback.accepted e
@@ -457,14 +457,14 @@ module _ (s : State) (m actor : ℕ) (q : Option QueueAddr) (own : Own) (r : Rea
       go None = at actor 0
       go (Some i) = at i.client i.queue
 
-  ready-own : Ready (with_own s actor q own) m
+  ready-own : Ready (with_effect s actor q effect) m
   ready-own = record {
     ticks = λ c n x e. (follows c n x e).ticks (λ y f. r.ticks c n y f);
     told = λ c n x e. (follows c n x e).told (λ y f. r.told c n y f);
     fresh =
-        list_all-append (is_fresh clients m) (filter (λ p. not (drops actor own p)) s.pending) (filter is_left (map (pending_of actor q) own.added))
-        (list_all-filter (is_fresh clients m) (λ p. not (drops actor own p)) s.pending (list_all-weaker (is_fresh s.clients m) (is_fresh clients m) still-fresh s.pending r.fresh))
-        (list_all-filter (is_fresh clients m) is_left (map (pending_of actor q) own.added) (list_all-map (is_fresh clients m) (λ p. eqb p.accepted m) (pending_of actor q) new-fresh own.added a.added));
+        list_all-append (is_fresh clients m) (filter (λ p. not (drops actor effect p)) s.pending) (filter is_left (map (pending_of actor q) effect.added))
+        (list_all-filter (is_fresh clients m) (λ p. not (drops actor effect p)) s.pending (list_all-weaker (is_fresh s.clients m) (is_fresh clients m) still-fresh s.pending r.fresh))
+        (list_all-filter (is_fresh clients m) is_left (map (pending_of actor q) effect.added) (list_all-map (is_fresh clients m) (λ p. eqb p.accepted m) (pending_of actor q) new-fresh effect.added a.added));
   }
 
 -- a state is ready, and what was delivered has this moment
@@ -476,15 +476,15 @@ unless-done : (m : ℕ) (s : State) → Ready s m → (o : Option Refusal) (effe
 unless-done m s r None effect h = h refl
 unless-done m s r (Some n) effect h = record { ready = r; at = refl }
 
-pub command-done : (files : List File) → list_all has_ticks files ≡ true → (s : State) (m actor : ℕ) (command : Command) → Ready s m → IsDone m (command_step files s m actor command)
+pub command-done : (files : List PlayedFile) → list_all has_ticks files ≡ true → (s : State) (m actor : ℕ) (command : Command) → Ready s m → IsDone m (command_step files s m actor command)
 command-done files ok s m actor command r =
     let q : Option QueueAddr = queue_named command in
-    let own : Own = (row_of files s m actor command).own in
+    let effect : Effect = (row_of files s m actor command).effect in
     unless-done m s r (refusal_of files s m actor command) (effect_of files s m actor command) (λ e.
-    let after : Ready (with_own s actor q own) m = ready-own s m actor q own r (steady (asked files s m actor command) ok command e) in
+    let after : Ready (with_effect s actor q effect) m = ready-own s m actor q effect r (steady (view_of files s m actor command) ok command e) in
     record {
       ready = record { ticks = after.ticks; told = after.told; fresh = after.fresh };
-      at = delivered-all (λ d. eqb d.moment m) (with_own s actor q own).pools (send_copies s m actor own.sends) (send_copies-at s m actor own.sends);
+      at = delivered-all (λ d. eqb d.moment m) (with_effect s actor q effect).pools (send_copies s m actor effect.sends) (send_copies-at s m actor effect.sends);
     })
 
 -- ---- a run
@@ -503,7 +503,7 @@ settle-step s now m r =
       by = delivered-all (until m) s.pools ds (copies-until s m (due s m) (due-until s m));
     }
 
-input-step : (files : List File) → list_all has_ticks files ≡ true → (s : State) (now : ℕ) (i : Input) → now ≤ i.moment → Ready s now → Ready (step files s i).state i.moment × IsStep now i.moment (step files s i).delivered
+input-step : (files : List PlayedFile) → list_all has_ticks files ≡ true → (s : State) (now : ℕ) (i : Input) → now ≤ i.moment → Ready s now → Ready (step files s i).state i.moment × IsStep now i.moment (step files s i).delivered
 input-step files ok s now i l r =
     let u : Settled = settle s i.moment in
     let first : IsStep now i.moment u.delivered = settle-step s now i.moment r in
@@ -525,7 +525,7 @@ deliveries-only : (ds : List Delivery) → deliveries_of (map Delivered ds) ≡ 
 deliveries-only [] = refl
 deliveries-only (d ∷ ds) = ap (λ xs. d ∷ xs) (deliveries-only ds)
 
-rising_from : (files : List File) → list_all has_ticks files ≡ true → (inputs : List Input) (s : State) (place now end : ℕ) → Ready s now → IsTimedFrom now inputs end →
+rising_from : (files : List PlayedFile) → list_all has_ticks files ≡ true → (inputs : List Input) (s : State) (place now end : ℕ) → Ready s now → IsTimedFrom now inputs end →
     NeverFall (deliveries_of (log_from files s place inputs end)) × all_from now (deliveries_of (log_from files s place inputs end))
 rising_from files ok [] s place now end r t =
     let a : IsStep now end (settle s end).delivered = settle-step s now end r in

@@ -13,7 +13,7 @@ use Rattle.seq_state.specs.declared.log.Reply.{Reply}
 use Rattle.node_table.specs.declared.number.Node.TheVariants.{Port, Filter}
 use Rattle.seq_state.specs.declared.input.Command.TheVariants.{Connect, Disconnect}
 use Rattle.seq_state.specs.declared.log.LogEntry.TheVariants.{Delivered, Replied}
-use Rattle.seq_state.specs.Files.{File}
+use Rattle.smf_grammar.specs.Played.{PlayedFile}
 use Rattle.seq_state.specs.State.{State, start}
 use Rattle.seq_state.specs.Table.{queue_named}
 use Rattle.seq_state.specs.Step.{IsTimedFrom, Stepped, command_step, step, settle, log_from, Settled, state_after, IsRefusal}
@@ -42,7 +42,7 @@ timed_only member now (i ∷ inputs) end h = go (member i.actor) (timed_only mem
     go true k = (h.0, k)
     go false k = timed_before now i.moment (only member inputs) end h.0 k
 
-module _ (files : List File) (owner : ℕ) (member : ℕ → Bool) where
+module _ (files : List PlayedFile) (owner : ℕ) (member : ℕ → Bool) where
   came : List Delivery → List Sight
   came ds = map Came (heard owner ds)
 
@@ -256,7 +256,7 @@ names_meet : (member other : ℕ → Bool) (actor : ℕ) (q : Option QueueAddr) 
 names_meet member other actor None p r = tt
 names_meet member other actor (Some q) p r = λ m. and_both (member q.client) (other q.client) (p (both_left (member actor) (other actor) m)) (r (both_right (member actor) (other actor) m))
 
-meet_from : (files : List File) (owner : ℕ) (member other : ℕ → Bool) (s : State) (inputs : List Input) → IsClosedFrom files owner member s inputs → IsClosedFrom files owner other s inputs → IsClosedFrom files owner (λ c. member c && other c) s inputs
+meet_from : (files : List PlayedFile) (owner : ℕ) (member other : ℕ → Bool) (s : State) (inputs : List Input) → IsClosedFrom files owner member s inputs → IsClosedFrom files owner other s inputs → IsClosedFrom files owner (λ c. member c && other c) s inputs
 meet_from files owner member other s [] p q = tt
 meet_from files owner member other s (i ∷ inputs) p q =
     (closed_meet owner member other i.actor i.command (step files s i).reply p.0 q.0, names_meet member other i.actor (queue_named i.command) p.1 q.1, meet_from files owner member other (step files s i).state inputs p.2 q.2)

@@ -8,8 +8,8 @@ use Rattle.std.specs.FinMap.{FinMap}
 use Rattle.std.proofs.lemmas.Bool.Decides.{nat_tests}
 use Rattle.std.proofs.lemmas.Bool.{false≢true, le-leb, lt-leb, cases_lt}
 use Rattle.seq_state.specs.declared.log.Delivery.{Delivery}
-use Rattle.seq_state.specs.State.{Pending, Event, Client, put, ClientPool, State}
-use Rattle.seq_state.specs.Step.{delivered, upto, is_at, is_by, Timed, event_moment, is_left, playback_at, has_event, playback_after, all_at, offer, offered, pool_has_room, event_copies, due, settle, without_due}
+use Rattle.seq_state.specs.State.{OwnedPlayback, DueMessage, Client, with_entry, ClientPool, State}
+use Rattle.seq_state.specs.Step.{copies_with_room, upto, is_at, is_by, Timed, event_moment, is_left, playback_at, has_event, playback_after, all_at, offer, pools_after, pool_has_room, event_copies, due, settle, without_due}
 use Rattle.seq_state.specs.Laws.{SettlingLaw}
 use Rattle.seq_state.proofs.Lists.{filter-wider, filter-apart, flat_map-append}
 
@@ -50,32 +50,32 @@ at_past : (k m : ℕ) (o : Option ℕ) → nat_le k m ≡ false → is_at k o �
 at_past k m None l a = refl
 at_past k m (Some j) l a = grind (arith, nat_tests)
 
-abbrev timed : ℕ → Pending → Event → Timed
+abbrev timed : ℕ → OwnedPlayback → DueMessage → Timed
 timed k p e = record { moment = k; client = p.client; port = p.playback.port; message = e.message }
 
 module _ (clients : FinMap nat_cmp Client) where
-  abbrev at : ℕ → Pending → Event → Bool
+  abbrev at : ℕ → OwnedPlayback → DueMessage → Bool
   at k p e = is_at k (event_moment clients p e)
 
-  abbrev past : ℕ → Pending → Event → Bool
+  abbrev past : ℕ → OwnedPlayback → DueMessage → Bool
   past m p e = not (is_by m (event_moment clients p e))
 
-  no_events : (k : ℕ) (p : Pending) → is_left p ≡ false → playback_at clients k p ≡ []
+  no_events : (k : ℕ) (p : OwnedPlayback) → is_left p ≡ false → playback_at clients k p ≡ []
   no_events k p h = go p.playback.events h
     where
-      go : (es : List Event) → has_event es ≡ false → map (timed k p) (filter (at k p) es) ≡ []
+      go : (es : List DueMessage) → has_event es ≡ false → map (timed k p) (filter (at k p) es) ≡ []
       go [] h = refl
       go (e ∷ es) h = absurd (false≢true (sym h))
 
   -- of what is pending after m, nothing is due up to m, and all that was is due later
-  playback_at-after : (m k : ℕ) (p : Pending) (b : Bool) → nat_le k m ≡ b → playback_at clients k (playback_after clients m p) ≡ cond b [] (playback_at clients k p)
+  playback_at-after : (m k : ℕ) (p : OwnedPlayback) (b : Bool) → nat_le k m ≡ b → playback_at clients k (playback_after clients m p) ≡ cond b [] (playback_at clients k p)
   playback_at-after m k p true h = ap (map (timed k p)) (filter-apart (at k p) (past m p) (λ e a b. at_not_by k m (event_moment clients p e) h a b) p.playback.events)
   playback_at-after m k p false h = ap (map (timed k p)) (filter-wider (at k p) (past m p) (λ e a. at_past k m (event_moment clients p e) h a) p.playback.events)
 
-  after : ℕ → List Pending → List Pending
+  after : ℕ → List OwnedPlayback → List OwnedPlayback
   after m ps = filter is_left (map (playback_after clients m) ps)
 
-  all_at-after : (m k : ℕ) (ps : List Pending) → all_at clients (after m ps) k ≡ cond (nat_le k m) [] (all_at clients ps k)
+  all_at-after : (m k : ℕ) (ps : List OwnedPlayback) → all_at clients (after m ps) k ≡ cond (nat_le k m) [] (all_at clients ps k)
   unfolding after
   all_at-after m k [] = nothing (nat_le k m)
     where
@@ -98,30 +98,30 @@ module _ (clients : FinMap nat_cmp Client) where
   by_more m n l None h = refl
   by_more m n l (Some j) h = grind (arith, nat_tests)
 
-  playback_after-after : (m n : ℕ) → m ≤ n → (p : Pending) → playback_after clients n (playback_after clients m p) ≡ playback_after clients n p
+  playback_after-after : (m n : ℕ) → m ≤ n → (p : OwnedPlayback) → playback_after clients n (playback_after clients m p) ≡ playback_after clients n p
   playback_after-after m n l p =
       ap (λ es. record { client = p.client; queue = p.queue; playback = record { port = p.playback.port; accepted = p.playback.accepted; events = es } })
       (filter-wider (past n p) (past m p) (λ e h. by_more m n l (event_moment clients p e) h) p.playback.events)
 
-  none_left : (n : ℕ) (q : Pending) → is_left q ≡ false → is_left (playback_after clients n q) ≡ false
+  none_left : (n : ℕ) (q : OwnedPlayback) → is_left q ≡ false → is_left (playback_after clients n q) ≡ false
   none_left n q h = go q.playback.events h
     where
-      go : (es : List Event) → has_event es ≡ false → has_event (filter (past n q) es) ≡ false
+      go : (es : List DueMessage) → has_event es ≡ false → has_event (filter (past n q) es) ≡ false
       go [] h = refl
       go (e ∷ es) h = absurd (false≢true (sym h))
 
-  after-after : (m n : ℕ) → m ≤ n → (ps : List Pending) → after n (after m ps) ≡ after n ps
+  after-after : (m n : ℕ) → m ≤ n → (ps : List OwnedPlayback) → after n (after m ps) ≡ after n ps
   unfolding after
   after-after m n l [] = refl
   after-after m n l (p ∷ ps) = kept (is_left (playback_after clients m p)) refl (after-after m n l ps)
     where
-      q : Pending
+      q : OwnedPlayback
       q = playback_after clients m p
 
-      r : Pending
+      r : OwnedPlayback
       r = playback_after clients n p
 
-      put_on : Pending → List Pending → List Pending
+      put_on : OwnedPlayback → List OwnedPlayback → List OwnedPlayback
       put_on w xs = cond (is_left w) (w ∷ xs) xs
 
       kept : (b : Bool) → is_left q ≡ b → after n (after m ps) ≡ after n ps → after n (cond b (q ∷ after m ps) (after m ps)) ≡ cond (is_left r) (r ∷ after n ps) (after n ps)
@@ -132,14 +132,14 @@ module _ (clients : FinMap nat_cmp Client) where
 
 -- ---- what is delivered in two goes
 
-pub offered-append : (pools : FinMap nat_cmp ClientPool) (xs ys : List Delivery) → offered (offered pools xs) ys ≡ offered pools (xs ++ ys)
+pub offered-append : (pools : FinMap nat_cmp ClientPool) (xs ys : List Delivery) → pools_after (pools_after pools xs) ys ≡ pools_after pools (xs ++ ys)
 offered-append pools [] ys = refl
-offered-append pools (d ∷ xs) ys = offered-append (put pools d.target.client (offer (FinMap.get pools d.target.client) d)) xs ys
+offered-append pools (d ∷ xs) ys = offered-append (with_entry pools d.target.client (offer (FinMap.get pools d.target.client) d)) xs ys
 
-pub delivered-append : (pools : FinMap nat_cmp ClientPool) (xs ys : List Delivery) → delivered pools xs ++ delivered (offered pools xs) ys ≡ delivered pools (xs ++ ys)
+pub delivered-append : (pools : FinMap nat_cmp ClientPool) (xs ys : List Delivery) → copies_with_room pools xs ++ copies_with_room (pools_after pools xs) ys ≡ copies_with_room pools (xs ++ ys)
 delivered-append pools [] ys = refl
 delivered-append pools (d ∷ xs) ys =
-    one (pool_has_room (FinMap.get pools d.target.client)) _ _ _ (delivered-append (put pools d.target.client (offer (FinMap.get pools d.target.client) d)) xs ys)
+    one (pool_has_room (FinMap.get pools d.target.client)) _ _ _ (delivered-append (with_entry pools d.target.client (offer (FinMap.get pools d.target.client) d)) xs ys)
   where
     one : (b : Bool) (xs ys zs : List Delivery) → xs ++ ys ≡ zs → cond b (d ∷ xs) xs ++ ys ≡ cond b (d ∷ zs) zs
     one true xs ys zs e = ap (λ ws. d ∷ ws) e
@@ -147,7 +147,7 @@ delivered-append pools (d ∷ xs) ys =
 
 -- ---- the law
 
-abbrev state_with : State → FinMap nat_cmp ClientPool → List Pending → State
+abbrev state_with : State → FinMap nat_cmp ClientPool → List OwnedPlayback → State
 state_with s pools pending = record { clients = s.clients; pools = pools; edges = s.edges; pending = pending }
 
 pub settling_law : SettlingLaw
@@ -160,7 +160,7 @@ settling_law s m n l =
     let all : first ++ second ≡ flat_map (event_copies s) (due s n) =
     sym (flat_map-append (event_copies s) (due s m) (due t n))
     ∙ ap (flat_map (event_copies s)) (upto-split (all_at s.clients s.pending) (all_at s.clients t.pending) m n (λ k. all_at-after s.clients m k s.pending) l) in (
-      ap (λ ps. state_with s (offered (offered pools first) second) ps) (after-after s.clients m n l s.pending)
-          ∙ ap (λ q. state_with s q (without_due s n).pending) (offered-append pools first second ∙ ap (offered pools) all),
-      delivered-append pools first second ∙ ap (delivered pools) all,
+      ap (λ ps. state_with s (pools_after (pools_after pools first) second) ps) (after-after s.clients m n l s.pending)
+          ∙ ap (λ q. state_with s q (without_due s n).pending) (offered-append pools first second ∙ ap (pools_after pools) all),
+      delivered-append pools first second ∙ ap (copies_with_room pools) all,
     )

@@ -10,11 +10,11 @@ use Rattle.seq_state.specs.declared.input.Command.{Command}
 use Rattle.seq_state.specs.declared.input.Command.TheVariants.{DeleteQueue, Start, Stop, Continue, Tempo, QueueStatus, Share, Schedule, Play}
 use Rattle.seq_state.specs.declared.refusal.Refusal.{Refusal}
 use Rattle.seq_state.specs.declared.refusal.Refusal.TheVariants.{NotYours}
-use Rattle.seq_state.specs.Files.{File}
-use Rattle.seq_state.specs.State.{Queue, Client, State, put}
-use Rattle.seq_state.specs.Own.{queue_of, queue_map, queue_changed, public, has_queue}
-use Rattle.seq_state.specs.Table.{Asked, Condition, first_refusal, command_row, queue_named, visible, not_open, not_yours, no_queue}
-use Rattle.seq_state.specs.Step.{Stepped, asked, row_of, refusal_of, command_step}
+use Rattle.smf_grammar.specs.Played.{PlayedFile}
+use Rattle.seq_state.specs.State.{Queue, Client, State, with_entry}
+use Rattle.seq_state.specs.Effect.{queue_of, queue_map, queue_changed, public, has_queue}
+use Rattle.seq_state.specs.Table.{CommandView, Condition, first_refusal, command_row, queue_named, visible, not_open, not_yours, no_queue}
+use Rattle.seq_state.specs.Step.{Stepped, view_of, row_of, refusal_of, command_step}
 use Rattle.seq_state.specs.Changes.{holds, queue_at, client_after, ShareLaw, NotYoursLaw}
 use Rattle.seq_state.proofs.Changes.{get-put_queue, same_number, done}
 use Rattle.seq_state.proofs.Effects.{get-put}
@@ -35,9 +35,9 @@ queue_here (Some c) n =
     get-put_queue n (queue_map public (FinMap.get c.queues n)) c n
     ∙ ap (λ b. cond b (queue_map public (FinMap.get c.queues n)) (FinMap.get c.queues n)) (same_number n)
 
-module _ (files : List File) (s : State) (moment actor : ℕ) (q : QueueAddr) (r : refusal_of files s moment actor (Share q) ≡ None) where
-  a : Asked
-  a = asked files s moment actor (Share q)
+module _ (files : List PlayedFile) (s : State) (moment actor : ℕ) (q : QueueAddr) (r : refusal_of files s moment actor (Share q) ≡ None) where
+  a : CommandView
+  a = view_of files s moment actor (Share q)
 
   not_refused : first_refusal (not_open a ∷ not_yours a q ∷ no_queue a q ∷ []) ≡ None
   unfolding command_row a
@@ -97,7 +97,7 @@ third x y z w e = grind arith
 both : (x y : Bool) → x ≡ false → y ≡ false → (not x && not y) ≡ true
 both x y e f = grind arith
 
--- where a condition holds, a refusal is told
+-- where a condition holds, a refusal is reported
 stood : (r : Refusal) (cs : List Condition) → holds r cs ≡ true → is_some (first_refusal cs) ≡ true
 stood r [] h = absurd (false≢true h)
 stood r (c ∷ cs) h = go c.1 h (stood r cs)
@@ -109,7 +109,7 @@ stood r (c ∷ cs) h = go c.1 h (stood r cs)
 same : {p q : QueueAddr} → Some p ≡ Some q → p ≡ q
 same e = cc
 
-module _ (files : List File) (s : State) (moment actor : ℕ) where
+module _ (files : List PlayedFile) (s : State) (moment actor : ℕ) where
   abbrev IsOthers : QueueAddr → Type 0
   IsOthers q = not (eqb q.client actor) ≡ true
 

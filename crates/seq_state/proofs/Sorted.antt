@@ -6,9 +6,9 @@ use Rattle.std.specs.Ordering.{nat_cmp}
 use Rattle.std.specs.FinMap.{FinMap}
 use Rattle.std.proofs.lemmas.Bool.Decides.{nat_tests}
 use Rattle.std.proofs.lemmas.Bool.{eqb-true}
-use Rattle.seq_state.specs.State.{Client, Event, Pending}
+use Rattle.seq_state.specs.State.{Client, DueMessage, OwnedPlayback}
 use Rattle.seq_state.specs.Step.{Timed, event_moment, is_at, playback_at, all_at, upto}
-use Rattle.seq_state.specs.Laws.{IsByMoment, timed_at, timed_of, all_timed, with_timed, sorted, SortLaw}
+use Rattle.seq_state.specs.Laws.{IsByMoment, timed_at, timed_of, all_timed, with_timed, stable_sort, SortLaw}
 use Rattle.seq_state.proofs.Lists.{filter-flat_map, flat_map-agree}
 use Rattle.seq_state.proofs.Kin.{upto-agree}
 
@@ -20,7 +20,7 @@ by m t = nat_le t.moment m
 
 -- ---- the events of one moment
 
-timed_at-here : (clients : FinMap nat_cmp Client) (k : ℕ) (p : Pending) (es : List Event) →
+timed_at-here : (clients : FinMap nat_cmp Client) (k : ℕ) (p : OwnedPlayback) (es : List DueMessage) →
     map (λ e. let t : Timed = record { moment = k; client = p.client; port = p.playback.port; message = e.message } in t) (filter (λ e. is_at k (event_moment clients p e)) es)
     ≡ filter (at k) (filter_map (λ e. timed_at p e (event_moment clients p e)) es)
 timed_at-here clients k p [] = refl
@@ -29,13 +29,13 @@ timed_at-here clients k p (e ∷ es) = go (event_moment clients p e) (timed_at-h
     here : ℕ → Timed
     here j = record { moment = j; client = p.client; port = p.playback.port; message = e.message }
 
-    tail : List Event
+    tail : List DueMessage
     tail = filter (λ e. is_at k (event_moment clients p e)) es
 
     all : List Timed
     all = filter_map (λ e. timed_at p e (event_moment clients p e)) es
 
-    timed : List Event → List Timed
+    timed : List DueMessage → List Timed
     timed xs = map (λ e. record { moment = k; client = p.client; port = p.playback.port; message = e.message }) xs
 
     one : (j : ℕ) (b : Bool) → eqb j k ≡ b → timed tail ≡ filter (at k) all → timed (cond b (e ∷ tail) tail) ≡ cond b (here j ∷ filter (at k) all) (filter (at k) all)
@@ -46,7 +46,7 @@ timed_at-here clients k p (e ∷ es) = go (event_moment clients p e) (timed_at-h
     go None more = more
     go (Some j) more = one j (eqb j k) refl more
 
-all_at-timed : (clients : FinMap nat_cmp Client) (pending : List Pending) (k : ℕ) → all_at clients pending k ≡ filter (at k) (all_timed clients pending)
+all_at-timed : (clients : FinMap nat_cmp Client) (pending : List OwnedPlayback) (k : ℕ) → all_at clients pending k ≡ filter (at k) (all_timed clients pending)
 all_at-timed clients pending k =
     flat_map-agree (playback_at clients k) (λ p. filter (at k) (timed_of clients p)) (λ p. timed_at-here clients k p p.playback.events) pending
     ∙ sym (filter-flat_map (at k) (timed_of clients) pending)
@@ -67,9 +67,9 @@ filter-placed k t (x ∷ xs) = go (nat_le t.moment x.moment) refl (filter-placed
         turned false true n = refl
         turned false false n = refl
 
-filter-sorted : (k : ℕ) (ts : List Timed) → filter (at k) (sorted ts) ≡ filter (at k) ts
+filter-sorted : (k : ℕ) (ts : List Timed) → filter (at k) (stable_sort ts) ≡ filter (at k) ts
 filter-sorted k [] = refl
-filter-sorted k (t ∷ ts) = filter-placed k t (sorted ts) ∙ ap (λ xs. cond (at k t) (t ∷ xs) xs) (filter-sorted k ts)
+filter-sorted k (t ∷ ts) = filter-placed k t (stable_sort ts) ∙ ap (λ xs. cond (at k t) (t ∷ xs) xs) (filter-sorted k ts)
 
 placed-not_before : (m : ℕ) (t : Timed) (xs : List Timed) → m ≤ t.moment → list_all (λ y. nat_le m y.moment) xs ≡ true → list_all (λ y. nat_le m y.moment) (with_timed t xs) ≡ true
 placed-not_before m t [] l h = grind (arith, nat_tests)
@@ -91,9 +91,9 @@ placed-by_moment t (x ∷ xs) h = go (nat_le t.moment x.moment) refl (placed-by_
     go true e more = let l : t.moment ≤ x.moment = grind (arith, nat_tests) in (grind (arith, nat_tests, all_later t.moment x.moment l xs h.0), h)
     go false e more = let l : x.moment ≤ t.moment = grind (arith, nat_tests) in (placed-not_before x.moment t xs l h.0, more)
 
-sorted-by_moment : (ts : List Timed) → IsByMoment (sorted ts)
+sorted-by_moment : (ts : List Timed) → IsByMoment (stable_sort ts)
 sorted-by_moment [] = tt
-sorted-by_moment (t ∷ ts) = placed-by_moment t (sorted ts) (sorted-by_moment ts)
+sorted-by_moment (t ∷ ts) = placed-by_moment t (stable_sort ts) (sorted-by_moment ts)
 
 -- ---- one moment after another
 
@@ -125,5 +125,5 @@ upto-by (suc m) ts h = ap (λ xs. xs ++ filter (at (suc m)) ts) (upto-by m ts h)
 pub sort_law : SortLaw
 sort_law s m =
     let ts : List Timed = all_timed s.clients s.pending in
-    upto-agree (all_at s.clients s.pending) (λ k. filter (at k) (sorted ts)) (λ k. all_at-timed s.clients s.pending k ∙ sym (filter-sorted k ts)) m
-    ∙ upto-by m (sorted ts) (sorted-by_moment ts)
+    upto-agree (all_at s.clients s.pending) (λ k. filter (at k) (stable_sort ts)) (λ k. all_at-timed s.clients s.pending k ∙ sym (filter-sorted k ts)) m
+    ∙ upto-by m (stable_sort ts) (sorted-by_moment ts)

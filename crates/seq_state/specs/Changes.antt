@@ -1,4 +1,4 @@
--- What each command changes, by its name, and what it leaves as it is.
+-- Law: What each command changes, by its name, and what it leaves as it is.
 use Rattle.std.specs.Prelude.{◌≡◌, ℕ, ◌==◌, nat_le, nat_lt, min, Bool, true, false, not, ◌&&◌, ◌||◌, List, [], ◌∷◌, ◌++◌, map, length, Option, Some, None, is_some}
 use Rattle.std.specs.List.{filter, list_all, list_any}
 use Rattle.std.specs.FinMap
@@ -16,11 +16,11 @@ use Rattle.seq_state.specs.declared.log.Arrival.{Arrival}
 use Rattle.seq_state.specs.declared.log.Reply.TheVariants.{Received}
 use Rattle.seq_state.specs.declared.refusal.Refusal.{Refusal}
 use Rattle.seq_state.specs.declared.refusal.Refusal.TheVariants.{NotYours}
-use Rattle.seq_state.specs.Files.{File}
+use Rattle.smf_grammar.specs.Played.{PlayedFile}
 use Rattle.seq_state.specs.Refusals.{number_of}
-use Rattle.seq_state.specs.State.{Client, ClientPool, Pending, Queue, State}
-use Rattle.seq_state.specs.Own.{port_of, filter_of, queue_of, node_caps}
-use Rattle.seq_state.specs.Table.{Asked, Condition, command_row, queue_named}
+use Rattle.seq_state.specs.State.{Client, ClientPool, OwnedPlayback, Queue, State}
+use Rattle.seq_state.specs.Effect.{port_of, filter_of, queue_of, node_caps}
+use Rattle.seq_state.specs.Table.{CommandView, Condition, command_row, queue_named}
 use Rattle.seq_state.specs.Step.{row_of, refusal_of, command_step}
 
 -- ---- the lowest refusal
@@ -48,10 +48,12 @@ IsLowest cs (Some r) = (holds r cs ≡ true) × (none_below r cs ≡ true)
 
 -- the refusals of each row rise by number, and the answer is the lowest whose condition holds
 pub record LowestLaw : Type 0 where
-  pub rising : (a : Asked) (command : Command) → rises (numbers (command_row a command).conditions) ≡ true
+  pub rising : (a : CommandView) (command : Command)
+      → rises (numbers (command_row a command).conditions) ≡ true
   pub lowest :
-      (files : List File) (s : State) (moment actor : ℕ) (command : Command) →
-      IsLowest (row_of files s moment actor command).conditions (refusal_of files s moment actor command)
+      (files : List PlayedFile) (s : State) (moment actor : ℕ) (command : Command) →
+      IsLowest (row_of files s moment actor command).conditions
+      (refusal_of files s moment actor command)
 
 -- ---- what a command names
 
@@ -92,8 +94,10 @@ is_node actor node a = (a.client == actor) && same_node node a.node
 -- the subscriptions that go with a command
 abbrev pub edge_goes : ℕ → Command → Edge → Bool
 edge_goes actor Close e = touches_client actor e
-edge_goes actor (DeletePort port) e = is_node actor (Port port) e.source || is_node actor (Port port) e.target
-edge_goes actor (DeleteFilter n) e = is_node actor (Filter n) e.source || is_node actor (Filter n) e.target
+edge_goes actor (DeletePort port) e =
+    is_node actor (Port port) e.source || is_node actor (Port port) e.target
+edge_goes actor (DeleteFilter n) e =
+    is_node actor (Filter n) e.source || is_node actor (Filter n) e.target
 edge_goes actor (Disconnect source target) e = is_edge source target e
 edge_goes actor _ e = false
 
@@ -103,7 +107,7 @@ new_edges (Connect source target) = edge source target ∷ []
 new_edges _ = []
 
 -- the playbacks that go with a command
-abbrev pub pending_goes : ℕ → Command → Pending → Bool
+abbrev pub pending_goes : ℕ → Command → OwnedPlayback → Bool
 pending_goes actor Close p = (p.client == actor) || (p.queue.client == actor)
 pending_goes actor (DeletePort port) p = (p.client == actor) && (p.playback.port == port)
 pending_goes actor (DeleteQueue q) p = (p.queue.client == actor) && (p.queue.queue == q.queue)
@@ -116,58 +120,77 @@ adds_playback (Schedule queue port due message) = true
 adds_playback (Play queue port file) = true
 adds_playback _ = false
 
-abbrev pub is_playback_of : ℕ → QueueAddr → ℕ → Pending → Bool
-is_playback_of actor q port p = (p.client == actor) && (p.playback.port == port) && (p.queue.client == q.client) && (p.queue.queue == q.queue)
+abbrev pub is_playback_of : ℕ → QueueAddr → ℕ → OwnedPlayback → Bool
+is_playback_of actor q port p = (p.client == actor) && (p.playback.port == port)
+    && (p.queue.client == q.client) && (p.queue.queue == q.queue)
 
 -- it is the actor's, from the port and on the queue that the command names
-abbrev pub is_added : ℕ → Command → Pending → Bool
+abbrev pub is_added : ℕ → Command → OwnedPlayback → Bool
 is_added actor (Schedule q port due message) p = is_playback_of actor q port p
 is_added actor (Play q port file) p = is_playback_of actor q port p
 is_added actor _ p = false
 
 -- ---- the laws
 
-abbrev pub client_after : List File → State → ℕ → ℕ → Command → ℕ → Option Client
-client_after files s moment actor command c = FinMap.get (command_step files s moment actor command).state.clients c
+abbrev pub client_after : List PlayedFile → State → ℕ → ℕ → Command → ℕ → Option Client
+client_after files s moment actor command c =
+    FinMap.get (command_step files s moment actor command).state.clients c
 
--- What a command does not name stays as it was: other clients, other ports, filters and queues of the
--- actor, and the capabilities of a filter that gets another rule.
+-- What a command does not name stays as it was: other clients, other ports, filters and queues of
+-- the actor, and the capabilities of a filter that gets another rule.
 pub record OthersLaw : Type 0 where
   pub clients :
-      (files : List File) (s : State) (moment actor : ℕ) (command : Command) (c : ℕ) → (c == actor) ≡ false →
+      (files : List PlayedFile) (s : State) (moment actor : ℕ) (command : Command) (c : ℕ)
+      → (c == actor) ≡ false →
       client_after files s moment actor command c ≡ FinMap.get s.clients c
   pub ports :
-      (files : List File) (s : State) (moment actor : ℕ) (command : Command) (n : ℕ) → names_port command n ≡ false →
-      port_of (client_after files s moment actor command actor) n ≡ port_of (FinMap.get s.clients actor) n
+      (files : List PlayedFile) (s : State) (moment actor : ℕ) (command : Command) (n : ℕ)
+      → names_port command n ≡ false →
+      port_of (client_after files s moment actor command actor) n
+      ≡ port_of (FinMap.get s.clients actor) n
   pub filters :
-      (files : List File) (s : State) (moment actor : ℕ) (command : Command) (n : ℕ) → names_filter command n ≡ false →
-      filter_of (client_after files s moment actor command actor) n ≡ filter_of (FinMap.get s.clients actor) n
+      (files : List PlayedFile) (s : State) (moment actor : ℕ) (command : Command) (n : ℕ)
+      → names_filter command n ≡ false →
+      filter_of (client_after files s moment actor command actor) n
+      ≡ filter_of (FinMap.get s.clients actor) n
   pub queues :
-      (files : List File) (s : State) (moment actor : ℕ) (command : Command) (n : ℕ) → names_queue command n ≡ false →
-      queue_of (client_after files s moment actor command actor) n ≡ queue_of (FinMap.get s.clients actor) n
+      (files : List PlayedFile) (s : State) (moment actor : ℕ) (command : Command) (n : ℕ)
+      → names_queue command n ≡ false →
+      queue_of (client_after files s moment actor command actor) n
+      ≡ queue_of (FinMap.get s.clients actor) n
   pub caps :
-      (files : List File) (s : State) (moment actor n : ℕ) (rule : RuleArgs) →
-      node_caps (client_after files s moment actor (SetFilter n rule) actor) (Filter n) ≡ node_caps (FinMap.get s.clients actor) (Filter n)
+      (files : List PlayedFile) (s : State) (moment actor n : ℕ) (rule : RuleArgs) →
+      node_caps (client_after files s moment actor (SetFilter n rule) actor) (Filter n)
+      ≡ node_caps (FinMap.get s.clients actor) (Filter n)
 
--- a command that is not refused takes from the subscriptions what goes with it, and adds what it makes
+-- a command that is not refused takes from the subscriptions what goes with it, and adds what it
+-- makes
 abbrev pub EdgesLaw : Type 0
 EdgesLaw =
-    (files : List File) (s : State) (moment actor : ℕ) (command : Command) → refusal_of files s moment actor command ≡ None →
-    (command_step files s moment actor command).state.edges ≡ filter (λ e. not (edge_goes actor command e)) s.edges ++ new_edges command
+    (files : List PlayedFile) (s : State) (moment actor : ℕ) (command : Command)
+    → refusal_of files s moment actor command ≡ None →
+    (command_step files s moment actor command).state.edges
+    ≡ filter (λ e. not (edge_goes actor command e)) s.edges ++ new_edges command
 
--- A command that is not refused takes from what is pending what goes with it, and adds at the end at
--- most what it schedules or plays.
+-- A command that is not refused takes from what is pending what goes with it, and adds at the end
+-- at most what it schedules or plays.
 pub record PendingLaw : Type 0 where
   pub others :
-      (files : List File) (s : State) (moment actor : ℕ) (command : Command) → refusal_of files s moment actor command ≡ None →
+      (files : List PlayedFile) (s : State) (moment actor : ℕ) (command : Command)
+      → refusal_of files s moment actor command ≡ None →
       adds_playback command ≡ false →
-      (command_step files s moment actor command).state.pending ≡ filter (λ p. not (pending_goes actor command p)) s.pending
+      (command_step files s moment actor command).state.pending
+      ≡ filter (λ p. not (pending_goes actor command p)) s.pending
   pub added :
-      (files : List File) (s : State) (moment actor : ℕ) (command : Command) → refusal_of files s moment actor command ≡ None →
+      (files : List PlayedFile) (s : State) (moment actor : ℕ) (command : Command)
+      → refusal_of files s moment actor command ≡ None →
       adds_playback command ≡ true →
-      (more : List Pending) × ((command_step files s moment actor command).state.pending ≡ s.pending ++ more) × (list_all (is_added actor command) more ≡ true)
+      (more : List OwnedPlayback)
+      × ((command_step files s moment actor command).state.pending ≡ s.pending ++ more)
+      × (list_all (is_added actor command) more ≡ true)
 
--- What was waiting is what a Receive gives, at most so many, and then what waits still; the count of lost messages stays.
+-- What was waiting is what a Receive gives, at most so many, and then what waits still; the count
+-- of lost messages stays.
 pub record Taken (before after : ClientPool) (max : ℕ) (given : List Arrival) : Type 0 where
   pub all : before.waiting ≡ given ++ after.waiting
   pub many : length given ≡ min max (length before.waiting)
@@ -176,10 +199,14 @@ pub record Taken (before after : ClientPool) (max : ℕ) (given : List Arrival) 
 
 abbrev pub ReceiveLaw : Type 0
 ReceiveLaw =
-    (files : List File) (s : State) (moment actor max : ℕ) (before : ClientPool) → FinMap.get s.pools actor ≡ Some before →
+    (files : List PlayedFile) (s : State) (moment actor max : ℕ) (before : ClientPool)
+    → FinMap.get s.pools actor ≡ Some before →
     refusal_of files s moment actor (Receive max) ≡ None →
-    (after : ClientPool) × (given : List Arrival) × (FinMap.get (command_step files s moment actor (Receive max)).state.pools actor ≡ Some after)
-    × ((command_step files s moment actor (Receive max)).reply ≡ Received given) × Taken before after max given
+    (after : ClientPool) × (given : List Arrival)
+    × (FinMap.get (command_step files s moment actor (Receive max)).state.pools actor
+    ≡ Some after)
+    × ((command_step files s moment actor (Receive max)).reply ≡ Received given)
+    × Taken before after max given
 
 -- ---- shared queues
 
@@ -187,19 +214,21 @@ ReceiveLaw =
 abbrev pub queue_at : State → QueueAddr → Option Queue
 queue_at s q = queue_of (FinMap.get s.clients q.client) q.queue
 
--- a Share that is not refused finds the queue, and leaves it shared, whatever it was, and else as it was
+-- a Share that is not refused finds the queue, and leaves it shared, whatever it was, and else as
+-- it was
 abbrev pub ShareLaw : Type 0
 ShareLaw =
-    (files : List File) (s : State) (moment actor : ℕ) (q : QueueAddr) →
+    (files : List PlayedFile) (s : State) (moment actor : ℕ) (q : QueueAddr) →
     refusal_of files s moment actor (Share q) ≡ None →
     (before : Queue) × (queue_at s q ≡ Some before)
-    × (queue_at (command_step files s moment actor (Share q)).state q ≡ Some (record before { shared = true }))
+    × (queue_at (command_step files s moment actor (Share q)).state q
+    ≡ Some (record before { shared = true }))
 
 -- To who does not own it, a queue that is not shared is refused, whatever is to be done with it and
--- whether it runs or is held: NotYours stands, and a refusal is told.
+-- whether it runs or is held: NotYours stands, and a refusal is reported.
 abbrev pub NotYoursLaw : Type 0
 NotYoursLaw =
-    (files : List File) (s : State) (moment actor : ℕ) (command : Command) (q : QueueAddr) →
+    (files : List PlayedFile) (s : State) (moment actor : ℕ) (command : Command) (q : QueueAddr) →
     queue_named command ≡ Some q → (q.client == actor) ≡ false →
     ((k : Queue) → queue_at s q ≡ Some k → k.shared ≡ false) →
     (holds NotYours (row_of files s moment actor command).conditions ≡ true)

@@ -1,13 +1,13 @@
--- What came to a port, as one stream.
+-- Definition: What came to a port, as one stream.
 use Rattle.std.specs.Prelude.{◌≡◌, ℕ, ◌==◌, Bool, ◌&&◌, if◌then◌else◌, List, Option, Some, None}
 use Rattle.std.specs.List.{filter_map}
-use Rattle.midi_wire.specs.Writings.{written}
+use Rattle.midi_wire.specs.Writings.{wire_bytes}
 use Rattle.node_table.specs.declared.number.PortAddr.{PortAddr}
 use Rattle.seq_state.specs.declared.input.Input.{Input}
 use Rattle.seq_state.specs.declared.log.Delivery.{Delivery}
 use Rattle.seq_state.specs.declared.log.LogEntry.{LogEntry}
 use Rattle.seq_state.specs.declared.log.LogEntry.TheVariants.{Delivered, Replied}
-use Rattle.seq_state.specs.Files.{File}
+use Rattle.smf_grammar.specs.Played.{PlayedFile}
 use Rattle.seq_state.specs.Step.{plain, IsTimed}
 use Rattle.seq_state.specs.Circle.{only, is_to, IsClosed}
 
@@ -28,11 +28,13 @@ port_messages port log = filter_map (message_at port) log
 
 -- their bytes as one stream writer writes them
 abbrev pub port_bytes : PortAddr → List LogEntry → List ℕ
-port_bytes port log = written (port_messages port log)
+port_bytes port log = wire_bytes (port_messages port log)
 
--- what comes to a port of the owner of a closed circle, byte for byte, is what comes to it in the plain run of the circle's inputs alone
+-- what comes to a port of the owner of a closed circle, byte for byte, is what comes to it in the
+-- plain run of the circle's inputs alone
 abbrev pub PortBytesLaw : Type 0
 PortBytesLaw =
-    (files : List File) (owner : ℕ) (member : ℕ → Bool) (inputs : List Input) (end port : ℕ) →
+    (files : List PlayedFile) (owner : ℕ) (member : ℕ → Bool) (inputs : List Input) (end port : ℕ) →
     IsTimed inputs end → IsClosed files owner member inputs →
-    port_bytes (port_at owner port) (plain files inputs end) ≡ port_bytes (port_at owner port) (plain files (only member inputs) end)
+    port_bytes (port_at owner port) (plain files inputs end)
+    ≡ port_bytes (port_at owner port) (plain files (only member inputs) end)

@@ -1,8 +1,8 @@
 pub mod Refusals
-pub mod Files
 pub mod State
+pub mod Codes
 pub mod Copies
-pub mod Own
+pub mod Effect
 pub mod Table
 pub mod Step
 pub mod Circle

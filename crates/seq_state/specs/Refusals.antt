@@ -1,6 +1,8 @@
--- The numbers and the names of the refusals.
+-- Definition: The numbers and the names of the refusals.
 use Rattle.std.specs.Prelude.{ℕ, List, ◌++◌, codes}
 use Rattle.std.specs.Fmt.{decimal}
+use Rattle.seq_state.specs.declared.log.Reply.{Reply}
+use Rattle.seq_state.specs.declared.log.Reply.TheVariants.{Refused}
 use Rattle.seq_state.specs.declared.refusal.Refusal.{Refusal}
 use Rattle.seq_state.specs.declared.refusal.Refusal.TheVariants.{NotOpen, AlreadyOpen, BadName, BadSize, BadRule, NodeExists, NoNode, NoSender, NoDest, NotPermitted, AlreadyConnected, NotConnected, SourcesFull, Cycle, QueueExists, NotYours, NoQueue, QueueRunning, QueueStopped, NoFile, DivisionDiffers, BadTempo, BadTime, OutFull}
 
@@ -29,6 +31,10 @@ number_of DivisionDiffers = 21
 number_of BadTempo = 22
 number_of BadTime = 23
 number_of OutFull = 24
+
+-- the reply to a refused command
+abbrev pub refused : Refusal → Reply
+refused r = Refused (number_of r)
 
 abbrev pub refusal_name : Refusal → List ℕ
 refusal_name NotOpen = codes "NotOpen"

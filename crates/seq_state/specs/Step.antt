@@ -1,4 +1,4 @@
--- Settling, one input, and a run.
+-- Definition: Settling, one input, and a run.
 use Rattle.std.specs.Prelude.{ℕ, zero, suc, ◌+◌, ◌-◌, ◌^◌, ◌≤◌, ◌==◌, nat_le, nat_lt, min, Bool, true, false, not, ◌&&◌, ◌||◌, if◌then◌else◌, List, [], ◌∷◌, ◌++◌, map, length, Option, Some, None}
 use Rattle.std.specs.List.{filter, flat_map}
 use Rattle.std.specs.Ordering.{nat_cmp}
@@ -22,12 +22,12 @@ use Rattle.seq_state.specs.declared.log.LogEntry.TheVariants.{Delivered, Replied
 use Rattle.seq_state.specs.declared.log.Reply.{Reply}
 use Rattle.seq_state.specs.declared.log.Reply.TheVariants.{Refused}
 use Rattle.seq_state.specs.declared.refusal.Refusal.{Refusal}
-use Rattle.seq_state.specs.Files.{File}
-use Rattle.seq_state.specs.Refusals.{number_of}
-use Rattle.seq_state.specs.State.{Queue, Client, ClientPool, Event, Playback, Pending, State, start, queues_of, put}
+use Rattle.smf_grammar.specs.Played.{PlayedFile}
+use Rattle.seq_state.specs.Refusals.{refused}
+use Rattle.seq_state.specs.State.{Queue, Client, ClientPool, DueMessage, Playback, OwnedPlayback, State, start, queues_of, with_entry}
 use Rattle.seq_state.specs.Copies.{copies}
-use Rattle.seq_state.specs.Own.{Own, node_caps}
-use Rattle.seq_state.specs.Table.{Asked, Row, first_refusal, queue_named, visible, command_row}
+use Rattle.seq_state.specs.Effect.{Effect, node_caps}
+use Rattle.seq_state.specs.Table.{CommandView, Row, first_refusal, queue_named, visible, command_row}
 
 -- ---- delivering
 
@@ -46,15 +46,17 @@ offer None d = None
 offer (Some p) d = Some (pools.after_offer p (arrival d))
 
 -- the pools after these copies were offered, in order
-abbrev pub offered : FinMap nat_cmp ClientPool → List Delivery → FinMap nat_cmp ClientPool
-offered pools [] = pools
-offered pools (d ∷ ds) = offered (put pools d.target.client (offer (FinMap.get pools d.target.client) d)) ds
+abbrev pub pools_after : FinMap nat_cmp ClientPool → List Delivery → FinMap nat_cmp ClientPool
+pools_after pools [] = pools
+pools_after pools (d ∷ ds) =
+    pools_after (with_entry pools d.target.client (offer (FinMap.get pools d.target.client) d)) ds
 
 -- the copies that found room
-abbrev pub delivered : FinMap nat_cmp ClientPool → List Delivery → List Delivery
-delivered pools [] = []
-delivered pools (d ∷ ds) =
-    let rest = delivered (put pools d.target.client (offer (FinMap.get pools d.target.client) d)) ds in
+abbrev pub copies_with_room : FinMap nat_cmp ClientPool → List Delivery → List Delivery
+copies_with_room pools [] = []
+copies_with_room pools (d ∷ ds) =
+    let rest = copies_with_room
+    (with_entry pools d.target.client (offer (FinMap.get pools d.target.client) d)) ds in
     if pool_has_room (FinMap.get pools d.target.client) then d ∷ rest else rest
 
 -- ---- settling
@@ -72,8 +74,10 @@ moment_in None accepted due = None
 moment_in (Some q) accepted due = moment_of q.clock accepted due
 
 -- an event's moment, if it has one
-abbrev pub event_moment : FinMap nat_cmp Client → Pending → Event → Option ℕ
-event_moment clients p e = moment_in (FinMap.get (queues_of (FinMap.get clients p.queue.client)) p.queue.queue) p.playback.accepted e.due
+abbrev pub event_moment : FinMap nat_cmp Client → OwnedPlayback → DueMessage → Option ℕ
+event_moment clients p e = moment_in
+    (FinMap.get (queues_of (FinMap.get clients p.queue.client)) p.queue.queue) p.playback.accepted
+    e.due
 
 abbrev pub is_at : ℕ → Option ℕ → Bool
 is_at m None = false
@@ -84,13 +88,13 @@ is_by m None = false
 is_by m (Some k) = nat_le k m
 
 -- a playback's events of one moment
-abbrev pub playback_at : FinMap nat_cmp Client → ℕ → Pending → List Timed
+abbrev pub playback_at : FinMap nat_cmp Client → ℕ → OwnedPlayback → List Timed
 playback_at clients m p =
     map (λ e. record { moment = m; client = p.client; port = p.playback.port; message = e.message })
     (filter (λ e. is_at m (event_moment clients p e)) p.playback.events)
 
 -- all events of one moment, in the order of their commands and of the file
-abbrev pub all_at : FinMap nat_cmp Client → List Pending → ℕ → List Timed
+abbrev pub all_at : FinMap nat_cmp Client → List OwnedPlayback → ℕ → List Timed
 all_at clients pending m = flat_map (playback_at clients m) pending
 
 -- one moment after another, up to m
@@ -103,14 +107,18 @@ abbrev pub due : State → ℕ → List Timed
 due s m = upto (all_at s.clients s.pending) m
 
 -- what of a playback is still to be sent after m
-abbrev pub playback_after : FinMap nat_cmp Client → ℕ → Pending → Pending
-playback_after clients m p = record p { playback = record p.playback { events = filter (λ e. not (is_by m (event_moment clients p e))) p.playback.events } }
+abbrev pub playback_after : FinMap nat_cmp Client → ℕ → OwnedPlayback → OwnedPlayback
+playback_after clients m p =
+    record p {
+      playback = record p.playback
+          { events = filter (λ e. not (is_by m (event_moment clients p e))) p.playback.events };
+    }
 
-abbrev pub has_event : List Event → Bool
+abbrev pub has_event : List DueMessage → Bool
 has_event [] = false
 has_event (e ∷ es) = true
 
-abbrev pub is_left : Pending → Bool
+abbrev pub is_left : OwnedPlayback → Bool
 is_left p = has_event p.playback.events
 
 abbrev pub port_addr : ℕ → ℕ → Addr
@@ -128,8 +136,11 @@ pub record Settled : Type 0 where
   pub delivered : List Delivery
 
 -- the state with its pools after these copies
-abbrev pub sent : State → List Delivery → Settled
-sent s ds = record { state = record s { pools = offered s.pools ds }; delivered = delivered s.pools ds }
+abbrev pub with_copies : State → List Delivery → Settled
+with_copies s ds = record {
+  state = record s { pools = pools_after s.pools ds };
+  delivered = copies_with_room s.pools ds;
+}
 
 -- what is due by m is no longer pending
 abbrev pub without_due : State → ℕ → State
@@ -137,7 +148,7 @@ without_due s m = record s { pending = filter is_left (map (playback_after s.cli
 
 -- all that is due by m is sent, each event at its own moment
 abbrev pub settle : State → ℕ → Settled
-settle s m = sent (without_due s m) (flat_map (event_copies s) (due s m))
+settle s m = with_copies (without_due s m) (flat_map (event_copies s) (due s m))
 
 -- ---- the effect of a command
 
@@ -148,94 +159,105 @@ pub record Stepped : Type 0 where
   pub reply : Reply
 
 -- the number of a client's playbacks with an event to send
-abbrev pub used : State → ℕ → ℕ
-used s c = length (filter (λ p. p.client == c) s.pending)
+abbrev pub playback_count : State → ℕ → ℕ
+playback_count s c = length (filter (λ p. p.client == c) s.pending)
 
 -- an edge goes with either of its ends
 abbrev pub loses : ℕ → (Node → Bool) → Edge → Bool
-loses actor gone e = ((e.source.client == actor) && gone e.source.node) || ((e.target.client == actor) && gone e.target.node)
+loses actor gone e = ((e.source.client == actor) && gone e.source.node)
+    || ((e.target.client == actor) && gone e.target.node)
 
 -- a playback goes by itself, or with its queue
-abbrev pub drops : ℕ → Own → Pending → Bool
-drops actor own p = ((p.client == actor) && own.dropped p.playback) || ((p.queue.client == actor) && own.queue_gone p.queue.queue)
+abbrev pub drops : ℕ → Effect → OwnedPlayback → Bool
+drops actor effect p = ((p.client == actor) && effect.dropped p.playback)
+    || ((p.queue.client == actor) && effect.queue_gone p.queue.queue)
 
-abbrev pub pending_of : ℕ → Option QueueAddr → Playback → Pending
-pending_of actor None p = record { client = actor; queue = record { client = actor; queue = 0 }; playback = p }
+abbrev pub pending_of : ℕ → Option QueueAddr → Playback → OwnedPlayback
+pending_of actor None p =
+    record { client = actor; queue = record { client = actor; queue = 0 }; playback = p }
 pending_of actor (Some q) p = record { client = actor; queue = q; playback = p }
 
 -- the state after what a command does to the actor's own
-abbrev pub with_own : State → ℕ → Option QueueAddr → Own → State
-with_own s actor q own =
+abbrev pub with_effect : State → ℕ → Option QueueAddr → Effect → State
+with_effect s actor q effect =
     record {
-      clients = put s.clients actor own.client;
-      pools = put s.pools actor (own.pool (FinMap.get s.pools actor));
-      edges = own.edges (filter (λ e. not (loses actor own.gone e)) s.edges);
-      pending = filter (λ p. not (drops actor own p)) s.pending ++ filter is_left (map (pending_of actor q) own.added);
+      clients = with_entry s.clients actor effect.client;
+      pools = with_entry s.pools actor (effect.pool (FinMap.get s.pools actor));
+      edges = effect.edges (filter (λ e. not (loses actor effect.gone e)) s.edges);
+      pending = filter (λ p. not (drops actor effect p)) s.pending
+          ++ filter is_left (map (pending_of actor q) effect.added);
     }
 
 -- the copies of all that a command sends
 abbrev pub send_copies : State → ℕ → ℕ → List (ℕ × List ℕ) → List Delivery
 send_copies s moment actor sends = flat_map (λ m. copies s moment (port_addr actor m.0) m.1) sends
 
-abbrev pub stepped : Settled → Reply → Stepped
-stepped r reply = record { state = r.state; delivered = r.delivered; reply = reply }
+abbrev pub with_reply : Settled → Reply → Stepped
+with_reply r reply = record { state = r.state; delivered = r.delivered; reply = reply }
 
-abbrev pub after_own : State → ℕ → ℕ → Option QueueAddr → Own → Stepped
-after_own s moment actor q own =
-    stepped (sent (with_own s actor q own) (send_copies s moment actor own.sends)) (own.reply (FinMap.get s.pools actor))
+abbrev pub after_effect : State → ℕ → ℕ → Option QueueAddr → Effect → Stepped
+after_effect s moment actor q effect =
+    with_reply (with_copies (with_effect s actor q effect)
+    (send_copies s moment actor effect.sends)) (effect.reply (FinMap.get s.pools actor))
 
 -- ---- one input
 
 -- the queue that a command names, where the actor may use it
 abbrev pub named_queue : FinMap nat_cmp Client → ℕ → Option QueueAddr → Option Queue
 named_queue clients actor None = None
-named_queue clients actor (Some q) = visible actor q.client (FinMap.get (queues_of (FinMap.get clients q.client)) q.queue)
+named_queue clients actor (Some q) =
+    visible actor q.client (FinMap.get (queues_of (FinMap.get clients q.client)) q.queue)
 
 -- what a node allows, if it is there
 abbrev pub caps_at : State → Addr → Option Caps
 caps_at s a = node_caps (FinMap.get s.clients a.client) a.node
 
 -- what the row of a command looks at
-abbrev pub asked : List File → State → ℕ → ℕ → Command → Asked
-asked files s moment actor command =
+abbrev pub view_of : List PlayedFile → State → ℕ → ℕ → Command → CommandView
+view_of files s moment actor command =
     record {
       files = files;
       moment = moment;
       actor = actor;
       client = FinMap.get s.clients actor;
       queue = named_queue s.clients actor (queue_named command);
-      used = used s actor;
+      used = playback_count s actor;
       nodes = caps_at s;
       edges = s.edges;
     }
 
-abbrev pub row_of : List File → State → ℕ → ℕ → Command → Row
-row_of files s moment actor command = command_row (asked files s moment actor command) command
+abbrev pub row_of : List PlayedFile → State → ℕ → ℕ → Command → Row
+row_of files s moment actor command = command_row (view_of files s moment actor command) command
 
 -- the refusal of a command, if one stands
-abbrev pub refusal_of : List File → State → ℕ → ℕ → Command → Option Refusal
-refusal_of files s moment actor command = first_refusal (row_of files s moment actor command).conditions
+abbrev pub refusal_of : List PlayedFile → State → ℕ → ℕ → Command → Option Refusal
+refusal_of files s moment actor command =
+    first_refusal (row_of files s moment actor command).conditions
 
 -- what a command does, where none stands
-abbrev pub effect_of : List File → State → ℕ → ℕ → Command → Stepped
+abbrev pub effect_of : List PlayedFile → State → ℕ → ℕ → Command → Stepped
 effect_of files s moment actor command =
-    after_own s moment actor (queue_named command) (row_of files s moment actor command).own
+    after_effect s moment actor (queue_named command) (row_of files s moment actor command).effect
 
 -- a refusal leaves the state as it is, and is the reply
 abbrev pub unless : Option Refusal → State → Stepped → Stepped
 unless None s effect = effect
-unless (Some r) s effect = record { state = s; delivered = []; reply = Refused (number_of r) }
+unless (Some r) s effect = record { state = s; delivered = []; reply = refused r }
 
-abbrev pub command_step : List File → State → ℕ → ℕ → Command → Stepped
+abbrev pub command_step : List PlayedFile → State → ℕ → ℕ → Command → Stepped
 command_step files s moment actor command =
     unless (refusal_of files s moment actor command) s (effect_of files s moment actor command)
 
 -- first settling, then the command
-abbrev pub step : List File → State → Input → Stepped
+abbrev pub step : List PlayedFile → State → Input → Stepped
 step files s i =
     let settled = settle s i.moment in
     let done = command_step files settled.state i.moment i.actor i.command in
-    record { state = done.state; delivered = settled.delivered ++ done.delivered; reply = done.reply }
+    record {
+      state = done.state;
+      delivered = settled.delivered ++ done.delivered;
+      reply = done.reply;
+    }
 
 -- the command is refused
 abbrev pub IsRefusal : Reply → Type 0
@@ -245,17 +267,19 @@ IsRefusal _ = ⊥
 -- ---- a run
 
 -- the log of the inputs, the first of which has this place, and of what is due by the end
-abbrev pub log_from : List File → State → ℕ → List Input → ℕ → List LogEntry
+abbrev pub log_from : List PlayedFile → State → ℕ → List Input → ℕ → List LogEntry
 log_from files s place [] end = map Delivered (settle s end).delivered
 log_from files s place (i ∷ inputs) end =
-    map Delivered (step files s i).delivered ++ Replied place i.moment i.actor (step files s i).reply ∷ log_from files (step files s i).state (place + 1) inputs end
+    map Delivered (step files s i).delivered
+    ++ Replied place i.moment i.actor (step files s i).reply
+    ∷ log_from files (step files s i).state (place + 1) inputs end
 
 -- the log of a run from the beginning
-abbrev pub plain : List File → List Input → ℕ → List LogEntry
+abbrev pub plain : List PlayedFile → List Input → ℕ → List LogEntry
 plain files inputs end = log_from files start 0 inputs end
 
 -- the state after the inputs
-abbrev pub state_after : List File → State → List Input → State
+abbrev pub state_after : List PlayedFile → State → List Input → State
 state_after files s [] = s
 state_after files s (i ∷ inputs) = state_after files (step files s i).state inputs
 

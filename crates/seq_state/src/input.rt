@@ -9,7 +9,7 @@ use route_filter::RuleArgs;
 use std::alloc::Global;
 
 /// One command of one client at one moment.
-#[derive(Drop)]
+#[derive(Debug, Drop, PartialEq, Eq)]
 pub struct Input {
     /// In nanoseconds from the beginning of the run.
     pub moment: u64,
@@ -19,7 +19,7 @@ pub struct Input {
 }
 
 /// What a client may ask of the sequencer. Ports and filters without an address are the client's own.
-#[derive(Drop)]
+#[derive(Debug, Drop, PartialEq, Eq)]
 pub enum Command {
     /// Opens the client, with the sizes of its input and output pools, 1 to 2,000.
     Open {

@@ -86,7 +86,7 @@ pub fn playbacks_have_events()
     ensures { FilledLaw }
 {}
 
-/// The refusals of each command are tested in the order of their numbers: the one that is told is the lowest whose
+/// The refusals of each command are tested in the order of their numbers: the one that is reported is the lowest whose
 /// condition holds.
 pub fn lowest_is_told()
     ensures { LowestLaw }

@@ -17,7 +17,7 @@ use Rattle.std.specs.Option.{option_map}
 use Rattle.smf_grammar.specs.Reading.{pairs_from, pairs_of}
 use Rattle.smf_files.specs.Kept.{pairs_seen, is_track}
 use Rattle.smf_files.specs.declared.place.TrackPlace.{TrackPlace}
-use Rattle.smf_files.specs.declared.heads.Head.{Head}
+use Rattle.smf_files.specs.declared.heads.TrackHead.{TrackHead}
 use Rattle.smf_files.specs.Playing.{is_over, event_in, running_in, left_in, running_before, is_early, rest_of, is_whole, is_running, to_come, still_to_come, is_fine, head_if, heads_from, at_head, count, is_later, IsHeapFrom, IsPlaying, IsExclusive, IsNextExclusive}
 use Rattle.midi_wire.proofs.MessageTests.{and_both}
 use Rattle.midi_wire.proofs.Written.{and_true}
@@ -75,14 +75,14 @@ from-place t v h =
 
 -- ---- heads
 
-at-itself : (h : Head) → at_head h h ≡ 1
+at-itself : (h : TrackHead) → at_head h h ≡ 1
 at-itself h = let a : (h.tick == h.tick) ≡ true = eq-eqb h.tick h.tick refl in let b : (h.track == h.track) ≡ true = eq-eqb h.track h.track refl in rw (a, b) refl
 
-record Same (k h : Head) : Type 0 where
+record Same (k h : TrackHead) : Type 0 where
   ticks : h.tick ≡ k.tick
   tracks : h.track ≡ k.track
 
-at-same : (k h : Head) → 1 ≤ at_head k h → Same k h
+at-same : (k h : TrackHead) → 1 ≤ at_head k h → Same k h
 at-same k h e =
     go (eqb_tells h.tick k.tick) (eqb_tells h.track k.track) e
   where
@@ -91,17 +91,17 @@ at-same k h e =
     go (inl a) (inr b) e = let zero' : at_head k h ≡ 0 = rw (a.0, b.0) refl in absurd (omega arith)
     go (inr a) b e = let zero' : at_head k h ≡ 0 = rw (a.0) refl in absurd (omega arith)
 
-count-cons : (k h : Head) (hs : List Head) → count k (h ∷ hs) ≡ at_head k h + count k hs
+count-cons : (k h : TrackHead) (hs : List TrackHead) → count k (h ∷ hs) ≡ at_head k h + count k hs
 count-cons k h hs = sum_by-cons (at_head k) h hs
 
-count-append : (k : Head) (xs ys : List Head) → count k (xs ++ ys) ≡ count k xs + count k ys
+count-append : (k : TrackHead) (xs ys : List TrackHead) → count k (xs ++ ys) ≡ count k xs + count k ys
 count-append k xs ys = sum_by-append (at_head k) xs ys
 
-count-one : (k h : Head) → count k (h ∷ []) ≡ at_head k h
+count-one : (k h : TrackHead) → count k (h ∷ []) ≡ at_head k h
 count-one k h = let e : count k (h ∷ []) ≡ at_head k h + count k [] = count-cons k h [] in let z : count k [] ≡ 0 = refl in omega arith
 
 -- the track of a head
-pub record Found (start : ℕ) (places : List TrackPlace) (h : Head) : Type 0 where
+pub record Found (start : ℕ) (places : List TrackPlace) (h : TrackHead) : Type 0 where
   pub before : List TrackPlace
   pub place : TrackPlace
   pub after : List TrackPlace
@@ -116,10 +116,10 @@ head-over i v e = ap (λ (b : Bool). if b then [] else (record { tick = v.tick; 
 head-there : (i : ℕ) (v : TrackPlace) → (is_over v) ≡ false → head_if i v ≡ record { tick = v.tick; track = i } ∷ []
 head-there i v e = ap (λ (b : Bool). if b then [] else (record { tick = v.tick; track = i } ∷ [])) e
 
-found-later : (i : ℕ) (v : TrackPlace) (places : List TrackPlace) (h : Head) → Found (suc i) places h → Found i (v ∷ places) h
+found-later : (i : ℕ) (v : TrackPlace) (places : List TrackPlace) (h : TrackHead) → Found (suc i) places h → Found i (v ∷ places) h
 found-later i v places h w = record { before = v ∷ w.before; place = w.place; after = w.after; split = ap (λ (vs : List TrackPlace). v ∷ vs) w.split; number = (let e : h.track ≡ suc i + length w.before = w.number in omega arith); there = w.there; when = w.when }
 
-pub find-head : (places : List TrackPlace) (i : ℕ) (h : Head) → 1 ≤ count h (heads_from i places) → Found i places h
+pub find-head : (places : List TrackPlace) (i : ℕ) (h : TrackHead) → 1 ≤ count h (heads_from i places) → Found i places h
 find-head [] i h e = let z : count h [] ≡ 0 = refl in absurd (omega arith)
 find-head (v ∷ places) i h e =
     go (is_over v) refl (find-head places (suc i) h)
@@ -144,11 +144,11 @@ find-head (v ∷ places) i h e =
 
 -- ---- what the top of the heap says
 
-pub record NotEarlier (h k : Head) : Type 0 where
+pub record NotEarlier (h k : TrackHead) : Type 0 where
   pub late : h.tick ≤ k.tick
   pub tie : k.tick ≡ h.tick → h.track ≤ k.track
 
-then-not-less : (a b : Head) → is_later a b ≡ false → (a.tick ≤ b.tick) × (b.tick ≡ a.tick → a.track ≤ b.track)
+then-not-less : (a b : TrackHead) → is_later a b ≡ false → (a.tick ≤ b.tick) × (b.tick ≡ a.tick → a.track ≤ b.track)
 then-not-less a b e =
     go (nat_lt b.tick a.tick) (b.tick == a.tick) (nat_lt b.track a.track) (leb_tells (suc b.tick) a.tick) (eqb_tells b.tick a.tick) (leb_tells (suc b.track) a.track) e
   where
@@ -161,10 +161,10 @@ then-not-less a b e =
     go false true false (inr x) y (inl z) e = let bad : false ≡ true = z.0 in let none : ⊥ = cc in absurd none
     go false true false (inr x) y (inr z) e = (let c : a.tick < suc b.tick = x.1 in omega arith, λ _. (let d : a.track < suc b.track = z.1 in omega arith))
 
-abbrev pub Tops : Head → List (Head) → Type 0
+abbrev pub Tops : TrackHead → List (TrackHead) → Type 0
 Tops top rs = AllByRecursion (λ y. is_later top y ≡ false) rs
 
-pub heap-bound : (rs : List (Head)) (top : Head) → Tops top rs → (k : Head) → 1 ≤ count k rs → NotEarlier top k
+pub heap-bound : (rs : List (TrackHead)) (top : TrackHead) → Tops top rs → (k : TrackHead) → 1 ≤ count k rs → NotEarlier top k
 heap-bound [] top h k e = let z : count k [] ≡ 0 = refl in absurd (omega arith)
 heap-bound (r ∷ rs) top h k e =
     let sum : count k (r ∷ rs) ≡ at_head k r + count k rs = count-cons k r rs in
@@ -180,22 +180,22 @@ heap-bound (r ∷ rs) top h k e =
 
 -- ---- the places before and after it
 
-abbrev Bounded : ℕ → List TrackPlace → Head → Type 0
-Bounded i places h = (k : Head) → 1 ≤ count k (heads_from i places) → NotEarlier h k
+abbrev Bounded : ℕ → List TrackPlace → TrackHead → Type 0
+Bounded i places h = (k : TrackHead) → 1 ≤ count k (heads_from i places) → NotEarlier h k
 
-bounded-rest : (i : ℕ) (v : TrackPlace) (places : List TrackPlace) (h : Head) → Bounded i (v ∷ places) h → Bounded (suc i) places h
+bounded-rest : (i : ℕ) (v : TrackPlace) (places : List TrackPlace) (h : TrackHead) → Bounded i (v ∷ places) h → Bounded (suc i) places h
 bounded-rest i v places h b k e =
     let sum : count k (head_if i v ++ heads_from (suc i) places) ≡ count k (head_if i v) + count k (heads_from (suc i) places) = count-append k (head_if i v) (heads_from (suc i) places) in
     b k (omega arith)
 
-bounded-here : (i : ℕ) (v : TrackPlace) (places : List TrackPlace) (h : Head) → Bounded i (v ∷ places) h → (is_over v) ≡ false → NotEarlier h (record { tick = v.tick; track = i })
+bounded-here : (i : ℕ) (v : TrackPlace) (places : List TrackPlace) (h : TrackHead) → Bounded i (v ∷ places) h → (is_over v) ≡ false → NotEarlier h (record { tick = v.tick; track = i })
 bounded-here i v places h b is =
-    let k : Head = record { tick = v.tick; track = i } in
+    let k : TrackHead = record { tick = v.tick; track = i } in
     let sum : count k (head_if i v ++ heads_from (suc i) places) ≡ count k (head_if i v) + count k (heads_from (suc i) places) = count-append k (head_if i v) (heads_from (suc i) places) in
     let one : count k (head_if i v) ≡ 1 = ap (count k) (head-there i v is) ∙ count-one k k ∙ at-itself k in
     b k (omega arith)
 
-places-before : (places : List TrackPlace) (i : ℕ) (h : Head) → Bounded i places h → i + length places ≤ h.track → From (suc h.tick) (flat_map to_come places)
+places-before : (places : List TrackPlace) (i : ℕ) (h : TrackHead) → Bounded i places h → i + length places ≤ h.track → From (suc h.tick) (flat_map to_come places)
 places-before [] i h b e = tt
 places-before (v ∷ places) i h b e =
     from-append (suc h.tick) (to_come v) (flat_map to_come places)
@@ -204,7 +204,7 @@ places-before (v ∷ places) i h b e =
     elim (eqb_tells v.tick h.tick) as (λ _. suc h.tick ≤ v.tick) [ inl same ↦ (let at : h.track ≤ i = w.tie same.1 in absurd (omega arith)) | inr apart ↦ (let ne : v.tick ≢ h.tick = apart.1 in omega arith) ]))
     (places-before places (suc i) h (bounded-rest i v places h b) (omega arith))
 
-places-after : (places : List TrackPlace) (i : ℕ) (h : Head) → Bounded i places h → From h.tick (flat_map to_come places)
+places-after : (places : List TrackPlace) (i : ℕ) (h : TrackHead) → Bounded i places h → From h.tick (flat_map to_come places)
 places-after [] i h b = tt
 places-after (v ∷ places) i h b =
     from-append h.tick (to_come v) (flat_map to_come places)
@@ -215,7 +215,7 @@ heads-split : (before : List TrackPlace) (i : ℕ) (v : TrackPlace) (after : Lis
 heads-split [] i v after = let e : i ≡ i + 0 = omega arith in ap (λ (n : ℕ). head_if n v ++ heads_from (suc n) after) e
 heads-split (b ∷ before) i v after =
     let e : suc i + length before ≡ i + suc (length before) = omega arith in
-    ap (λ (hs : List Head). head_if i b ++ hs) (heads-split before (suc i) v after ∙ ap (λ (n : ℕ). heads_from (suc i) before ++ (head_if n v ++ heads_from (suc n) after)) e)
+    ap (λ (hs : List TrackHead). head_if i b ++ hs) (heads-split before (suc i) v after ∙ ap (λ (n : ℕ). heads_from (suc i) before ++ (head_if n v ++ heads_from (suc n) after)) e)
     ∙ sym (append_assoc (head_if i b) (heads_from (suc i) before) (head_if (i + suc (length before)) v ++ heads_from (suc (i + suc (length before))) after))
 
 flat-split : (before : List TrackPlace) (v : TrackPlace) (after : List TrackPlace) → flat_map to_come (before ++ v ∷ after) ≡ flat_map to_come before ++ (to_come v ++ flat_map to_come after)
@@ -236,13 +236,13 @@ all-join (b ∷ before) v after h k j =
     and_both (is_fine b) (list_all is_fine (before ++ v ∷ after)) both.0 (all-join before v after both.1 k j)
 
 -- the place that leads
-pub record Leads (places : List TrackPlace) (h : Head) : Type 0 where
+pub record Leads (places : List TrackPlace) (h : TrackHead) : Type 0 where
   pub found : Found 0 places h
   pub fine : IsTrue (is_fine found.place)
   pub low : From (suc h.tick) (flat_map to_come found.before)
   pub high : From h.tick (flat_map to_come found.after)
 
-pub leads : (places : List TrackPlace) (rs : List (Head)) (top : Head) → IsPlaying places rs → Tops top rs → 1 ≤ count top rs → Leads places top
+pub leads : (places : List TrackPlace) (rs : List (TrackHead)) (top : TrackHead) → IsPlaying places rs → Tops top rs → 1 ≤ count top rs → Leads places top
 leads places rs top w tops some =
     let same : count top rs ≡ count top (heads_from 0 places) = w.heads_are top in
     let found : Found 0 places top = find-head places 0 top (omega arith) in
@@ -250,7 +250,7 @@ leads places rs top w tops some =
     let number : top.track ≡ 0 + length found.before = found.number in
     let front : 0 + length found.before ≤ top.track = omega arith in
     let parts : IsTrue (list_all is_fine found.before) × (IsTrue (is_fine found.place) × IsTrue (list_all is_fine found.after)) = all-split found.before found.place found.after (subst (λ (vs : List TrackPlace). IsTrue (list_all is_fine vs)) found.split w.places_are) in
-    let shape : (k : Head) → count k (heads_from 0 places) ≡ count k (heads_from 0 found.before) + (count k (head_if (0 + length found.before) found.place) + count k (heads_from (suc (0 + length found.before)) found.after)) =
+    let shape : (k : TrackHead) → count k (heads_from 0 places) ≡ count k (heads_from 0 found.before) + (count k (head_if (0 + length found.before) found.place) + count k (heads_from (suc (0 + length found.before)) found.after)) =
     λ k. ap (λ (vs : List TrackPlace). count k (heads_from 0 vs)) found.split ∙ ap (count k) (heads-split found.before 0 found.place found.after)
     ∙ count-append k (heads_from 0 found.before) (head_if (0 + length found.before) found.place ++ heads_from (suc (0 + length found.before)) found.after)
     ∙ ap (λ (n : ℕ). count k (heads_from 0 found.before) + n) (count-append k (head_if (0 + length found.before) found.place) (heads_from (suc (0 + length found.before)) found.after)) in
@@ -262,7 +262,7 @@ leads places rs top w tops some =
     }
 
 -- its next event is the first of all
-pub first-of : (places : List TrackPlace) (h : Head) (w : Leads places h) (message : List ℕ) → message_of (event_in w.found.place) ≡ Some message →
+pub first-of : (places : List TrackPlace) (h : TrackHead) (w : Leads places h) (message : List ℕ) → message_of (event_in w.found.place) ≡ Some message →
     still_to_come places ≡ record { tick = h.tick; message = message } ∷ in_order tick (flat_map to_come w.found.before ++ (events_from w.found.place.tick (rest_of (running_in w.found.place) (left_in w.found.place)) ++ flat_map to_come w.found.after))
 first-of places h w message e =
     let v : TrackPlace = w.found.place in
@@ -289,17 +289,17 @@ set-there : (before : List TrackPlace) (v w : TrackPlace) (after : List TrackPla
 set-there [] v w after = refl
 set-there (b ∷ before) v w after = ap (λ (vs : List TrackPlace). b ∷ vs) (set-there before v w after)
 
-pub place-is : (places : List TrackPlace) (h : Head) (w : Leads places h) (d : TrackPlace) → get_or places h.track d ≡ w.found.place
+pub place-is : (places : List TrackPlace) (h : TrackHead) (w : Leads places h) (d : TrackPlace) → get_or places h.track d ≡ w.found.place
 place-is places h w d =
     let n : h.track ≡ length w.found.before = (let e : h.track ≡ 0 + length w.found.before = w.found.number in omega arith) in
     ap (λ (vs : List TrackPlace). get_or vs h.track d) w.found.split ∙ ap (λ (i : ℕ). get_or (w.found.before ++ w.found.place ∷ w.found.after) i d) n ∙ get-there w.found.before w.found.place w.found.after d
 
-set-is : (places : List TrackPlace) (h : Head) (w : Leads places h) (v : TrackPlace) → set places h.track v ≡ w.found.before ++ v ∷ w.found.after
+set-is : (places : List TrackPlace) (h : TrackHead) (w : Leads places h) (v : TrackPlace) → set places h.track v ≡ w.found.before ++ v ∷ w.found.after
 set-is places h w v =
     let n : h.track ≡ length w.found.before = (let e : h.track ≡ 0 + length w.found.before = w.found.number in omega arith) in
     ap (λ (vs : List TrackPlace). set vs h.track v) w.found.split ∙ ap (λ (i : ℕ). set (w.found.before ++ w.found.place ∷ w.found.after) i v) n ∙ set-there w.found.before w.found.place v w.found.after
 
-pub track-within : (places : List TrackPlace) (h : Head) → Leads places h → h.track < length places
+pub track-within : (places : List TrackPlace) (h : TrackHead) → Leads places h → h.track < length places
 track-within places h w =
     let n : h.track ≡ 0 + length w.found.before = w.found.number in
     let s : length places ≡ length (w.found.before ++ w.found.place ∷ w.found.after) = ap (λ (vs : List TrackPlace). length vs) w.found.split in
@@ -307,14 +307,14 @@ track-within places h w =
     omega arith
 
 -- what is still to come after it went on
-pub rest-of-all : (places : List TrackPlace) (h : Head) (w : Leads places h) (v : TrackPlace) → to_come v ≡ events_from w.found.place.tick (rest_of (running_in w.found.place) (left_in w.found.place)) →
+pub rest-of-all : (places : List TrackPlace) (h : TrackHead) (w : Leads places h) (v : TrackPlace) → to_come v ≡ events_from w.found.place.tick (rest_of (running_in w.found.place) (left_in w.found.place)) →
     still_to_come (set places h.track v) ≡ in_order tick (flat_map to_come w.found.before ++ (events_from w.found.place.tick (rest_of (running_in w.found.place) (left_in w.found.place)) ++ flat_map to_come w.found.after))
 rest-of-all places h w v e =
     ap (λ (vs : List TrackPlace). still_to_come vs) (set-is places h w v)
     ∙ ap (in_order tick) (flat-split w.found.before v w.found.after)
     ∙ ap (λ (es : List Event). in_order tick (flat_map to_come w.found.before ++ (es ++ flat_map to_come w.found.after))) e
 
-pub fine-after : (places : List TrackPlace) (h : Head) (w : Leads places h) (v : TrackPlace) → IsTrue (list_all is_fine places) → IsTrue (is_fine v) → IsTrue (list_all is_fine (set places h.track v))
+pub fine-after : (places : List TrackPlace) (h : TrackHead) (w : Leads places h) (v : TrackPlace) → IsTrue (list_all is_fine places) → IsTrue (is_fine v) → IsTrue (list_all is_fine (set places h.track v))
 fine-after places h w v all one =
     let parts : IsTrue (list_all is_fine w.found.before) × (IsTrue (is_fine w.found.place) × IsTrue (list_all is_fine w.found.after)) = all-split w.found.before w.found.place w.found.after (subst (λ (vs : List TrackPlace). IsTrue (list_all is_fine vs)) w.found.split all) in
     subst (λ (vs : List TrackPlace). IsTrue (list_all is_fine vs)) (sym (set-is places h w v)) (all-join w.found.before v w.found.after parts.0 one parts.1.1)
@@ -322,17 +322,17 @@ fine-after places h w v all one =
 -- ---- the heads after it went on
 
 -- nothing is still to come where no head is left
-none-come : (places : List TrackPlace) (i : ℕ) → ((k : Head) → count k (heads_from i places) ≡ 0) → flat_map to_come places ≡ []
+none-come : (places : List TrackPlace) (i : ℕ) → ((k : TrackHead) → count k (heads_from i places) ≡ 0) → flat_map to_come places ≡ []
 none-come [] i h = refl
 none-come (v ∷ places) i h =
     go (is_over v) refl (none-come places (suc i))
   where
-    both : (k : Head) → count k (head_if i v ++ heads_from (suc i) places) ≡ count k (head_if i v) + count k (heads_from (suc i) places)
+    both : (k : TrackHead) → count k (head_if i v ++ heads_from (suc i) places) ≡ count k (head_if i v) + count k (heads_from (suc i) places)
     both k = count-append k (head_if i v) (heads_from (suc i) places)
 
-    go : (b : Bool) → (is_over v) ≡ b → (((k : Head) → count k (heads_from (suc i) places) ≡ 0) → flat_map to_come places ≡ []) → to_come v ++ flat_map to_come places ≡ []
+    go : (b : Bool) → (is_over v) ≡ b → (((k : TrackHead) → count k (heads_from (suc i) places) ≡ 0) → flat_map to_come places ≡ []) → to_come v ++ flat_map to_come places ≡ []
     go false is again =
-        let k : Head = record { tick = v.tick; track = i } in
+        let k : TrackHead = record { tick = v.tick; track = i } in
         let one : count k (head_if i v) ≡ 1 = ap (count k) (head-there i v is) ∙ count-one k k ∙ at-itself k in
         let zero' : count k (head_if i v ++ heads_from (suc i) places) ≡ 0 = h k in
         let sum : count k (head_if i v ++ heads_from (suc i) places) ≡ count k (head_if i v) + count k (heads_from (suc i) places) = both k in
@@ -341,12 +341,12 @@ none-come (v ∷ places) i h =
         let none : to_come v ≡ [] = ap (λ (b : Bool). if b then [] else (event_if v.tick (message_of (event_in v)) ++ events_from v.tick (rest_of (running_in v) (left_in v)))) is in
         ap (λ (es : List Event). es ++ flat_map to_come places) none ∙ again (λ k. let zero' : count k (head_if i v ++ heads_from (suc i) places) ≡ 0 = h k in let sum : count k (head_if i v ++ heads_from (suc i) places) ≡ count k (head_if i v) + count k (heads_from (suc i) places) = both k in omega arith)
 
-pub nothing-left : (places : List TrackPlace) (rs : List (Head)) → IsPlaying places rs → rs ≡ [] → still_to_come places ≡ []
-nothing-left places rs w e = ap (in_order tick) (none-come places 0 (λ k. sym (w.heads_are k) ∙ ap (λ (xs : List (Head)). count k xs) e))
+pub nothing-left : (places : List TrackPlace) (rs : List (TrackHead)) → IsPlaying places rs → rs ≡ [] → still_to_come places ≡ []
+nothing-left places rs w e = ap (in_order tick) (none-come places 0 (λ k. sym (w.heads_are k) ∙ ap (λ (xs : List (TrackHead)). count k xs) e))
 
 -- a heap that lost its top and has the place's next head is that of the places
-pub heads-after : (places : List TrackPlace) (rs rs' : List (Head)) (h : Head) (w : Leads places h) (v : TrackPlace) → IsPlaying places rs →
-    ((k : Head) → count k rs' + at_head k h ≡ count k rs + count k (head_if h.track v)) → (k : Head) → count k rs' ≡ count k (heads_from 0 (set places h.track v))
+pub heads-after : (places : List TrackPlace) (rs rs' : List (TrackHead)) (h : TrackHead) (w : Leads places h) (v : TrackPlace) → IsPlaying places rs →
+    ((k : TrackHead) → count k rs' + at_head k h ≡ count k rs + count k (head_if h.track v)) → (k : TrackHead) → count k rs' ≡ count k (heads_from 0 (set places h.track v))
 heads-after places rs rs' h w v p change k =
     let n : 0 + length w.found.before ≡ h.track = (let e : h.track ≡ 0 + length w.found.before = w.found.number in omega arith) in
     let split : (u : TrackPlace) → count k (heads_from 0 (w.found.before ++ u ∷ w.found.after)) ≡ count k (heads_from 0 w.found.before) + (count k (head_if h.track u) + count k (heads_from (suc h.track) w.found.after)) =
@@ -365,17 +365,17 @@ heads-after places rs rs' h w v p change k =
     omega arith
 
 -- the top of a heap stands in it
-pub top-stands : (rs : List (Head)) (top : Head) → 0 < length rs → top ≡ get_or rs 0 top → 1 ≤ count top rs
+pub top-stands : (rs : List (TrackHead)) (top : TrackHead) → 0 < length rs → top ≡ get_or rs 0 top → 1 ≤ count top rs
 top-stands [] top h e = absurd (omega arith)
 top-stands (r ∷ rs) top h e =
     let sum : count top (r ∷ rs) ≡ at_head top r + count top rs = count-cons top r rs in
-    let one : at_head top r ≡ 1 = ap (λ (x : Head). at_head top x) (sym e) ∙ at-itself top in
+    let one : at_head top r ≡ 1 = ap (λ (x : TrackHead). at_head top x) (sym e) ∙ at-itself top in
     omega arith
 
-pub head-counts : (k : Head) (i : ℕ) (v : TrackPlace) → (is_over v) ≡ false → count k (head_if i v) ≡ at_head k (record { tick = v.tick; track = i })
+pub head-counts : (k : TrackHead) (i : ℕ) (v : TrackPlace) → (is_over v) ≡ false → count k (head_if i v) ≡ at_head k (record { tick = v.tick; track = i })
 head-counts k i v is = ap (count k) (head-there i v is) ∙ count-one k (record { tick = v.tick; track = i })
 
-pub over-counts : (k : Head) (i : ℕ) (v : TrackPlace) → (is_over v) ≡ true → count k (head_if i v) ≡ 0
+pub over-counts : (k : TrackHead) (i : ℕ) (v : TrackPlace) → (is_over v) ≡ true → count k (head_if i v) ≡ 0
 over-counts k i v is = ap (count k) (head-over i v is)
 
 -- ---- all that the code needs of the next place
@@ -403,7 +403,7 @@ fine-parts v there h =
     go false true true true true false f o h p q r s t u = let bad : ⊥ = cc in absurd bad
     go false true true true true true false o h p q r s t u = let bad : ⊥ = cc in absurd bad
 
-pub record Next (places : List TrackPlace) (rs : List (Head)) (h : Head) (v : TrackPlace) : Type 0 where
+pub record Next (places : List TrackPlace) (rs : List (TrackHead)) (h : TrackHead) (v : TrackPlace) : Type 0 where
   pub some : IsTrue (is_some (message_of (event_in v)))
   pub sound : IsTrue (is_event_sound (event_in v))
   pub there : is_over v ≡ false
@@ -415,15 +415,15 @@ pub record Next (places : List TrackPlace) (rs : List (Head)) (h : Head) (v : Tr
   pub told : (message : List ℕ) → message_of (event_in v) ≡ Some message → (es : List Event) × (still_to_come places ≡ record { tick = h.tick; message = message } ∷ es)
   pub first : (message : List ℕ) (w : TrackPlace) → message_of (event_in v) ≡ Some message → to_come w ≡ events_from v.tick (rest_of (running_in v) (left_in v)) →
       still_to_come places ≡ record { tick = h.tick; message = message } ∷ still_to_come (set places h.track w)
-  pub playing : (w : TrackPlace) (rs' : List (Head)) → IsTrue (is_fine w) → IsHeapFrom 0 rs' →
-      ((k : Head) → count k rs' + at_head k h ≡ count k rs + count k (head_if h.track w)) → IsPlaying (set places h.track w) rs'
+  pub playing : (w : TrackPlace) (rs' : List (TrackHead)) → IsTrue (is_fine w) → IsHeapFrom 0 rs' →
+      ((k : TrackHead) → count k rs' + at_head k h ≡ count k rs + count k (head_if h.track w)) → IsPlaying (set places h.track w) rs'
 
 length-set-same : (places : List TrackPlace) (i : ℕ) (w : TrackPlace) → length (set places i w) ≡ length places
 length-set-same [] i w = refl
 length-set-same (v ∷ places) zero w = refl
 length-set-same (v ∷ places) (suc i) w = ap suc (length-set-same places i w)
 
-next-found : (places : List TrackPlace) (rs : List (Head)) (h : Head) → IsPlaying places rs → (l : Leads places h) → Next places rs h l.found.place
+next-found : (places : List TrackPlace) (rs : List (TrackHead)) (h : TrackHead) → IsPlaying places rs → (l : Leads places h) → Next places rs h l.found.place
 next-found places rs h p l =
     let f : Fine l.found.place = fine-parts l.found.place l.found.there l.fine in
     record {
@@ -444,15 +444,15 @@ next-found places rs h p l =
       };
     }
 
-pub next-of : (places : List TrackPlace) (rs : List (Head)) (top : Head) (v : TrackPlace) → IsPlaying places rs → Tops top rs → 0 < length rs → top ≡ get_or rs 0 top → v ≡ get_or places top.track v → Next places rs top v
+pub next-of : (places : List TrackPlace) (rs : List (TrackHead)) (top : TrackHead) (v : TrackPlace) → IsPlaying places rs → Tops top rs → 0 < length rs → top ≡ get_or rs 0 top → v ≡ get_or places top.track v → Next places rs top v
 next-of places rs top v p tops some first e =
     let l : Leads places top = leads places rs top p tops (top-stands rs top some first) in
     subst (λ (x : TrackPlace). Next places rs top x) (sym (e ∙ place-is places top l v)) (next-found places rs top p l)
 
-pub track-of : (places : List TrackPlace) (rs : List (Head)) (top : Head) → IsPlaying places rs → Tops top rs → 0 < length rs → top ≡ get_or rs 0 top → top.track < length places
+pub track-of : (places : List TrackPlace) (rs : List (TrackHead)) (top : TrackHead) → IsPlaying places rs → Tops top rs → 0 < length rs → top ≡ get_or rs 0 top → top.track < length places
 track-of places rs top p tops some first = track-within places top (leads places rs top p tops (top-stands rs top some first))
 
-pub tick-of : (places : List TrackPlace) (rs : List (Head)) (top : Head) → IsPlaying places rs → Tops top rs → 0 < length rs → top ≡ get_or rs 0 top → Some top.tick ≡ option_map (λ (e : Event). e.tick) (slice_get (still_to_come places) 0)
+pub tick-of : (places : List TrackPlace) (rs : List (TrackHead)) (top : TrackHead) → IsPlaying places rs → Tops top rs → 0 < length rs → top ≡ get_or rs 0 top → Some top.tick ≡ option_map (λ (e : Event). e.tick) (slice_get (still_to_come places) 0)
 tick-of places rs top p tops some first =
     let l : Leads places top = leads places rs top p tops (top-stands rs top some first) in
     let n : Next places rs top l.found.place = next-found places rs top p l in
@@ -462,7 +462,7 @@ tick-of places rs top p tops some first =
     go None is h f = let bad : false ≡ true = h in let none : ⊥ = cc in absurd none
     go (Some message) is h f = let w : (es : List Event) × (still_to_come places ≡ record { tick = top.tick; message = message } ∷ es) = f message refl in ap (λ (es : List Event). option_map (λ (e : Event). e.tick) (slice_get es 0)) (sym w.1)
 
-pub empty-items : (rs : List (Head)) → length rs ≡ 0 → rs ≡ []
+pub empty-items : (rs : List (TrackHead)) → length rs ≡ 0 → rs ≡ []
 empty-items [] e = refl
 empty-items (r ∷ rs) e = absurd (omega arith)
 
@@ -481,7 +481,7 @@ exclusive-message (grammar.Exclusive bytes) x h =
     go true is h = (bytes, ap (λ (t : Bool). if t then Some (240 ∷ bytes) else None) is)
     go false is h = let bad : false ≡ true = h in let none : ⊥ = cc in absurd none
 
-pub next-exclusive : (places : List TrackPlace) (rs : List (Head)) (h : Head) (v : TrackPlace) → Next places rs h v → IsExclusive (event_in v) → IsNextExclusive (still_to_come places)
+pub next-exclusive : (places : List TrackPlace) (rs : List (TrackHead)) (h : TrackHead) (v : TrackPlace) → Next places rs h v → IsExclusive (event_in v) → IsNextExclusive (still_to_come places)
 next-exclusive places rs h v n x =
     let m : (bytes : List ℕ) × (message_of (event_in v) ≡ Some (240 ∷ bytes)) = exclusive-message (event_in v) x n.some in
     let t : (es : List Event) × (still_to_come places ≡ record { tick = h.tick; message = 240 ∷ m.0 } ∷ es) = n.told (240 ∷ m.0) m.1 in
@@ -493,7 +493,7 @@ abbrev pub starts_at : List (List ℕ) → List Event
 starts_at contents = flat_map (events_from 0) (map pairs_seen contents)
 
 -- some tracks have their places, and the rest are still to be taken up
-pub record TakenUp (places : List TrackPlace) (rs : List (Head)) (left all : List (List ℕ)) : Type 0 where
+pub record TakenUp (places : List TrackPlace) (rs : List (TrackHead)) (left all : List (List ℕ)) : Type 0 where
   pub places_are : IsTrue (list_all is_fine places)
   pub heads_are : rs ≡ heads_from 0 places
   pub come : flat_map to_come places ++ starts_at left ≡ starts_at all
@@ -509,18 +509,18 @@ first-track content left h =
     let b : _ = and_true (is_ok (pairs_from (suc (length content)) None content)) (nat_le (length content) 16777216) a in
     (b.0, leb-true (length content) 16777216 b.1)
 
-append-none : (hs : List Head) → hs ++ [] ≡ hs
+append-none : (hs : List TrackHead) → hs ++ [] ≡ hs
 append-none [] = refl
-append-none (h ∷ hs) = ap (λ (xs : List Head). h ∷ xs) (append-none hs)
+append-none (h ∷ hs) = ap (λ (xs : List TrackHead). h ∷ xs) (append-none hs)
 
-pub one-taken : (places : List TrackPlace) (rs rs' : List (Head)) (content : List ℕ) (left all : List (List ℕ)) (v : TrackPlace) → TakenUp places rs (content ∷ left) all → IsTrue (is_fine v) → to_come v ≡ events_from 0 (rest_of None content) →
+pub one-taken : (places : List TrackPlace) (rs rs' : List (TrackHead)) (content : List ℕ) (left all : List (List ℕ)) (v : TrackPlace) → TakenUp places rs (content ∷ left) all → IsTrue (is_fine v) → to_come v ≡ events_from 0 (rest_of None content) →
     rs' ≡ rs ++ head_if (length places) v → TakenUp (places ++ v ∷ []) rs' left all
 unfolding rest_of pairs_of
 one-taken places rs rs' content left all v w fine come change = record {
   places_are = all-join places v [] w.places_are fine refl;
   heads_are =
-      change ∙ ap (λ (hs : List Head). hs ++ head_if (length places) v) w.heads_are
-      ∙ ap (λ (hs : List Head). heads_from 0 places ++ hs) (sym (append-none (head_if (length places) v)))
+      change ∙ ap (λ (hs : List TrackHead). hs ++ head_if (length places) v) w.heads_are
+      ∙ ap (λ (hs : List TrackHead). heads_from 0 places ++ hs) (sym (append-none (head_if (length places) v)))
       ∙ ap (λ (n : ℕ). heads_from 0 places ++ (head_if n v ++ [])) (let n : length places ≡ 0 + length places = omega arith in n)
       ∙ sym (heads-split places 0 v []);
   come =
@@ -535,7 +535,7 @@ append-nothing : (es : List Event) → es ++ [] ≡ es
 append-nothing [] = refl
 append-nothing (e ∷ es) = ap (λ (xs : List Event). e ∷ xs) (append-nothing es)
 
-pub all-taken : (places : List TrackPlace) (rs : List (Head)) (left all : List (List ℕ)) → TakenUp places rs left all → left ≡ [] → still_to_come places ≡ in_order tick (starts_at all)
+pub all-taken : (places : List TrackPlace) (rs : List (TrackHead)) (left all : List (List ℕ)) → TakenUp places rs left all → left ≡ [] → still_to_come places ≡ in_order tick (starts_at all)
 all-taken places rs left all w e = ap (in_order tick) (sym (append-nothing (flat_map to_come places)) ∙ ap (λ (cs : List (List ℕ)). flat_map to_come places ++ starts_at cs) (sym e) ∙ w.come)
 
 abbrev pub nows : List (Bor (List ℕ)) → List (List ℕ)
@@ -554,30 +554,30 @@ nothing-after (x ∷ xs) (suc i) h = nothing-after xs i (omega arith)
 
 -- ---- by what the code reads from the top of the heap
 
-top-of : (hs : List Head) (top : Head) → Some top ≡ slice_get hs 0 → (0 < length hs) × (top ≡ get_or hs 0 top)
+top-of : (hs : List TrackHead) (top : TrackHead) → Some top ≡ slice_get hs 0 → (0 < length hs) × (top ≡ get_or hs 0 top)
 top-of [] top e = let bad : ⊥ = cc in absurd bad
 top-of (h ∷ hs) top e = (omega arith, cc)
 
-pub next-here : (places : List TrackPlace) (hs : List Head) (top : Head) (v : TrackPlace) → IsPlaying places hs → Some top ≡ slice_get hs 0 → v ≡ get_or places top.track v → Next places hs top v
+pub next-here : (places : List TrackPlace) (hs : List TrackHead) (top : TrackHead) (v : TrackPlace) → IsPlaying places hs → Some top ≡ slice_get hs 0 → v ≡ get_or places top.track v → Next places hs top v
 next-here places hs top v p e is =
     let t : (0 < length hs) × (top ≡ get_or hs 0 top) = top-of hs top e in
     next-of places hs top v p (top-not-later hs top p.order t.1) t.0 t.1 is
 
-pub track-here : (places : List TrackPlace) (hs : List Head) (top : Head) → IsPlaying places hs → Some top ≡ slice_get hs 0 → top.track < length places
+pub track-here : (places : List TrackPlace) (hs : List TrackHead) (top : TrackHead) → IsPlaying places hs → Some top ≡ slice_get hs 0 → top.track < length places
 track-here places hs top p e =
     let t : (0 < length hs) × (top ≡ get_or hs 0 top) = top-of hs top e in
     track-of places hs top p (top-not-later hs top p.order t.1) t.0 t.1
 
-pub tick-here : (places : List TrackPlace) (hs : List Head) (top : Head) → IsPlaying places hs → Some top ≡ slice_get hs 0 → Some top.tick ≡ option_map (λ (e : Event). e.tick) (slice_get (still_to_come places) 0)
+pub tick-here : (places : List TrackPlace) (hs : List TrackHead) (top : TrackHead) → IsPlaying places hs → Some top ≡ slice_get hs 0 → Some top.tick ≡ option_map (λ (e : Event). e.tick) (slice_get (still_to_come places) 0)
 tick-here places hs top p e =
     let t : (0 < length hs) × (top ≡ get_or hs 0 top) = top-of hs top e in
     tick-of places hs top p (top-not-later hs top p.order t.1) t.0 t.1
 
-pub over-here : (places : List TrackPlace) (hs : List Head) → IsPlaying places hs → None ≡ slice_get hs 0 → still_to_come places ≡ []
+pub over-here : (places : List TrackPlace) (hs : List TrackHead) → IsPlaying places hs → None ≡ slice_get hs 0 → still_to_come places ≡ []
 over-here places [] p e = nothing-left places [] p refl
 over-here places (h ∷ hs) p e = let bad : ⊥ = cc in absurd bad
 
 -- the head that takes the place of the top
-pub top-counts : (hs hs' : List Head) (top : Head) (i : ℕ) (w : TrackPlace) → Some top ≡ slice_get hs 0 →
-    ((k d : Head) → count k hs' + at_head k (get_or hs 0 d) ≡ count k hs + count k (head_if i w)) → (k : Head) → count k hs' + at_head k top ≡ count k hs + count k (head_if i w)
-top-counts hs hs' top i w e change k = ap (λ (h : Head). count k hs' + at_head k h) (top-of hs top e).1 ∙ change k top
+pub top-counts : (hs hs' : List TrackHead) (top : TrackHead) (i : ℕ) (w : TrackPlace) → Some top ≡ slice_get hs 0 →
+    ((k d : TrackHead) → count k hs' + at_head k (get_or hs 0 d) ≡ count k hs + count k (head_if i w)) → (k : TrackHead) → count k hs' + at_head k top ≡ count k hs + count k (head_if i w)
+top-counts hs hs' top i w e change k = ap (λ (h : TrackHead). count k hs' + at_head k h) (top-of hs top e).1 ∙ change k top

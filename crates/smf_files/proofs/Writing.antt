@@ -250,7 +250,7 @@ back ppq tempo events t messages h = reads-text ppq tempo events (record {
   small = (let n : length (file_text ppq tempo events) ≡ length (events_text 0 events) + 33 = file-length ppq tempo events in omega arith);
 })
 
--- want of memory refuses no events
+-- out of memory refuses no events
 pub nothing-refused : {A : Type 0} (r : Result A WriteFault) (o : Option WriteFault) → IfErr r (λ x. x ≡ OutOfMemory) → o ≡ None → IfErr r (λ x. o ≡ told_refusal x)
 nothing-refused (Ok a) o h e = tt
 nothing-refused (Err x) o h e = e ∙ sym (ap told_refusal h)

@@ -1,10 +1,10 @@
--- What a file keeps of the bytes that it was read from.
+-- Representation: What a file keeps of the bytes that it was read from.
 use Rattle.std.specs.Prelude.{◌≡◌, ◌<◌, ◌^◌, ◌/◌, ◌%◌, ℕ, Bool, List, [], length, map, Ok, Err, is_ok, nat_le, ◌&&◌, if◌then◌else◌, IsTrue}
 use Rattle.std.specs.List.{list_all}
 use Rattle.tempo_clock.specs.declared.entry.TempoEntry.{TempoEntry}
 use Rattle.tempo_clock.specs.Entries.{is_tempo, is_ppq}
 use Rattle.smf_grammar.specs.Pairs.{Pair}
-use Rattle.smf_grammar.specs.Chunks.{is_frame_division, is_whole_rate}
+use Rattle.smf_grammar.specs.Chunks.{most_bytes, is_frame_division, is_whole_rate}
 use Rattle.smf_grammar.specs.Files.{MidiFile}
 use Rattle.smf_grammar.specs.Contents.{entries_of, skipped_of}
 use Rattle.smf_grammar.specs.Reading.{Pairs, pairs_of}
@@ -24,7 +24,7 @@ file_seen format division contents =
 
 -- a content is a track, of no more bytes than a file
 abbrev pub is_track : List ℕ → Bool
-is_track content = is_ok (pairs_of content) && nat_le (length content) 16777216
+is_track content = is_ok (pairs_of content) && nat_le (length content) most_bytes
 
 -- a division that a header may have: whole frames per second with ticks in each, or ticks per
 -- quarter note

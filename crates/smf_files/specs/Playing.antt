@@ -1,4 +1,4 @@
--- What a cursor still has to give.
+-- Representation: What a cursor still has to give.
 use Rattle.std.specs.Prelude.{◌≡◌, ◌≤◌, ◌<◌, ℕ, suc, ◌+◌, ◌*◌, Bool, true, false, List, [], ◌∷◌, ◌++◌, length, map, Option, Some, None, Result, Ok, Err, is_ok, is_some, nat_le, nat_lt, ◌==◌, ◌&&◌, ◌||◌, if◌then◌else◌, IsTrue, sum_by, slice_index_or}
 use Rattle.std.specs.List.{flat_map, list_all}
 use Rattle.midi_wire.specs.Kinds.{kind_of}
@@ -14,7 +14,7 @@ use Rattle.smf_files.specs.Kept.{pairs_or_none, pairs_seen}
 use Rattle.smf_files.specs.declared.place.TrackPlace.{TrackPlace}
 use Rattle.smf_files.specs.declared.place.NextMessage.{NextMessage}
 use Rattle.smf_files.specs.declared.place.NextMessage.TheVariants.{OneData, TwoData, Exclusive, End}
-use Rattle.smf_files.specs.declared.heads.Head.{Head}
+use Rattle.smf_files.specs.declared.heads.TrackHead.{TrackHead}
 
 -- the pairs of a track from here on, where so much is left of its content
 unfoldable pub rest_of : Option ℕ → List ℕ → List Pair
@@ -126,15 +126,15 @@ is_fine v =
     && (is_whole (running_in v) (left_in v) && is_early v.tick (left_in v))))))
 
 -- the tick and the number of each track that is not over
-abbrev pub head_if : ℕ → TrackPlace → List Head
+abbrev pub head_if : ℕ → TrackPlace → List TrackHead
 head_if track v = if is_over v then [] else (record { tick = v.tick; track = track } ∷ [])
 
-abbrev pub heads_from : ℕ → List TrackPlace → List Head
+abbrev pub heads_from : ℕ → List TrackPlace → List TrackHead
 heads_from track [] = []
 heads_from track (v ∷ places) = head_if track v ++ heads_from (suc track) places
 
 -- 1 at this head
-abbrev pub at_head : Head → Head → ℕ
+abbrev pub at_head : TrackHead → TrackHead → ℕ
 at_head k h = if (h.tick == k.tick) && (h.track == k.track) then 1 else 0
 
 -- F0 and its bytes
@@ -145,29 +145,29 @@ IsExclusive (grammar.Escape bytes) = ⊥
 IsExclusive (grammar.Meta kind bytes) = ⊥
 
 -- how often a head stands in a list
-abbrev pub count : Head → List Head → ℕ
+abbrev pub count : TrackHead → List TrackHead → ℕ
 count k hs = sum_by (at_head k) hs
 
 -- a later tick, or the same one of a later track
-abbrev pub is_later : Head → Head → Bool
+abbrev pub is_later : TrackHead → TrackHead → Bool
 is_later a b = nat_lt b.tick a.tick || ((b.tick == a.tick) && nat_lt b.track a.track)
 
 -- no head from a place on comes later than one of its children: the heap has the earliest on top
-abbrev pub IsHeapFrom : ℕ → List Head → Type 0
+abbrev pub IsHeapFrom : ℕ → List TrackHead → Type 0
 IsHeapFrom low hs =
-    (i k : ℕ) (d : Head) → low ≤ i → i * 2 + 1 ≤ k → k ≤ i * 2 + 2 → k < length hs
+    (i k : ℕ) (d : TrackHead) → low ≤ i → i * 2 + 1 ≤ k → k ≤ i * 2 + 2 → k < length hs
     → is_later (slice_index_or hs i d) (slice_index_or hs k d) ≡ false
 
 -- no child of a head comes before the one at this place
-abbrev pub IsFirstChild : List Head → ℕ → ℕ → Type 0
+abbrev pub IsFirstChild : List TrackHead → ℕ → ℕ → Type 0
 IsFirstChild hs at child =
-    (k : ℕ) (d : Head) → at * 2 + 1 ≤ k → k ≤ at * 2 + 2 → k < length hs
+    (k : ℕ) (d : TrackHead) → at * 2 + 1 ≤ k → k ≤ at * 2 + 2 → k < length hs
     → is_later (slice_index_or hs child d) (slice_index_or hs k d) ≡ false
 
 -- the places are fine, and the heads in the heap are theirs
-pub record IsPlaying (places : List TrackPlace) (heads : List Head) : Type 0 where
+pub record IsPlaying (places : List TrackPlace) (heads : List TrackHead) : Type 0 where
   pub places_are : IsTrue (list_all is_fine places)
-  pub heads_are : (k : Head) → count k heads ≡ count k (heads_from 0 places)
+  pub heads_are : (k : TrackHead) → count k heads ≡ count k (heads_from 0 places)
   pub order : IsHeapFrom 0 heads
 
 -- the next event is an exclusive message

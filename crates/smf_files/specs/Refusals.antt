@@ -1,4 +1,4 @@
--- Which events are refused as a file of format 0.
+-- Definition: Which events are refused as a file of format 0.
 use Rattle.std.specs.Prelude.{ℕ, List, length, not, nat_le, Option, Some, None, if◌then◌else◌}
 use Rattle.tempo_clock.specs.Entries.{is_ppq, is_tempo}
 use Rattle.smf_grammar.specs.declared.event.Event.{Event}
@@ -7,7 +7,7 @@ use Rattle.smf_grammar.specs.Texts.{file_text, bad_event}
 use Rattle.smf_files.specs.declared.fault.WriteFault.{WriteFault}
 use Rattle.smf_files.specs.declared.fault.WriteFault.TheVariants.{BadPpq, BadTempo, BadEvent, TooLarge, OutOfMemory}
 
--- the first event that can't be written, or a text that is too large
+-- the first event that cannot be written, or a text that is too large
 abbrev pub refusal_by : Option ℕ → ℕ → Option WriteFault
 refusal_by (Some index) size = Some (BadEvent index)
 refusal_by None size = if nat_le size most_bytes then None else Some TooLarge
@@ -20,7 +20,7 @@ write_refusal ppq tempo events =
     (if not (is_tempo tempo) then Some BadTempo else
     refusal_by (bad_event 0 events) (length (file_text ppq tempo events)))
 
--- what a fault says of the events: want of memory says nothing
+-- what a fault says of the events: out of memory says nothing
 abbrev pub told_refusal : WriteFault → Option WriteFault
 told_refusal BadPpq = Some BadPpq
 told_refusal BadTempo = Some BadTempo

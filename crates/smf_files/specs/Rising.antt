@@ -1,4 +1,4 @@
--- Events in order of tick.
+-- Definition: Events in order of tick.
 use Rattle.std.specs.Prelude.{Bool, true, List, [], ◌∷◌, nat_le, ◌&&◌}
 use Rattle.std.specs.List.{list_all}
 use Rattle.smf_grammar.specs.declared.event.Event.{Event}

@@ -1,4 +1,4 @@
--- What was taken from a track that was read through.
+-- Representation: What was taken from a track that was read through.
 use Rattle.std.specs.Prelude.{◌≡◌, ◌≢◌, ℕ, Bool, List, ◌++◌, if◌then◌else◌}
 use Rattle.tempo_clock.specs.declared.entry.TempoEntry.{TempoEntry}
 use Rattle.smf_grammar.specs.declared.fault.SmfFault.{SmfFault}
@@ -19,6 +19,6 @@ pub record TrackTaken (metrical : Bool) (content : List ℕ) (old new : List Tem
   pub tempos : new ≡ with_tempos metrical old pairs
   pub counted : skipped ≡ skipped_in metrical pairs
 
--- a fault is told, or memory was refused
+-- a fault is reported, or memory was refused
 abbrev pub Faulty : (SmfFault → Type 0) → SmfFault → Type 0
 Faulty P x = x ≢ OutOfMemory → P x

@@ -6,7 +6,7 @@ ghost use Rattle.std.specs.Option.{option_map};
 ghost use Rattle.smf_files.specs.Kept.{is_track};
 ghost use Rattle.smf_files.specs.Playing.{all_events, IsNextExclusive};
 
-use crate::heads::{Head, make_heap, push_head, replace_first};
+use crate::heads::{TrackHead, make_heap, push_head, replace_first};
 use crate::place::{TrackPlace, find, message_of};
 use memory::OutOfMemory;
 use smf_grammar::Event;
@@ -21,7 +21,7 @@ use std::marker::Model;
 pub struct Cursor<'b> {
     alloc: Global,
     places: Vec<TrackPlace<'b>>,
-    heads: Vec<Head>,
+    heads: Vec<TrackHead>,
 }
 
 impl<'b> Model for Cursor<'b> {

@@ -1,4 +1,4 @@
-//! Why events can't be written as a file.
+//! Why events cannot be written as a file.
 
 use memory::OutOfMemory;
 use std::alloc::AllocError;

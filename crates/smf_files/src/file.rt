@@ -54,7 +54,7 @@ impl<'b> Model for SmfFile<'b> {
 }
 
 impl<'b> SmfFile<'b> {
-    /// Reads a file in one pass: it is one, or its first fault is told.
+    /// Reads a file in one pass: it is one, or its first fault is reported.
     pub fn read(alloc: Global, bytes: &'b [u8]) -> Result<SmfFile<'b>, SmfFault>
         ensures file { IfOk result (λ f. IsFile bytes.now f) }
         ensures fault { IfErr result (λ x. Faulty (Fault bytes.now) x) }

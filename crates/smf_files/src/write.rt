@@ -12,22 +12,13 @@ ghost use Rattle.smf_files.specs.Refusals.{write_refusal, told_refusal};
 use crate::fault::WriteFault;
 use byteorder::{BigEndian, ByteOrder};
 use memory::OutOfMemory;
-use midi_wire::Message;
-use smf_grammar::Event;
+use midi_wire::{EXCLUSIVE, Message};
+use smf_grammar::{Event, MOST_BYTES};
 use std::alloc::Global;
-
-/// The greatest number of ticks per quarter note that the fifteen bits of a division hold.
-const MOST_PPQ: u16 = 32_767;
-
-/// The greatest tempo that the three bytes of a tempo event hold.
-const MOST_TEMPO: u32 = 16_777_215;
+use tempo_clock::{MOST_PPQ, MOST_TEMPO};
 
 /// The greatest delta time, 0FFFFFFF.
 const MOST_DELTA: u64 = 268_435_455;
-
-/// The status of an exclusive message, above that of every channel message and below those of system common and real
-/// time.
-const EXCLUSIVE: u8 = 0xF0;
 
 /// How many bytes a file has besides its events: the headers of the file and of the track, the tempo and the end of
 /// track.
@@ -36,8 +27,8 @@ const FRAME: usize = 33;
 /// How many bytes of a track stand beside its events.
 const TRACK_FRAME: u32 = 11;
 
-/// How many bytes events have at most in a file of 16,777,216 bytes.
-const MOST_EVENT_BYTES: usize = 16_777_216 - FRAME;
+/// How many bytes events have at most in a file.
+const MOST_EVENT_BYTES: usize = MOST_BYTES - FRAME;
 
 /// Whether an event can stand after one at the tick `before`.
 fn can_follow(before: u64, event: &Event) -> bool
@@ -52,10 +43,11 @@ pub fn stands_in_files(message: &Message) -> bool
     ensures value { result ≡ stands_in_files (begins (status_of message.now)) }
     ensures message { IsMessage message.now }
 {
+    // System common and real time have the statuses above it.
     message.status() <= EXCLUSIVE
 }
 
-/// The index of the first event that can't be written.
+/// The index of the first event that cannot be written.
 fn first_bad(events: &[Event]) -> Option<usize>
     ensures value { result ≡ bad_event 0 events.now }
     ensures messages { IfNone result (AllMessages (map (λ e. e.message) events.now)) }
@@ -252,7 +244,7 @@ pub fn write_format0(
     ensures refused { IfErr result (λ x. write_refusal ppq tempo events.now ≡ told_refusal x) }
     ensures reads_back { OnOk result (ReadsBack ppq tempo events.now) }
 {
-    if ppq == 0 || ppq > MOST_PPQ {
+    if ppq == 0 || u32::from(ppq) > MOST_PPQ {
         return Err(WriteFault::BadPpq);
     }
     if tempo == 0 || tempo > MOST_TEMPO {

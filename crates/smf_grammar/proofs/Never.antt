@@ -1,4 +1,4 @@
--- No fault of bytes is want of memory.
+-- No fault of bytes is out of memory.
 use Rattle.std.proofs.Common.{◌≡◌, ◌≢◌, ℕ, ◌+◌, ◌-◌, ◌/◌, ◌%◌, Bool, true, false, not, List, length, drop, sym, inl, inr}
 use Rattle.std.specs.Prelude.{Result, Ok, Err, nat_le, ◌==◌, ◌&&◌, codes}
 use Rattle.byteorder.specs.Endian.{big_number}

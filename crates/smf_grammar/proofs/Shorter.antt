@@ -8,7 +8,7 @@ use Rattle.midi_wire.specs.declared.status.StatusClass.{StatusClass}
 use Rattle.midi_wire.specs.Messages.{begins, is_status}
 use Rattle.midi_wire.specs.declared.status.StatusClass.TheVariants as wire
 use Rattle.smf_grammar.specs.Outcomes.{◌>>=◌, fault_unless}
-use Rattle.smf_grammar.specs.Quantities.{continued, septets, quantity}
+use Rattle.smf_grammar.specs.Quantities.{continuation_count, septets, quantity}
 use Rattle.smf_grammar.specs.declared.fault.QuantityFault.{QuantityFault}
 use Rattle.smf_grammar.specs.declared.fault.QuantityFault.TheVariants.{Short, Long}
 use Rattle.smf_grammar.specs.declared.fault.PairFault.{PairFault}
@@ -20,12 +20,12 @@ use Rattle.smf_grammar.specs.declared.fault.ChunkFault.TheVariants.{Missing, Cut
 use Rattle.byteorder.specs.Endian.{big_number}
 use Rattle.smf_grammar.proofs.Binds.{Bound, bind-ok, Shortens, shortens-err, shortens-ok, shortens-if, shortens-unless, shortens-bind}
 
-pub continued-within : (bytes : List ℕ) → continued bytes ≤ length bytes
+pub continued-within : (bytes : List ℕ) → continuation_count bytes ≤ length bytes
 continued-within [] = omega arith
 continued-within (b ∷ bytes) =
     go (is_status b) (continued-within bytes)
   where
-    go : (t : Bool) → continued bytes ≤ length bytes → (if t then suc (continued bytes) else 0) ≤ suc (length bytes)
+    go : (t : Bool) → continuation_count bytes ≤ length bytes → (if t then suc (continuation_count bytes) else 0) ≤ suc (length bytes)
     go true h = omega arith
     go false h = omega arith
 
@@ -39,15 +39,15 @@ SizedBy left size = (0 < size) × (size ≤ length left)
 pub quantity-sized : (left : List ℕ) (found : ℕ × ℕ) → quantity left ≡ Ok found → (0 < found.1) × (found.1 ≤ length left)
 unfolding quantity size_of
 quantity-sized left found e =
-    go (nat_le 4 (continued left)) (continued left == length left) refl e
+    go (nat_le 4 (continuation_count left)) (continuation_count left == length left) refl e
   where
-    go : (t u : Bool) → (continued left == length left) ≡ u → (if t then Err Long else (if u then Err Short else Ok (septets 0 (take (suc (continued left)) left), suc (continued left)))) ≡ Ok found → (0 < found.1) × (found.1 ≤ length left)
+    go : (t u : Bool) → (continuation_count left == length left) ≡ u → (if t then Err Long else (if u then Err Short else Ok (septets 0 (take (suc (continuation_count left)) left), suc (continuation_count left)))) ≡ Ok found → (0 < found.1) × (found.1 ≤ length left)
     go true u is e = let bad : ⊥ = cc in absurd bad
     go false true is e = let bad : ⊥ = cc in absurd bad
     go false false is e =
-        let size : suc (continued left) ≡ found.1 = ap size_of e in
-        let apart : continued left ≡ length left → ⊥ = λ same. (let yes : (continued left == length left) ≡ true = eq-eqb (continued left) (length left) same in cc) in
-        let within : continued left ≤ length left = continued-within left in
+        let size : suc (continuation_count left) ≡ found.1 = ap size_of e in
+        let apart : continuation_count left ≡ length left → ⊥ = λ same. (let yes : (continuation_count left == length left) ≡ true = eq-eqb (continuation_count left) (length left) same in cc) in
+        let within : continuation_count left ≤ length left = continued-within left in
         (omega arith, omega (arith, apart))
 
 -- a quantity takes a byte at least

@@ -1,4 +1,5 @@
--- The header of a file and its chunks (Standard MIDI Files 1.0, "Chunks" and "Header Chunks").
+-- Definition: The header of a file and its chunks (Standard MIDI Files 1.0, "Chunks" and "Header
+-- Chunks").
 --
 -- As with pairs, each definition reads one item at the front of what is left, by the tests of the
 -- format in their order.
@@ -46,7 +47,8 @@ header_of format tracks division =
     (fault_unless (is_track_count format tracks) BadTrackCount
     (fault_unless (not (division == 0)) ZeroDivision
     (fault_unless (not (is_frame_division division && division / 256 == 227)) DropFrame
-    (fault_unless (not (is_frame_division division && not (is_whole_rate (division / 256)))) SmpteDivision
+    (fault_unless (not (is_frame_division division && not (is_whole_rate (division / 256))))
+    SmpteDivision
     (fault_unless (not (is_frame_division division && division % 256 == 0)) ZeroDivision
     (Ok (record { format = format; tracks = tracks; division = division }))))))))
 

@@ -1,5 +1,5 @@
--- What a file says: its events, its tempo entries, and how many events are skipped (Standard MIDI
--- Files 1.0).
+-- Definition: What a file says: its events, its tempo entries, and how many events are skipped
+-- (Standard MIDI Files 1.0).
 use Rattle.std.specs.Prelude.{ℕ, ◌+◌, Bool, true, false, not, List, [], ◌∷◌, ◌++◌, length, Option, Some, None, is_some, nat_le, ◌==◌, ◌&&◌, if◌then◌else◌}
 use Rattle.std.specs.List.{flat_map}
 use Rattle.byteorder.specs.Endian.{big_number}
@@ -15,7 +15,8 @@ use Rattle.smf_grammar.specs.Files.{MidiFile}
 -- puts an item before the first that does not come before it
 abbrev pub put_by_tick : {A : Type 0} → (A → ℕ) → A → List A → List A
 put_by_tick tick x [] = x ∷ []
-put_by_tick tick x (y ∷ ys) = if nat_le (tick x) (tick y) then (x ∷ y ∷ ys) else (y ∷ put_by_tick tick x ys)
+put_by_tick tick x (y ∷ ys) =
+    if nat_le (tick x) (tick y) then (x ∷ y ∷ ys) else (y ∷ put_by_tick tick x ys)
 
 -- by tick; items at one tick stay in their order
 abbrev pub in_order : {A : Type 0} → (A → ℕ) → List A → List A

@@ -1,4 +1,5 @@
--- The number, the name and the place of each fault of a file, and the texts of all faults.
+-- Definition: The number, the name and the place of each fault of a file, and the texts of all
+-- faults.
 use Rattle.std.specs.Prelude.{ℕ, List, [], ◌++◌, Option, Some, None, codes}
 use Rattle.std.specs.Fmt.{decimal}
 use Rattle.smf_grammar.specs.declared.fault.QuantityFault.{QuantityFault}

@@ -1,4 +1,5 @@
--- Files: which bytes are one, and what is wrong with all others (Standard MIDI Files 1.0).
+-- Definition: Files: which bytes are one, and what is wrong with all others (Standard MIDI Files
+-- 1.0).
 use Rattle.std.specs.Prelude.{◌≡◌, ◌<◌, ℕ, ◌+◌, ◌-◌, true, false, List, [], ◌∷◌, ◌++◌, length, Option, None, Result, Ok, Err, ◌⊎◌}
 use Rattle.smf_grammar.specs.Pairs.{Pair, is_end, running_after, pair_at}
 use Rattle.smf_grammar.specs.Chunks.{Header, header_at, Chunk, chunk_at}

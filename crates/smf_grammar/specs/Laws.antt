@@ -1,4 +1,4 @@
--- What holds of files, for all bytes.
+-- Law: What holds of files, for all bytes.
 use Rattle.std.specs.Prelude.{◌≡◌, ◌≤◌, ◌<◌, ℕ, suc, ◌+◌, List, [], ◌∷◌, ◌++◌, map, length, IsTrue, Option, Some, None, ◌⊎◌, ◌↔◌, Ok, Err}
 use Rattle.std.specs.List.Sorted.{IsPermutation}
 use Rattle.smf_grammar.specs.declared.event.Event.{Event}
@@ -15,7 +15,8 @@ use Rattle.smf_grammar.specs.Reading.{file_reading}
 
 -- the bytes are a file, or they have a fault
 abbrev pub FileOrFault : Type 0
-FileOrFault = (bytes : List ℕ) → ((f : MidiFile) × IsFile bytes f) ⊎ ((x : SmfFault) × Fault bytes x)
+FileOrFault =
+    (bytes : List ℕ) → ((f : MidiFile) × IsFile bytes f) ⊎ ((x : SmfFault) × Fault bytes x)
 
 -- they are one file at most
 abbrev pub OneFile : Type 0
@@ -116,6 +117,6 @@ ReadsText =
     (ppq tempo : ℕ) (events : List Event) → CanBeWritten ppq tempo events
     → ReadsBack ppq tempo events
 
--- the fault of bytes is never want of memory
+-- the fault of bytes is never out of memory
 abbrev pub FaultsOfBytes : Type 0
 FaultsOfBytes = (bytes : List ℕ) → Fault bytes OutOfMemory → ⊥

@@ -1,4 +1,5 @@
--- The pairs of a track: a delta time and an event (Standard MIDI Files 1.0, "Track Chunks").
+-- Definition: The pairs of a track: a delta time and an event (Standard MIDI Files 1.0, "Track
+-- Chunks").
 --
 -- Each definition reads one item at the front of what is left of a content, by the tests of the
 -- format in their order, and gives the item with what is left after it, or the first test that
@@ -94,7 +95,8 @@ running_at (Some status) left = voice_at status left
 unfoldable pub sized_at : List ℕ → Result (List ℕ × List ℕ) PairFault
 sized_at left = do
   size ← quantity_at left
-  fault_unless (nat_le size.0 (length size.1)) Truncated (Ok (take size.0 size.1, drop size.0 size.1))
+  fault_unless (nat_le size.0 (length size.1)) Truncated
+      (Ok (take size.0 size.1, drop size.0 size.1))
 
 -- a type, a quantity and so many bytes
 unfoldable pub meta_at : List ℕ → Result (TrackEvent × List ℕ) PairFault

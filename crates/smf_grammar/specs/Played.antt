@@ -1,4 +1,4 @@
--- What a sequencer takes from a Standard MIDI File.
+-- Definition: What a sequencer takes from a Standard MIDI File.
 use Rattle.std.specs.Prelude.{ℕ, List}
 use Rattle.tempo_clock.specs.declared.entry.TempoEntry.{TempoEntry}
 use Rattle.smf_grammar.specs.declared.event.Event.{Event}
@@ -12,5 +12,5 @@ pub record PlayedFile : Type 0 where
   pub events : List Event
 
 -- a file, as it is played
-abbrev pub played : MidiFile → PlayedFile
-played f = record { division = f.division; entries = entries_of f; events = events_of f }
+abbrev pub as_played : MidiFile → PlayedFile
+as_played f = record { division = f.division; entries = entries_of f; events = events_of f }

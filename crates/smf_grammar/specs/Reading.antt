@@ -1,5 +1,5 @@
--- A file read item by item: what the definitions say of any bytes, as a function, so that it can be
--- computed.
+-- Representation: A file read item by item: what the definitions say of any bytes, as a function,
+-- so that it can be computed.
 use Rattle.std.specs.Prelude.{ℕ, zero, suc, ◌+◌, ◌-◌, List, [], ◌∷◌, length, Option, None, Result, Ok, Err, if◌then◌else◌}
 use Rattle.smf_grammar.specs.Outcomes.{◌>>=◌}
 use Rattle.smf_grammar.specs.Pairs.{Pair, is_end, running_after, pair_at}

@@ -1,4 +1,4 @@
--- What the definitions say of a few files.
+-- Worked rows: What the definitions say of a few files.
 use Rattle.std.specs.Prelude.{◌≡◌, ℕ, List, [], ◌∷◌, ◌++◌, length, take, Result, Ok, Err, slice_set}
 use Rattle.tempo_clock.specs.declared.entry.TempoEntry.{TempoEntry}
 use Rattle.smf_grammar.specs.Quantities.{quantity}
@@ -30,8 +30,8 @@ header high low = 77 ∷ 84 ∷ 104 ∷ 100 ∷ 0 ∷ 0 ∷ 0 ∷ 6 ∷ 0 ∷ 0 
 abbrev pub track_of_length : ℕ → List ℕ → List ℕ
 track_of_length size content = 77 ∷ 84 ∷ 114 ∷ 107 ∷ 0 ∷ 0 ∷ 0 ∷ size ∷ content
 
-abbrev pub alien : List ℕ
-alien = 88 ∷ 89 ∷ 90 ∷ 49 ∷ 0 ∷ 0 ∷ 0 ∷ 2 ∷ 170 ∷ 187 ∷ []
+abbrev pub alien_chunk : List ℕ
+alien_chunk = 88 ∷ 89 ∷ 90 ∷ 49 ∷ 0 ∷ 0 ∷ 0 ∷ 2 ∷ 170 ∷ 187 ∷ []
 
 -- a tempo, a note that sounds for 480 ticks, and the end
 abbrev pub note_track : List ℕ
@@ -39,7 +39,7 @@ note_track =
     0 ∷ 255 ∷ 81 ∷ 3 ∷ 7 ∷ 161 ∷ 32 ∷ 0 ∷ 144 ∷ 60 ∷ 64 ∷ 131 ∷ 96 ∷ 60 ∷ 0 ∷ 0 ∷ 255 ∷ 47 ∷ 0 ∷ []
 
 abbrev pub small : List ℕ
-small = header 1 224 ++ alien ++ track_of_length 19 note_track
+small = header 1 224 ++ alien_chunk ++ track_of_length 19 note_track
 
 -- a file that says this
 pub record IsSaid (f : MidiFile) (format tracks division : ℕ) (entries : List TempoEntry)
@@ -91,7 +91,8 @@ pub record TwoTracks : Type 0 where
       ∷ []) (at 96 (144 ∷ 1 ∷ 64 ∷ []) ∷ at 96 (144 ∷ 2 ∷ 64 ∷ []) ∷ at 96 (144 ∷ 3 ∷ 64 ∷ [])
       ∷ []) 0
   pub three : Refuses (two_tracks 3) TrackMissing
-  pub one : Says (two_tracks 1) 1 1 96 (tempo_entry 0 250000 ∷ []) (at 96 (144 ∷ 1 ∷ 64 ∷ []) ∷ []) 0
+  pub one : Says (two_tracks 1) 1 1 96 (tempo_entry 0 250000 ∷ [])
+      (at 96 (144 ∷ 1 ∷ 64 ∷ []) ∷ []) 0
 
 -- the first bytes of the small file
 pub record CutFiles : Type 0 where
@@ -109,15 +110,15 @@ pub record CutFiles : Type 0 where
   pub fifty : Refuses (take 50 small) (Truncated 24)
 
 -- 25 frames per second, 40 ticks in each
-abbrev pub framed : ℕ → ℕ → List ℕ
-framed high low = header high low ++ alien ++ track_of_length 19 note_track
+abbrev pub frame_file : ℕ → ℕ → List ℕ
+frame_file high low = header high low ++ alien_chunk ++ track_of_length 19 note_track
 
 pub record FramedFile : Type 0 where
-  pub whole : Says (framed 231 40) 0 1 59176 [] (at 0 (144 ∷ 60 ∷ 64 ∷ [])
+  pub whole : Says (frame_file 231 40) 0 1 59176 [] (at 0 (144 ∷ 60 ∷ 64 ∷ [])
       ∷ at 480 (144 ∷ 60 ∷ 0 ∷ []) ∷ []) 0
-  pub no_ticks : Refuses (framed 231 0) ZeroDivision
-  pub dropped : Refuses (framed 227 40) DropFrame
-  pub other : Refuses (framed 224 40) SmpteDivision
+  pub no_ticks : Refuses (frame_file 231 0) ZeroDivision
+  pub dropped : Refuses (frame_file 227 40) DropFrame
+  pub other : Refuses (frame_file 224 40) SmpteDivision
 
 -- a header of seven bytes, of which the last says nothing
 abbrev pub long_header : List ℕ
@@ -143,21 +144,25 @@ status_gone =
     ∷ 255 ∷ 47 ∷ 0 ∷ [])
 
 pub record ExclusiveFiles : Type 0 where
-  pub whole : Says exclusives 0 1 480 (tempo_entry 0 500000 ∷ []) (at 0 (240 ∷ 125 ∷ 1 ∷ 247 ∷ []) ∷ []) 2
+  pub whole : Says exclusives 0 1 480 (tempo_entry 0 500000 ∷ [])
+      (at 0 (240 ∷ 125 ∷ 1 ∷ 247 ∷ []) ∷ []) 2
   pub gone : Refuses status_gone (NoStatus 30)
 
--- meta events: a name, a tempo of four bytes and another name, each some ticks after the one before;
--- the end has a byte, and behind it there is a note
+-- meta events: a name, a tempo of four bytes and another name, each some ticks after the one
+-- before; the end has a byte, and behind it there is a note
 abbrev pub metas : ℕ → ℕ → List ℕ
 metas high low =
-    header high low ++ track_of_length 36 (0 ∷ 255 ∷ 3 ∷ 1 ∷ 65 ∷ 10 ∷ 255 ∷ 81 ∷ 4 ∷ 3 ∷ 208 ∷ 144 ∷ 0
-    ∷ 20 ∷ 255 ∷ 3 ∷ 2 ∷ 66 ∷ 67 ∷ 30 ∷ 144 ∷ 60 ∷ 64 ∷ 40 ∷ 255 ∷ 47 ∷ 1 ∷ 0 ∷ 0 ∷ 144 ∷ 62 ∷ 64 ∷ 0 ∷ 255
+    header high low ++ track_of_length 36
+    (0 ∷ 255 ∷ 3 ∷ 1 ∷ 65 ∷ 10 ∷ 255 ∷ 81 ∷ 4 ∷ 3 ∷ 208 ∷ 144 ∷ 0
+    ∷ 20 ∷ 255 ∷ 3 ∷ 2 ∷ 66 ∷ 67 ∷ 30 ∷ 144 ∷ 60 ∷ 64 ∷ 40 ∷ 255 ∷ 47 ∷ 1 ∷ 0 ∷ 0 ∷ 144 ∷ 62 ∷ 64
+    ∷ 0 ∷ 255
     ∷ 47 ∷ 0 ∷ [])
 
--- names are passed over and not counted; the tempo sets none, and is counted where tempo counts; the
--- first end is the end
+-- names are passed over and not counted; the tempo sets none, and is counted where tempo counts;
+-- the first end is the end
 pub record MetaFiles : Type 0 where
-  pub by_quarters : Says (metas 1 224) 0 1 480 (tempo_entry 0 500000 ∷ []) (at 60 (144 ∷ 60 ∷ 64 ∷ []) ∷ []) 1
+  pub by_quarters : Says (metas 1 224) 0 1 480 (tempo_entry 0 500000 ∷ [])
+      (at 60 (144 ∷ 60 ∷ 64 ∷ []) ∷ []) 1
   pub by_frames : Says (metas 231 40) 0 1 59176 [] (at 60 (144 ∷ 60 ∷ 64 ∷ []) ∷ []) 0
 
 -- one note on, as it is written
@@ -165,5 +170,6 @@ pub record WrittenFile : Type 0 where
   pub text : file_text 480 500000 (at 0 (144 ∷ 60 ∷ 64 ∷ []) ∷ []) ≡ header 1 224
       ++ track_of_length 15 (0 ∷ 255 ∷ 81 ∷ 3 ∷ 7 ∷ 161 ∷ 32 ∷ 0 ∷ 144 ∷ 60 ∷ 64 ∷ 0 ∷ 255 ∷ 47 ∷ 0
       ∷ [])
-  pub back : Says (file_text 480 500000 (at 0 (144 ∷ 60 ∷ 64 ∷ []) ∷ [])) 0 1 480 (tempo_entry 0 500000
+  pub back : Says (file_text 480 500000 (at 0 (144 ∷ 60 ∷ 64 ∷ []) ∷ [])) 0 1 480
+      (tempo_entry 0 500000
       ∷ []) (at 0 (144 ∷ 60 ∷ 64 ∷ []) ∷ []) 0

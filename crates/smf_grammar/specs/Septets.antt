@@ -1,4 +1,4 @@
--- A quantity read byte by byte.
+-- Representation: A quantity read byte by byte.
 use Rattle.std.specs.Prelude.{ℕ, zero, suc, ◌+◌, ◌*◌, ◌%◌, List, [], ◌∷◌, Result, Ok, Err, nat_lt, if◌then◌else◌}
 use Rattle.smf_grammar.specs.declared.fault.PairFault.{PairFault}
 use Rattle.smf_grammar.specs.declared.fault.PairFault.TheVariants.{Truncated, LongQuantity}

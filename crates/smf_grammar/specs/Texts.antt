@@ -1,4 +1,4 @@
--- The text of a file with one track, as it is written.
+-- Definition: The text of a file with one track, as it is written.
 use Rattle.std.specs.Prelude.{ℕ, suc, ◌+◌, ◌-◌, ◌/◌, ◌%◌, Bool, List, [], ◌∷◌, ◌++◌, length, Option, Some, None, nat_lt, nat_le, ◌==◌, ◌&&◌, if◌then◌else◌, codes}
 use Rattle.std.specs.Option.{option_map}
 use Rattle.byteorder.specs.Endian.{big_bytes}
@@ -61,7 +61,7 @@ can_follow before e =
     nat_le before e.tick && (nat_le (e.tick - before) most_delta
     && stands_in_files (begins (status_of e.message)))
 
--- the index of the first event that can't be written, if there is one
+-- the index of the first event that cannot be written, if there is one
 abbrev pub bad_event : ℕ → List Event → Option ℕ
 bad_event before [] = None
 bad_event before (e ∷ events) =

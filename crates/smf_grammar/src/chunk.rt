@@ -9,7 +9,7 @@ use crate::fault::{ChunkFault, SmfFault};
 use byteorder::{BigEndian, ByteOrder};
 
 /// The most bytes of a file.
-const MOST_BYTES: usize = 16_777_216;
+pub const MOST_BYTES: usize = 16_777_216;
 
 /// What the header of a file says.
 #[derive(Clone, Copy)]

@@ -9,7 +9,7 @@ mod laws;
 mod pair;
 mod rows;
 
-pub use chunk::{ChunkBytes, Header, chunk_at, counts_frames, header_at};
+pub use chunk::{ChunkBytes, Header, MOST_BYTES, chunk_at, counts_frames, header_at};
 pub use content::{fault_of_pair, tempo_in};
 pub use event::Event;
 pub use fault::{ChunkFault, PairFault, QuantityFault, SmfFault};

@@ -5,7 +5,7 @@ use Rattle.tempo_clock.specs.declared.due.Due.{Due}
 use Rattle.tempo_clock.specs.declared.due.Due.TheVariants.{Tick, Nanos}
 use Rattle.tempo_clock.specs.Search.{least}
 use Rattle.tempo_clock.specs.Ticks.{Tempos, resolution, nanos_at, first_tick_from, with_tempo_from}
-use Rattle.tempo_clock.specs.Clocks.{Clock, elapsed, runs_by, changed_from, with_tempo, due_time, is_due, moment_of}
+use Rattle.tempo_clock.specs.Clocks.{Clock, elapsed_time, runs_by, changed_from, with_tempo, due_time, is_due, moment_of}
 use Rattle.tempo_clock.specs.Laws.{IsMoment, NoLater}
 use Rattle.tempo_clock.proofs.Searches.{IsLeast, least-found, least-none_passes, least-is}
 use Rattle.tempo_clock.proofs.Comparisons.{order, is_above, both, joined, not_both}
@@ -36,13 +36,13 @@ moments_are_later c accepted due moment e =
 -- what is due is due where it was accepted and due no later
 due_too : (c : Clock) (a b : ℕ) (d e : Due) (t : ℕ) → a ≤ b → due_time c.map d ≤ due_time c.map e → is_due c b e t ≡ true → is_due c a d t ≡ true
 due_too c a b d e t h k due =
-    let x = both (leb b t) (runs_by c.since t && leb (due_time c.map e) (elapsed c t)) due in
-    let y = both (runs_by c.since t) (leb (due_time c.map e) (elapsed c t)) x.1 in
+    let x = both (leb b t) (runs_by c.since t && leb (due_time c.map e) (elapsed_time c t)) due in
+    let y = both (runs_by c.since t) (leb (due_time c.map e) (elapsed_time c t)) x.1 in
     let accepted : b ≤ t = leb-true _ _ x.0 in
-    let shows : due_time c.map e ≤ elapsed c t = leb-true _ _ y.1 in
+    let shows : due_time c.map e ≤ elapsed_time c t = leb-true _ _ y.1 in
     let accepted' : leb a t ≡ true = le-leb a t (omega arith) in
-    let shows' : leb (due_time c.map d) (elapsed c t) ≡ true = le-leb (due_time c.map d) (elapsed c t) (omega arith) in
-    joined (leb a t) (runs_by c.since t && leb (due_time c.map d) (elapsed c t)) accepted' (joined (runs_by c.since t) (leb (due_time c.map d) (elapsed c t)) y.0 shows')
+    let shows' : leb (due_time c.map d) (elapsed_time c t) ≡ true = le-leb (due_time c.map d) (elapsed_time c t) (omega arith) in
+    joined (leb a t) (runs_by c.since t && leb (due_time c.map d) (elapsed_time c t)) accepted' (joined (runs_by c.since t) (leb (due_time c.map d) (elapsed_time c t)) y.0 shows')
 
 pub moments_rise : (c : Clock) (a b : ℕ) (d e : Due) → a ≤ b → due_time c.map d ≤ due_time c.map e → NoLater (moment_of c a d) (moment_of c b e)
 moments_rise c a b d e h k = go (moment_of c a d) (moment_of c b e) refl refl

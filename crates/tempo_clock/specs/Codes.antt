@@ -1,4 +1,5 @@
--- The codes of due times, tempo entries and clocks, by which a model may have them in its value.
+-- Representation: The codes of due times, tempo entries and clocks, by which a model may have them
+-- in its value.
 use Rattle.std.specs.Prelude.{◌≡◌, ℕ, List, Option, ◌⊎◌, refl}
 use Rattle.std.proofs.Common.{inl, inr}
 use Rattle.std.specs.Coded.{Coded, code_by, coded×, coded⊎, coded_list, coded_option, coded_ℕ}

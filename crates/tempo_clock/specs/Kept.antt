@@ -1,4 +1,5 @@
--- What a tempo map keeps beside its entries, so that ticks are found by binary search.
+-- Representation: What a tempo map keeps beside its entries, so that ticks are found by binary
+-- search.
 use Rattle.std.specs.Prelude.{◌≡◌, ℕ, ◌-◌, ◌^◌, ◌<◌, ◌≤◌, List, length, take, filter, nat_lt, slice_index, slice_index_or}
 use Rattle.tempo_clock.specs.declared.entry.TempoEntry.{TempoEntry}
 use Rattle.tempo_clock.specs.Ticks.{Tempos, resolution, numerator}
@@ -10,14 +11,16 @@ entry_at entries i = slice_index_or entries i (record { tick = 0; tempo = 0 })
 -- the first entry stands at tick 0, the ticks rise, and each tempo is above 0 and fits three bytes
 pub record AreOrdered (entries : List TempoEntry) : Type 0 where
   pub first : (entry_at entries 0).tick ≡ 0
-  pub rising : (i j : ℕ) → i < j → j < length entries → (entry_at entries i).tick < (entry_at entries j).tick
+  pub rising : (i j : ℕ) → i < j → j < length entries
+      → (entry_at entries i).tick < (entry_at entries j).tick
   pub above : (i : ℕ) → i < length entries → 0 < (entry_at entries i).tempo
   pub below : (i : ℕ) → (entry_at entries i).tempo < 2 ^ 24
 
 -- the numerator of each entry's tick
 pub record AreStarts (m : Tempos) (starts : List ℕ) : Type 0 where
   pub counted : length starts ≡ length m.entries
-  pub each : (i : ℕ) → i < length m.entries → slice_index starts i ≡ numerator m (entry_at m.entries i).tick
+  pub each : (i : ℕ) → i < length m.entries
+      → slice_index starts i ≡ numerator m (entry_at m.entries i).tick
 
 -- the ticks per quarter note or second, and the numerators of the entries
 pub record AreStartsKept (m : Tempos) (ppq : ℕ) (starts : List ℕ) : Type 0 where
@@ -29,7 +32,8 @@ pub record AreStartsKept (m : Tempos) (ppq : ℕ) (starts : List ℕ) : Type 0 w
   pub ordered : AreOrdered m.entries
   pub starting : AreStarts m starts
 
--- how many entries have a tick whose value is up to a bound, where the values rise with the tick; the first has one
+-- how many entries have a tick whose value is up to a bound, where the values rise with the tick;
+-- the first has one
 pub record IsSplit (value : ℕ → ℕ) (entries : List TempoEntry) (bound after : ℕ) : Type 0 where
   pub within : after ≤ length entries
   pub low : value (entry_at entries (after - 1)).tick ≤ bound

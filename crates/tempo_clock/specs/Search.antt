@@ -1,4 +1,4 @@
--- The greatest and the least number that passes a test, by trying each.
+-- Definition: The greatest and the least number that passes a test, by trying each.
 use Rattle.std.specs.Prelude.{ℕ, zero, suc, Bool, Option, Some, None, cond}
 
 -- the greatest number up to a bound that passes, or 0 where none does

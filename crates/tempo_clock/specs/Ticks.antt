@@ -1,4 +1,4 @@
--- Tempo maps, and when each tick comes, tick by tick.
+-- Definition: Tempo maps, and when each tick comes, tick by tick.
 use Rattle.std.specs.Prelude.{ℕ, zero, suc, ◌+◌, ◌*◌, ◌-◌, ◌/◌, ◌%◌, ◌^◌, Bool, cond, nat_le, nat_lt, Option, List, [], ◌∷◌, ◌++◌, filter}
 use Rattle.std.specs.Int.{div_ceil}
 use Rattle.tempo_clock.specs.declared.entry.TempoEntry.{TempoEntry}
@@ -22,7 +22,8 @@ unfoldable pub tempo_or : ℕ → List TempoEntry → ℕ → ℕ
 tempo_or tempo [] tick = tempo
 tempo_or tempo (e ∷ es) tick = tempo_or (cond (nat_le e.tick tick) e.tempo tempo) es tick
 
--- how long a tick lasts, in nanoseconds times the resolution: 1000 times the tempo in force, or a second
+-- how long a tick lasts, in nanoseconds times the resolution: 1000 times the tempo in force, or a
+-- second
 unfoldable pub duration : Tempos → ℕ → ℕ
 duration m tick = cond (is_smpte m) 1000000000 (1000 * tempo_or 0 m.entries tick)
 
@@ -41,8 +42,13 @@ tick_at m nanos = greatest (λ tick. nat_le (numerator m tick) (nanos * resoluti
 
 -- the least u64 tick that does not come before so many nanoseconds, if there is one
 unfoldable pub first_tick_from : Tempos → ℕ → Option ℕ
-first_tick_from m nanos = least (λ tick. nat_le (nanos * resolution m) (numerator m tick)) (2 ^ 64 - 1)
+first_tick_from m nanos =
+    least (λ tick. nat_le (nanos * resolution m) (numerator m tick)) (2 ^ 64 - 1)
 
 -- the map with one tempo from a tick on
 abbrev pub with_tempo_from : Tempos → ℕ → ℕ → Tempos
-with_tempo_from m from tempo = record m { entries = filter (λ e. nat_lt e.tick from) m.entries ++ record { tick = from; tempo = tempo } ∷ [] }
+with_tempo_from m from tempo =
+    record m {
+      entries = filter (λ e. nat_lt e.tick from) m.entries
+          ++ record { tick = from; tempo = tempo } ∷ [];
+    }

@@ -1,4 +1,4 @@
--- The definitions at a few ticks.
+-- Worked rows: The definitions at a few ticks.
 use Rattle.std.specs.Prelude.{◌≡◌, [], ◌∷◌}
 use Rattle.tempo_clock.specs.Entries.{smpte_word}
 use Rattle.tempo_clock.specs.Ticks.{Tempos, resolution, nanos_at, with_tempo_from}

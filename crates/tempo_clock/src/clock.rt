@@ -3,7 +3,7 @@
 ghost use Rattle.std.specs.Prelude.{◌≡◌, ◌≤◌, ◌<◌, true, OnOk, OnErr, None, is_some, IsSome, IsNone};
 ghost use Rattle.tempo_clock.specs.Entries.{is_tempo};
 ghost use Rattle.tempo_clock.specs.Ticks.{is_smpte, tick_at, first_tick_from};
-ghost use Rattle.tempo_clock.specs.Clocks.{elapsed, started, stopped, resumed, with_tempo, moment_of};
+ghost use Rattle.tempo_clock.specs.Clocks.{elapsed_time, running_from_zero, at_rest, running_on, with_tempo, moment_of};
 
 use crate::due::Due;
 use crate::tempo_map::TempoMap;
@@ -48,7 +48,7 @@ impl QueueClock {
     /// Runs it from 0.
     pub fn start(&mut self, moment: u64)
         requires { self.old.since ≡ None }
-        ensures { self.new ≡ started self.old moment }
+        ensures { self.new ≡ running_from_zero self.old moment }
     {
         self.time = 0;
         self.resume(moment);
@@ -57,7 +57,7 @@ impl QueueClock {
     /// Holds it. The moment is not before the last `start` or `resume`.
     pub fn stop(&mut self, moment: u64)
         requires { IsSome self.old.since }
-        ensures { self.new ≡ stopped self.old moment }
+        ensures { self.new ≡ at_rest self.old moment }
     {
         self.time = self.elapsed(moment);
         self.since = None;
@@ -68,7 +68,7 @@ impl QueueClock {
     pub fn resume(&mut self, moment: u64)
         requires held { self.old.since ≡ None }
         requires later { self.old.time ≤ moment }
-        ensures { self.new ≡ resumed self.old moment }
+        ensures { self.new ≡ running_on self.old moment }
     {
         self.since = Some(moment);
     }
@@ -96,7 +96,7 @@ impl QueueClock {
 
     /// What it shows at a moment that is not before the last `start` or `resume`.
     pub fn elapsed(&self, moment: u64) -> u64
-        ensures { result ≡ elapsed self.now moment }
+        ensures { result ≡ elapsed_time self.now moment }
     {
         match self.since {
             None => self.time,
@@ -106,7 +106,7 @@ impl QueueClock {
 
     /// The last tick that comes within what it shows at a moment.
     pub fn tick(&self, moment: u64) -> u64
-        ensures { result ≡ tick_at self.now.map (elapsed self.now moment) }
+        ensures { result ≡ tick_at self.now.map (elapsed_time self.now moment) }
     {
         self.map.tick_at(self.elapsed(moment))
     }
@@ -135,7 +135,7 @@ impl QueueClock {
         ensures ok { OnOk result (self.new ≡ with_tempo self.old moment tempo) }
         ensures err { OnErr result (self.new ≡ self.old) }
         ensures memory { OnErr result
-            (IsSome (first_tick_from self.old.map (elapsed self.old moment))) }
+            (IsSome (first_tick_from self.old.map (elapsed_time self.old moment))) }
     {
         let nanos = self.elapsed(moment);
         if let Some(tick) = self.map.first_tick_from(nanos) {

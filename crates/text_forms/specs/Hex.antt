@@ -1,4 +1,4 @@
--- Bytes in hexadecimal.
+-- Definition: Bytes in hexadecimal.
 use Rattle.std.specs.Prelude.{ℕ, ◌+◌, ◌/◌, ◌%◌, nat_lt, if◌then◌else◌, List, [], ◌∷◌, ◌++◌}
 use Rattle.std.specs.List.{flat_map}
 
@@ -7,13 +7,13 @@ abbrev pub digit : ℕ → ℕ
 digit n = if nat_lt n 10 then 48 + n else 55 + n
 
 -- a space and two digits for each byte
-abbrev pub spaced : List ℕ → List ℕ
-spaced bytes = flat_map (λ b. 32 ∷ digit (b / 16) ∷ digit (b % 16) ∷ []) bytes
+abbrev pub spaced_hex : List ℕ → List ℕ
+spaced_hex bytes = flat_map (λ b. 32 ∷ digit (b / 16) ∷ digit (b % 16) ∷ []) bytes
 
 -- bytes with one space between
 abbrev pub in_hex : List ℕ → List ℕ
 in_hex [] = []
-in_hex (b ∷ bytes) = digit (b / 16) ∷ digit (b % 16) ∷ spaced bytes
+in_hex (b ∷ bytes) = digit (b / 16) ∷ digit (b % 16) ∷ spaced_hex bytes
 
 -- the same on a line
 abbrev pub hex_line : List ℕ → List ℕ

@@ -1,7 +1,7 @@
 //! Bytes in hexadecimal.
 
 ghost use Rattle.std.specs.Prelude.{◌≡◌, ◌≤◌, ◌<◌, ◌+◌, ◌*◌, ◌^◌, ℕ, [], ◌∷◌, ◌++◌, length, vec_len, vec_capacity, take, slice_index, OnOk, OnErr};
-ghost use Rattle.text_forms.specs.Hex.{digit, spaced, in_hex, hex_line};
+ghost use Rattle.text_forms.specs.Hex.{digit, spaced_hex, in_hex, hex_line};
 
 use memory::OutOfMemory;
 
@@ -31,9 +31,9 @@ const GROUP: usize = 64;
 // Apart, so that its buffer is no burden to the lines of few bytes below.
 #[inline(never)]
 pub fn push_spaced(text: &mut Vec<u8>, bytes: &[u8]) -> Result<(), OutOfMemory>
-    ensures ok { OnOk result (text.new.items ≡ text.old.items ++ spaced bytes.now) }
+    ensures ok { OnOk result (text.new.items ≡ text.old.items ++ spaced_hex bytes.now) }
     ensures full { OnErr result
-        (vec_capacity text.old < vec_len text.old + length (spaced bytes.now)) }
+        (vec_capacity text.old < vec_len text.old + length (spaced_hex bytes.now)) }
     ensures capacity { vec_capacity text.old ≤ vec_capacity text.new }
 {
     let mut digits = [b' '; 3 * GROUP];
@@ -50,7 +50,7 @@ fn spell(bytes: &[u8], digits: &mut [u8])
     requires room { 3 * length bytes.now ≤ length digits.old }
     requires spaces { (k : ℕ) → 3 * k < length digits.old → slice_index digits.old (3 * k) ≡ 32 }
     ensures spaces { (k : ℕ) → 3 * k < length digits.new → slice_index digits.new (3 * k) ≡ 32 }
-    ensures spelled { take (3 * length bytes.now) digits.new ≡ spaced bytes.now }
+    ensures spelled { take (3 * length bytes.now) digits.new ≡ spaced_hex bytes.now }
 {
     for i in 0..bytes.len() {
         let [s, t] = pair(bytes[i]);
@@ -65,9 +65,9 @@ fn spell(bytes: &[u8], digits: &mut [u8])
 // no register has to be saved; and it stands inline, where the number of bytes is mostly known.
 #[inline(always)]
 pub fn push_spaced_line(text: &mut Vec<u8>, bytes: &[u8]) -> Result<(), OutOfMemory>
-    ensures ok { OnOk result (text.new.items ≡ text.old.items ++ spaced bytes.now ++ 10 ∷ []) }
+    ensures ok { OnOk result (text.new.items ≡ text.old.items ++ spaced_hex bytes.now ++ 10 ∷ []) }
     ensures full { OnErr result
-        (vec_capacity text.old < vec_len text.old + length (spaced bytes.now ++ 10 ∷ [])) }
+        (vec_capacity text.old < vec_len text.old + length (spaced_hex bytes.now ++ 10 ∷ [])) }
     ensures capacity { vec_capacity text.old ≤ vec_capacity text.new }
 {
     if text.capacity() - text.len() >= 10 {
@@ -93,9 +93,9 @@ pub fn push_spaced_line(text: &mut Vec<u8>, bytes: &[u8]) -> Result<(), OutOfMem
 /// The same for any number of bytes.
 #[inline(never)]
 fn push_any_spaced_line(text: &mut Vec<u8>, bytes: &[u8]) -> Result<(), OutOfMemory>
-    ensures ok { OnOk result (text.new.items ≡ text.old.items ++ spaced bytes.now ++ 10 ∷ []) }
+    ensures ok { OnOk result (text.new.items ≡ text.old.items ++ spaced_hex bytes.now ++ 10 ∷ []) }
     ensures full { OnErr result
-        (vec_capacity text.old < vec_len text.old + length (spaced bytes.now ++ 10 ∷ [])) }
+        (vec_capacity text.old < vec_len text.old + length (spaced_hex bytes.now ++ 10 ∷ [])) }
     ensures capacity { vec_capacity text.old ≤ vec_capacity text.new }
 {
     push_spaced(text, bytes)?;
@@ -155,7 +155,7 @@ fn push_any_hex_line(text: &mut Vec<u8>, bytes: &[u8]) -> Result<(), OutOfMemory
 
 #[inline(always)]
 fn line_of_one(a: u8) -> [u8; 4]
-    ensures { result ≡ spaced (a ∷ []) ++ 10 ∷ [] }
+    ensures { result ≡ spaced_hex (a ∷ []) ++ 10 ∷ [] }
 {
     let at = a as usize * 4;
     [LINES[at], LINES[at + 1], LINES[at + 2], LINES[at + 3]]
@@ -163,7 +163,7 @@ fn line_of_one(a: u8) -> [u8; 4]
 
 #[inline(always)]
 fn line_of_two(a: u8, b: u8) -> [u8; 7]
-    ensures { result ≡ spaced (a ∷ b ∷ []) ++ 10 ∷ [] }
+    ensures { result ≡ spaced_hex (a ∷ b ∷ []) ++ 10 ∷ [] }
 {
     let [s, t] = pair(a);
     let [u, v] = pair(b);
@@ -172,7 +172,7 @@ fn line_of_two(a: u8, b: u8) -> [u8; 7]
 
 #[inline(always)]
 fn line_of_three(a: u8, b: u8, c: u8) -> [u8; 10]
-    ensures { result ≡ spaced (a ∷ b ∷ c ∷ []) ++ 10 ∷ [] }
+    ensures { result ≡ spaced_hex (a ∷ b ∷ c ∷ []) ++ 10 ∷ [] }
 {
     let [s, t] = pair(a);
     let [u, v] = pair(b);
@@ -186,7 +186,7 @@ fn line_of_three(a: u8, b: u8, c: u8) -> [u8; 10]
 #[inline(always)]
 pub fn overwrite_spaced_line(text: &mut Vec<u8>, at: usize, bytes: &[u8])
     requires { at + 3 * length bytes.now + 1 ≤ vec_len text.old }
-    ensures { text.new.items ≡ take at text.old.items ++ spaced bytes.now ++ 10 ∷ [] }
+    ensures { text.new.items ≡ take at text.old.items ++ spaced_hex bytes.now ++ 10 ∷ [] }
 {
     let mut end = at;
     for byte in bytes {

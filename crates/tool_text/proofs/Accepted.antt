@@ -10,9 +10,9 @@ use Rattle.smf_grammar.specs.Chunks.{header_at, most_bytes}
 use Rattle.smf_grammar.specs.Files.{MidiFile, IsFile, Fault}
 use Rattle.smf_grammar.proofs.Whole.{not-both}
 use Rattle.tool_text.specs.declared.fault.ToolFault.{ToolFault}
-use Rattle.tool_text.specs.Dump.{dump_of, IsDumped, StopsInFile, IsAccepted, TellsFault}
+use Rattle.tool_text.specs.Dump.{dump_of, IsDumped, IsFileDumpedInPart, IsAccepted, TellsFault}
 use Rattle.tool_text.specs.Faults.{tool_fault, IsOutput}
-use Rattle.tool_text.specs.Gathered.{Stops}
+use Rattle.tool_text.specs.Gathered.{TookFirst}
 
 too-large : (bytes : List ℕ) → most_bytes < length bytes → header_at bytes ≡ Err smf.TooLarge
 unfolding header_at
@@ -43,7 +43,7 @@ module _ {R : Type 0} (HasLeft : R → List ℕ → Type 0) (before after : R) (
     pub file-dumped : {W : Type 0} (HasTaken : W → List ℕ → Type 0) (old new : W) → Took HasTaken old (dump_of f) new → IsDumped HasLeft HasTaken before after old new
     file-dumped HasTaken old new k = record { read = read; gave = all.gave; ended = file-ended; bounded = file-bounded read f file; f = f; file = file; took = k }
 
-    pub file-stops : {W : Type 0} (HasTaken : W → List ℕ → Type 0) (old new : W) → Stops HasTaken old (dump_of f) new → StopsInFile HasLeft HasTaken before after old new
+    pub file-stops : {W : Type 0} (HasTaken : W → List ℕ → Type 0) (old new : W) → TookFirst HasTaken old (dump_of f) new → IsFileDumpedInPart HasLeft HasTaken before after old new
     file-stops HasTaken old new k = record { read = read; gave = all.gave; ended = file-ended; f = f; file = file; stopped = k }
 
     -- printing tells no fault of a file

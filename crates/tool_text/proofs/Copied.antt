@@ -5,12 +5,12 @@ use Rattle.std.proofs.lemmas.List.{take_more}
 use Rattle.byte_io.specs.Moved.{Took}
 use Rattle.midi_wire.specs.Parsing.{Parsing}
 use Rattle.midi_wire.specs.Readings.{reading, rest}
-use Rattle.midi_wire.specs.Writings.{written, written_after, status_after, status_after_all, status_in_force}
+use Rattle.midi_wire.specs.Writings.{wire_bytes, written_after, status_after, status_after_all, status_in_force}
 use Rattle.midi_wire.proofs.Settled.{reads-in-two, rests-in-two}
 use Rattle.midi_wire.proofs.WrittenInTwo.{writes-in-two, status_after_all-snoc}
-use Rattle.text_forms.specs.Hex.{spaced, hex_line}
-use Rattle.tool_text.specs.Gathered.{Goes, Stops}
-use Rattle.tool_text.specs.Stream.{message_lines, IsRendered, StopsShort}
+use Rattle.text_forms.specs.Hex.{spaced_hex, hex_line}
+use Rattle.tool_text.specs.Gathered.{IsGathered, TookFirst}
+use Rattle.tool_text.specs.Stream.{message_lines, IsRendered, IsRenderedInPart}
 use Rattle.tool_text.specs.Wire.{written_line, wire_ending, wire_text, IsCopied}
 use Rattle.tool_text.proofs.Passed.{rendered_behind, stops_behind}
 use Rattle.tool_text.proofs.Pieces.{goes-none}
@@ -54,22 +54,22 @@ one_more_copied parsing parsing' status status' back back' read piece c p s b =
     record {
       parsed = p ∙ ap (λ r. parsing_at (rest (r ++ piece))) before ∙ ap parsing_at (sym (rests-in-two read piece));
       in_force = s ∙ ap (λ q. status_after_all q more) c.in_force ∙ sym (status_after_all-append None (reading read) more) ∙ ap status_in_force (sym whole);
-      written_back = b ∙ ap (λ xs. xs ++ written_after status more) c.written_back ∙ ap (λ q. written (reading read) ++ written_after q more) c.in_force ∙ sym (writes-in-two None (reading read) more) ∙ ap written (sym whole);
+      written_back = b ∙ ap (λ xs. xs ++ written_after status more) c.written_back ∙ ap (λ q. wire_bytes (reading read) ++ written_after q more) c.in_force ∙ sym (writes-in-two None (reading read) more) ∙ ap wire_bytes (sym whole);
     }
 
 -- ---- the last line
 
 -- the line is begun
-pub line_begun : {W : Type 0} (HasTaken : W → List ℕ → Type 0) (written : List ℕ) (old : W) (none text : List ℕ) → none ≡ [] → text ≡ none ++ codes "written" → Goes HasTaken old old text (spaced written ++ 10 ∷ []) (written_line written)
+pub line_begun : {W : Type 0} (HasTaken : W → List ℕ → Type 0) (written : List ℕ) (old : W) (none text : List ℕ) → none ≡ [] → text ≡ none ++ codes "written" → IsGathered HasTaken old old text (spaced_hex written ++ 10 ∷ []) (written_line written)
 line_begun HasTaken written old none text e h =
-    let whole : text ++ (spaced written ++ 10 ∷ []) ≡ written_line written =
-    ap (λ xs. xs ++ (spaced written ++ 10 ∷ [])) (h ∙ ap (λ xs. xs ++ codes "written") e) ∙ sym (append_assoc (codes "written") (spaced written) (10 ∷ [])) in
-    subst (Goes HasTaken old old text (spaced written ++ 10 ∷ [])) whole (goes-none HasTaken old text (spaced written ++ 10 ∷ []))
+    let whole : text ++ (spaced_hex written ++ 10 ∷ []) ≡ written_line written =
+    ap (λ xs. xs ++ (spaced_hex written ++ 10 ∷ [])) (h ∙ ap (λ xs. xs ++ codes "written") e) ∙ sym (append_assoc (codes "written") (spaced_hex written) (10 ∷ [])) in
+    subst (IsGathered HasTaken old old text (spaced_hex written ++ 10 ∷ [])) whole (goes-none HasTaken old text (spaced_hex written ++ 10 ∷ []))
 
 -- it stands behind the lines of the messages
-module _ {R W : Type 0} (HasLeft : R → List ℕ → Type 0) (HasTaken : W → List ℕ → Type 0) (before after : R) (old mid new : W) (back : List ℕ) (i : IsRendered HasLeft HasTaken (message_lines hex_line) before after old mid) (b : back ≡ written (reading i.read)) where
+module _ {R W : Type 0} (HasLeft : R → List ℕ → Type 0) (HasTaken : W → List ℕ → Type 0) (before after : R) (old mid new : W) (back : List ℕ) (i : IsRendered HasLeft HasTaken (message_lines hex_line) before after old mid) (b : back ≡ wire_bytes (reading i.read)) where
   pub all_copied : Took HasTaken mid (written_line back) new → IsRendered HasLeft HasTaken wire_text before after old new
   all_copied k = rendered_behind HasLeft HasTaken (message_lines hex_line) wire_ending before after old mid new i (subst (λ (xs : List ℕ). Took HasTaken mid (written_line xs) new) b k)
 
-  pub copied_short : Stops HasTaken mid (written_line back) new → StopsShort HasLeft HasTaken wire_text before after old new
-  copied_short s = stops_behind HasLeft HasTaken (message_lines hex_line) wire_ending before after old mid new i (subst (λ (xs : List ℕ). Stops HasTaken mid (written_line xs) new) b s)
+  pub copied_short : TookFirst HasTaken mid (written_line back) new → IsRenderedInPart HasLeft HasTaken wire_text before after old new
+  copied_short s = stops_behind HasLeft HasTaken (message_lines hex_line) wire_ending before after old mid new i (subst (λ (xs : List ℕ). TookFirst HasTaken mid (written_line xs) new) b s)

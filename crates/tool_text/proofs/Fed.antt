@@ -19,11 +19,11 @@ use Rattle.seq_state.specs.declared.log.Arrival.{Arrival}
 use Rattle.seq_state.specs.declared.log.Delivery.{Delivery}
 use Rattle.seq_state.specs.declared.log.Reply.TheVariants.{Messages, Received}
 use Rattle.seq_state.specs.declared.refusal.Refusal.TheVariants as refusal
-use Rattle.seq_state.specs.State.{Client, PortInfo, ClientPool, State, put}
-use Rattle.seq_state.specs.Own.{port_of, has_port, fed_of, with_change, put_port, port_fed, oldest, without_oldest}
+use Rattle.seq_state.specs.State.{Client, PortInfo, ClientPool, State, with_entry}
+use Rattle.seq_state.specs.Effect.{port_of, has_port, fed_of, with_change, put_port, port_fed, oldest, without_oldest}
 use Rattle.seq_state.specs.Table.{first_refusal, from_port, command_row}
-use Rattle.seq_state.specs.Copies.{carried, copy, copies}
-use Rattle.seq_state.specs.Step.{port_addr, send_copies, offered, sent, stepped, Stepped, unless, refusal_of, step, state_after}
+use Rattle.seq_state.specs.Copies.{copy_on_path, copy, copies}
+use Rattle.seq_state.specs.Step.{port_addr, send_copies, pools_after, with_copies, with_reply, Stepped, unless, refusal_of, step, state_after}
 use Rattle.seq_state.proofs.Effects.{get-put, step-takes}
 use Rattle.seq_state.proofs.Done.{feeds}
 use Rattle.tool_text.specs.Stream.{message_lines}
@@ -60,7 +60,7 @@ fed_client (Some x) bytes h = fed_port x bytes (FinMap.get x.ports 0) h
 one_copy : (s : State) (message : List ℕ) → s.edges ≡ edge (port_addr 128 0) (port_addr 129 0) ∷ [] → copies s 0 (port_addr 128 0) message ≡ came message ∷ []
 unfolding paths chains hops
 one_copy s message e =
-    ap (λ (es : List Edge). filter_map (λ p. copy 0 (end_of (port_addr 128 0) p) (carried s.clients p message)) (paths es (port_addr 128 0))) e
+    ap (λ (es : List Edge). filter_map (λ p. copy 0 (end_of (port_addr 128 0) p) (copy_on_path s.clients p message)) (paths es (port_addr 128 0))) e
 
 one_each : (s : State) (messages : List (List ℕ)) → s.edges ≡ edge (port_addr 128 0) (port_addr 129 0) ∷ [] → send_copies s 0 128 (map (from_port 0) messages) ≡ map came messages
 one_each s [] e = refl
@@ -97,10 +97,10 @@ module _ (s : State) (piece : List ℕ) (j : IsJoined s) (short : length piece �
 
   -- the state with all messages waiting
   abbrev waiting : State
-  waiting = record s { clients = put s.clients 128 next; pools = offered s.pools (map came messages) }
+  waiting = record s { clients = with_entry s.clients 128 next; pools = pools_after s.pools (map came messages) }
 
   abbrev fed : List Delivery → Stepped
-  fed ds = stepped (sent (record s { clients = put s.clients 128 next }) ds) (Messages (length messages))
+  fed ds = with_reply (with_copies (record s { clients = with_entry s.clients 128 next }) ds) (Messages (length messages))
 
   accepted : refusal_of [] s 0 128 (Bytes 0 piece) ≡ None
   unfolding command_row
@@ -135,7 +135,7 @@ module _ (s : State) (piece : List ℕ) (j : IsJoined s) (short : length piece �
   allowed = ap (λ b. first_refusal ((refusal.NotOpen, not b) ∷ (refusal.BadSize, not (is_size most_waiting)) ∷ [])) (ap is_some sink-open ∙ j.sink)
 
   abbrev emptied : State
-  emptied = record waiting { pools = put waiting.pools 129 (without_oldest most_waiting (FinMap.get waiting.pools 129)) }
+  emptied = record waiting { pools = with_entry waiting.pools 129 (without_oldest most_waiting (FinMap.get waiting.pools 129)) }
 
   abbrev received : Stepped
   received = record { state = emptied; delivered = []; reply = Received (oldest most_waiting (FinMap.get waiting.pools 129)) }

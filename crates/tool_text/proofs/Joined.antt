@@ -13,8 +13,8 @@ use Rattle.seq_state.specs.declared.input.Command.TheVariants.{Open, CreatePort,
 use Rattle.seq_state.specs.declared.input.Input.{Input}
 use Rattle.seq_state.specs.declared.log.Delivery.{Delivery}
 use Rattle.seq_state.specs.declared.log.Reply.TheVariants.{Done}
-use Rattle.seq_state.specs.State.{Client, ClientPool, Pending, State, start, put}
-use Rattle.seq_state.specs.Own.{new_client, new_port, put_port, has_port, with_change}
+use Rattle.seq_state.specs.State.{Client, ClientPool, OwnedPlayback, State, start, with_entry}
+use Rattle.seq_state.specs.Effect.{new_client, new_port, put_port, has_port, with_change}
 use Rattle.seq_state.specs.Table.{command_row}
 use Rattle.seq_state.specs.Step.{port_addr, upto, settle, Settled, Stepped, unless, refusal_of, command_step, step, state_after}
 use Rattle.seq_state.proofs.Effects.{get-put, step-connects}
@@ -27,8 +27,8 @@ use Rattle.tool_text.specs.Thru.{input_at_start, readable, writable, fed_stream,
 still : (s : State) → s.pending ≡ [] → settle s 0 ≡ record { state = s; delivered = [] }
 unfolding upto
 still s e =
-    let with : List Pending → State = λ ps. record s { pending = ps } in
-    let stays : List Pending → Settled = λ ps. record { state = with ps; delivered = [] } in
+    let with : List OwnedPlayback → State = λ ps. record s { pending = ps } in
+    let stays : List OwnedPlayback → Settled = λ ps. record { state = with ps; delivered = [] } in
     ap (λ ps. settle (with ps) 0) e ∙ ap stays (sym e)
 
 pub says : (s : State) (actor : ℕ) (command : Command) → s.pending ≡ [] → step [] s (input_at_start actor command) ≡ command_step [] s 0 actor command
@@ -147,7 +147,7 @@ sink-there = simp finds
 -- a client whose port is made
 abbrev made : State → ℕ → List ℕ → ℕ → Option Client → Stepped
 made s actor name caps client =
-    done (record s { clients = put s.clients actor (with_change client (put_port 0 (Some (new_port name (record { 0 = caps }))))) }) Done
+    done (record s { clients = with_entry s.clients actor (with_change client (put_port 0 (Some (new_port name (record { 0 = caps }))))) }) Done
 
 first : step [] start (input_at_start 128 open_source) ≡ done state1 Done
 first =

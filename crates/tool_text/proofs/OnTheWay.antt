@@ -9,7 +9,7 @@ use Rattle.cell_pools.specs.Pools.{most_waiting}
 use Rattle.seq_state.specs.declared.input.Command.{Command}
 use Rattle.seq_state.specs.declared.input.Command.TheVariants.{Bytes, Receive}
 use Rattle.seq_state.specs.declared.log.Delivery.{Delivery}
-use Rattle.seq_state.specs.Files.{File}
+use Rattle.smf_grammar.specs.Played.{PlayedFile}
 use Rattle.seq_state.specs.State.{State}
 use Rattle.seq_state.specs.Step.{step, state_after}
 use Rattle.seq_engine.specs.Seen.{Seen}
@@ -121,7 +121,7 @@ module _ (e e1 e2 : Seen) (source sink : ℕ) (command : Command) (part : List �
 
     after-part : e2 ≡ there (state_after [] e.state (passage part))
     after-part =
-        let goes : List File → ℕ → Bool → Seen = λ fs n b. record { files = fs; state = (step fs (step fs e.state (input_at_start 128 (Bytes 0 part))).state (input_at_start 129 (Receive most_waiting))).state; moment = 0; steps = n; failed = b } in
+        let goes : List PlayedFile → ℕ → Bool → Seen = λ fs n b. record { files = fs; state = (step fs (step fs e.state (input_at_start 128 (Bytes 0 part))).state (input_at_start 129 (Receive most_waiting))).state; moment = 0; steps = n; failed = b } in
         emptied
         ∙ ap (λ x. after_input x (input_at_start sink (Receive most_waiting))) fed
         ∙ ap (λ c. after_input (after_input e (input_at_start source command)) (input_at_start c (Receive most_waiting))) taker

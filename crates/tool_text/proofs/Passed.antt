@@ -8,8 +8,8 @@ use Rattle.byte_io.proofs.Moved.{gave_none, gave_more, read_nothing, took_none, 
 use Rattle.midi_wire.specs.Readings.{reading, rest}
 use Rattle.midi_wire.proofs.Settled.{reads-in-two}
 use Rattle.smf_grammar.specs.Chunks.{most_bytes}
-use Rattle.tool_text.specs.Gathered.{Stops}
-use Rattle.tool_text.specs.Stream.{message_lines, IsRendered, IsPassed, StopsShort, GaveTooMany}
+use Rattle.tool_text.specs.Gathered.{TookFirst}
+use Rattle.tool_text.specs.Stream.{message_lines, IsRendered, IsPassed, IsRenderedInPart, GaveTooMany}
 
 -- The reads gave these bytes, a printer was fed them, and the lines for them were written.
 pub record Passed {R W : Type 0} (HasLeft : R → List ℕ → Type 0) (HasTaken : W → List ℕ → Type 0) (WasFed : List ℕ → Type 0) (lines : List ℕ → List ℕ) (first now : R) (old new : W) (room : ℕ) : Type 0 where
@@ -59,7 +59,7 @@ module _ {R W : Type 0} (HasLeft : R → List ℕ → Type 0) (HasTaken : W → 
 
     -- ---- where it stops
 
-    pub stops : (last : List ℕ) → Gave HasLeft now last after → StopsShort HasLeft HasTaken lines first after old new
+    pub stops : (last : List ℕ) → Gave HasLeft now last after → IsRenderedInPart HasLeft HasTaken lines first after old new
     stops last g = record {
       read = p.read;
       last = last;
@@ -71,7 +71,7 @@ module _ {R W : Type 0} (HasLeft : R → List ℕ → Type 0) (HasTaken : W → 
     }
 
     pub stops_within : (new' : W) (window behind added : List ℕ) (n : ℕ) → ((read : List ℕ) → WasFed read → lines (read ++ take n (window ++ behind)) ≡ lines read ++ added) → n ≤ length window → Gave HasLeft now (take n window) after →
-        Stops HasTaken new added new' → StopsShort HasLeft HasTaken lines first after old new'
+        TookFirst HasTaken new added new' → IsRenderedInPart HasLeft HasTaken lines first after old new'
     stops_within new' window behind added n t h g s =
         let piece : List ℕ = take n (window ++ behind) in
         record {
@@ -103,7 +103,7 @@ module _ {R W : Type 0} (HasLeft : R → List ℕ → Type 0) (HasTaken : W → 
   -- ---- what stands behind the lines
 
   -- more was to be written there
-  pub stops_before : (lines ending : List ℕ → List ℕ) (before after : R) (old new : W) → StopsShort HasLeft HasTaken lines before after old new → StopsShort HasLeft HasTaken (λ read. lines read ++ ending read) before after old new
+  pub stops_before : (lines ending : List ℕ → List ℕ) (before after : R) (old new : W) → IsRenderedInPart HasLeft HasTaken lines before after old new → IsRenderedInPart HasLeft HasTaken (λ read. lines read ++ ending read) before after old new
   stops_before lines ending before after old new s = record {
     read = s.read;
     last = s.last;
@@ -120,7 +120,7 @@ module _ {R W : Type 0} (HasLeft : R → List ℕ → Type 0) (HasTaken : W → 
       record { read = i.read; gave = i.gave; ended = i.ended; bounded = i.bounded; took = took_more HasTaken old mid new (lines i.read) (ending i.read) i.took k }
 
   -- a part of it is written
-  pub stops_behind : (lines ending : List ℕ → List ℕ) (before after : R) (old mid new : W) (i : IsRendered HasLeft HasTaken lines before after old mid) → Stops HasTaken mid (ending i.read) new → StopsShort HasLeft HasTaken (λ read. lines read ++ ending read) before after old new
+  pub stops_behind : (lines ending : List ℕ → List ℕ) (before after : R) (old mid new : W) (i : IsRendered HasLeft HasTaken lines before after old mid) → TookFirst HasTaken mid (ending i.read) new → IsRenderedInPart HasLeft HasTaken (λ read. lines read ++ ending read) before after old new
   stops_behind lines ending before after old mid new i s = record {
     read = i.read;
     last = [];
@@ -132,7 +132,7 @@ module _ {R W : Type 0} (HasLeft : R → List ℕ → Type 0) (HasTaken : W → 
   }
 
   -- nothing was read and nothing written
-  pub stops_at_once : (text : List ℕ → List ℕ) (s : R) (old : W) → StopsShort HasLeft HasTaken text s s old old
+  pub stops_at_once : (text : List ℕ → List ℕ) (s : R) (old : W) → IsRenderedInPart HasLeft HasTaken text s s old old
   stops_at_once text s old = record { read = []; last = []; gave = gave_none HasLeft s [] refl; written = []; missing = text []; took = took_none HasTaken old; front = refl }
 
   -- ---- a text by another name
@@ -141,7 +141,7 @@ module _ {R W : Type 0} (HasLeft : R → List ℕ → Type 0) (HasTaken : W → 
   rendered_same text text' before after old new same i =
       record { read = i.read; gave = i.gave; ended = i.ended; bounded = i.bounded; took = subst (λ (xs : List ℕ). Took HasTaken old xs new) (sym (same i.read)) i.took }
 
-  pub stops_same : (text text' : List ℕ → List ℕ) (before after : R) (old new : W) → ((read : List ℕ) → text' read ≡ text read) → StopsShort HasLeft HasTaken text before after old new → StopsShort HasLeft HasTaken text' before after old new
+  pub stops_same : (text text' : List ℕ → List ℕ) (before after : R) (old new : W) → ((read : List ℕ) → text' read ≡ text read) → IsRenderedInPart HasLeft HasTaken text before after old new → IsRenderedInPart HasLeft HasTaken text' before after old new
   stops_same text text' before after old new same s =
       record { read = s.read; last = s.last; gave = s.gave; written = s.written; missing = s.missing; took = s.took; front = same s.read ∙ s.front }
 

@@ -8,8 +8,8 @@ use Rattle.std.proofs.lemmas.Bool.{lt-ltb}
 use Rattle.cell_pools.specs.Pools as pools
 use Rattle.seq_state.specs.declared.log.Arrival.{Arrival}
 use Rattle.seq_state.specs.declared.log.Delivery.{Delivery}
-use Rattle.seq_state.specs.State.{ClientPool, put}
-use Rattle.seq_state.specs.Step.{arrival, pool_has_room, offer, offered, delivered}
+use Rattle.seq_state.specs.State.{ClientPool, with_entry}
+use Rattle.seq_state.specs.Step.{arrival, pool_has_room, offer, pools_after, copies_with_room}
 use Rattle.seq_state.proofs.Effects.{get-put}
 
 -- a message as it comes to the port of the second client
@@ -34,7 +34,7 @@ module _ (m : FinMap nat_cmp ClientPool) (p : ClientPool) (message : List ℕ) (
   one-found = ap pool_has_room here ∙ lt-ltb (length p.waiting) p.size room
 
   abbrev after_one : FinMap nat_cmp ClientPool
-  after_one = put m 129 (offer (FinMap.get m 129) (came message))
+  after_one = with_entry m 129 (offer (FinMap.get m 129) (came message))
 
   after-here : FinMap.get after_one 129 ≡ Some (with_more p (waits message ∷ []))
   after-here = get-put m 129 (offer (FinMap.get m 129) (came message)) 129 ∙ one-offered
@@ -46,17 +46,17 @@ has-room : (waiting size n : ℕ) → waiting + (1 + n) ≤ size → waiting < s
 has-room waiting size n h = omega arith
 
 -- where there is room for all, all are delivered
-pub all-delivered : (ms : List (List ℕ)) (m : FinMap nat_cmp ClientPool) (p : ClientPool) → FinMap.get m 129 ≡ Some p → length p.waiting + length ms ≤ p.size → delivered m (map came ms) ≡ map came ms
+pub all-delivered : (ms : List (List ℕ)) (m : FinMap nat_cmp ClientPool) (p : ClientPool) → FinMap.get m 129 ≡ Some p → length p.waiting + length ms ≤ p.size → copies_with_room m (map came ms) ≡ map came ms
 all-delivered [] m p here fits = refl
 all-delivered (c ∷ ms) m p here fits =
     let fits_more : length p.waiting + (1 + length ms) ≤ p.size = omega (arith, fits) in
     let room : length p.waiting < p.size = has-room (length p.waiting) p.size (length ms) fits_more in
-    let ds : List Delivery = delivered (after_one m p c here room) (map came ms) in
+    let ds : List Delivery = copies_with_room (after_one m p c here room) (map came ms) in
     ap (λ b. if b then came c ∷ ds else ds) (one-found m p c here room)
     ∙ ap (λ es. came c ∷ es) (all-delivered ms (after_one m p c here room) (with_more p (waits c ∷ [])) (after-here m p c here room) (room-left m p c here room (length ms) fits_more))
 
 -- and wait
-pub all-wait : (ms : List (List ℕ)) (m : FinMap nat_cmp ClientPool) (p : ClientPool) → FinMap.get m 129 ≡ Some p → length p.waiting + length ms ≤ p.size → FinMap.get (offered m (map came ms)) 129 ≡ Some (with_more p (map waits ms))
+pub all-wait : (ms : List (List ℕ)) (m : FinMap nat_cmp ClientPool) (p : ClientPool) → FinMap.get m 129 ≡ Some p → length p.waiting + length ms ≤ p.size → FinMap.get (pools_after m (map came ms)) 129 ≡ Some (with_more p (map waits ms))
 all-wait [] m p here fits = here ∙ ap (λ as_well. let q : ClientPool = record p { waiting = as_well } in Some q) (sym (append-nil p.waiting))
 all-wait (c ∷ ms) m p here fits =
     let fits_more : length p.waiting + (1 + length ms) ≤ p.size = omega (arith, fits) in

@@ -1,4 +1,4 @@
--- What a Standard MIDI File says, as text.
+-- Definition: What a Standard MIDI File says, as text.
 use Rattle.std.specs.Prelude.{◌+◌, ◌≤◌, ℕ, List, [], ◌∷◌, ◌++◌, length, codes, ◌⊎◌}
 use Rattle.std.specs.List.{flat_map}
 use Rattle.std.specs.Fmt.{decimal}
@@ -11,8 +11,8 @@ use Rattle.smf_grammar.specs.Files.{MidiFile, IsFile, Fault}
 use Rattle.smf_grammar.specs.Contents.{entries_of, events_of, skipped_of}
 use Rattle.tool_text.specs.declared.fault.ToolFault.{ToolFault}
 use Rattle.tool_text.specs.declared.fault.ToolFault.TheVariants.{OutOfMemory, Read, Write, Smf}
-use Rattle.text_forms.specs.Hex.{spaced}
-use Rattle.tool_text.specs.Gathered.{Stops}
+use Rattle.text_forms.specs.Hex.{spaced_hex}
+use Rattle.tool_text.specs.Gathered.{TookFirst}
 
 -- ---- the text
 
@@ -28,7 +28,7 @@ tempo_line e = codes "tempo " ++ decimal e.tick ++ 32 ∷ [] ++ decimal e.tempo 
 
 -- an event
 abbrev pub event_line : Event → List ℕ
-event_line e = decimal e.tick ++ spaced e.message ++ 10 ∷ []
+event_line e = decimal e.tick ++ spaced_hex e.message ++ 10 ∷ []
 
 -- how many events are skipped
 abbrev pub skipped_line : ℕ → List ℕ
@@ -53,21 +53,23 @@ pub record IsDumped {R W : Type 0} (HasLeft : R → List ℕ → Type 0) (HasTak
   pub file : IsFile read f
   pub took : Took HasTaken old (dump_of f) new
 
--- A source was read to its end, what it gave is a file, and a sink took the first part of what the file says.
-pub record StopsInFile {R W : Type 0} (HasLeft : R → List ℕ → Type 0) (HasTaken : W → List ℕ → Type 0)
+-- A source was read to its end, what it gave is a file, and a sink took the first part of what the
+-- file says.
+pub record IsFileDumpedInPart {R W : Type 0} (HasLeft : R → List ℕ → Type 0)
+    (HasTaken : W → List ℕ → Type 0)
     (before after : R) (old new : W) : Type 0 where
   pub read : List ℕ
   pub gave : Gave HasLeft before read after
   pub ended : HasLeft after []
   pub f : MidiFile
   pub file : IsFile read f
-  pub stopped : Stops HasTaken old (dump_of f) new
+  pub stopped : TookFirst HasTaken old (dump_of f) new
 
 -- a sink took nothing, or a part of what a file says
-abbrev pub StopsWithin : {R W : Type 0} →
+abbrev pub IsDumpedInPart : {R W : Type 0} →
     (R → List ℕ → Type 0) → (W → List ℕ → Type 0) → R → R → W → W → Type 0
-StopsWithin HasLeft HasTaken before after old new =
-    Took HasTaken old [] new ⊎ StopsInFile HasLeft HasTaken before after old new
+IsDumpedInPart HasLeft HasTaken before after old new =
+    Took HasTaken old [] new ⊎ IsFileDumpedInPart HasLeft HasTaken before after old new
 
 -- ---- what a fault says
 

@@ -1,4 +1,4 @@
--- The faults of the tools.
+-- Definition: The faults of the tools.
 use Rattle.std.specs.Prelude.{◌≡◌, ◌⊎◌, ℕ, List, codes}
 use Rattle.memory.specs.Faults.{out_of_memory_text}
 use Rattle.smf_grammar.specs.Faults.{fault_text}
@@ -14,7 +14,7 @@ tool_fault_text Read = codes "a read failed"
 tool_fault_text Write = codes "a write failed"
 tool_fault_text (Smf fault) = fault_text fault
 
--- want of memory is that of the tool
+-- out of memory is that of the tool
 abbrev pub tool_fault : SmfFault → ToolFault
 tool_fault smf.OutOfMemory = OutOfMemory
 tool_fault x = Smf x

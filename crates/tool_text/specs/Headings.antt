@@ -1,4 +1,4 @@
--- What a heading keeps, to be copied.
+-- Representation: What a heading keeps, to be copied.
 use Rattle.std.specs.Prelude.{◌≡◌, ◌≤◌, ◌+◌, ℕ, List, length, take}
 use Rattle.tool_text.specs.declared.heading.TheConstants.{BLOCK, ROOM}
 

@@ -5,6 +5,4 @@ pub mod Thru
 pub mod Wire
 pub mod Dump
 pub mod Faults
-pub mod Tools
-pub mod Program
 pub mod Rows

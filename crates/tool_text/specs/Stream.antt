@@ -1,4 +1,4 @@
--- A stream that comes in pieces and is printed as it comes.
+-- Definition: A stream that comes in pieces and is printed as it comes.
 use Rattle.std.specs.Prelude.{◌≡◌, ◌+◌, ◌≤◌, ℕ, List, [], ◌++◌, length}
 use Rattle.std.specs.List.{flat_map}
 use Rattle.byte_io.specs.Moved.{Gave, Took}
@@ -13,8 +13,10 @@ message_lines line bytes = flat_map line (reading bytes)
 abbrev pub HasRoom : (List ℕ → Type 0) → List ℕ → Type 0
 HasRoom WasFed piece = (read : List ℕ) × WasFed read × (length read + length piece ≤ most_bytes)
 
--- A source was read to its end, which came in time, and a sink took the text for what the reads gave.
-pub record IsRendered {R W : Type 0} (HasLeft : R → List ℕ → Type 0) (HasTaken : W → List ℕ → Type 0)
+-- A source was read to its end, which came in time, and a sink took the text for what the reads
+-- gave.
+pub record IsRendered {R W : Type 0} (HasLeft : R → List ℕ → Type 0)
+    (HasTaken : W → List ℕ → Type 0)
     (text : List ℕ → List ℕ) (before after : R) (old new : W) : Type 0 where
   pub read : List ℕ
   pub gave : Gave HasLeft before read after
@@ -24,13 +26,15 @@ pub record IsRendered {R W : Type 0} (HasLeft : R → List ℕ → Type 0) (HasT
 
 -- So it was, and what prints it was fed just these bytes.
 pub record IsPassed {R W : Type 0} (HasLeft : R → List ℕ → Type 0) (HasTaken : W → List ℕ → Type 0)
-    (WasFed : List ℕ → Type 0) (text : List ℕ → List ℕ) (before after : R) (old new : W) : Type 0 where
+    (WasFed : List ℕ → Type 0) (text : List ℕ → List ℕ) (before after : R)
+    (old new : W) : Type 0 where
   pub rendered : IsRendered HasLeft HasTaken text before after old new
   pub fed : WasFed rendered.read
 
 -- Of a text that was to be written for what the reads gave, the first part was written: of the text
 -- for all of it, or for what came before the last piece.
-pub record StopsShort {R W : Type 0} (HasLeft : R → List ℕ → Type 0) (HasTaken : W → List ℕ → Type 0)
+pub record IsRenderedInPart {R W : Type 0} (HasLeft : R → List ℕ → Type 0)
+    (HasTaken : W → List ℕ → Type 0)
     (text : List ℕ → List ℕ) (before after : R) (old new : W) : Type 0 where
   pub read : List ℕ
   pub last : List ℕ
@@ -41,7 +45,8 @@ pub record StopsShort {R W : Type 0} (HasLeft : R → List ℕ → Type 0) (HasT
   pub front : text read ≡ written ++ missing
 
 -- The reads gave one byte more than a stream may have.
-pub record GaveTooMany {R : Type 0} (HasLeft : R → List ℕ → Type 0) (before after : R) : Type 0 where
+pub record GaveTooMany {R : Type 0} (HasLeft : R → List ℕ → Type 0)
+    (before after : R) : Type 0 where
   pub given : List ℕ
   pub gave : Gave HasLeft before given after
   pub more : length given ≡ most_bytes + 1

@@ -1,4 +1,4 @@
--- What passes through a sequencer with two clients.
+-- Definition: What passes through a sequencer with two clients.
 use Rattle.std.specs.Prelude.{◌≡◌, ◌+◌, ◌*◌, ◌≤◌, ℕ, zero, suc, true, false, List, [], ◌∷◌, ◌++◌, codes, length, take, drop, Some, is_some}
 use Rattle.std.specs.List.{flat_map}
 use Rattle.std.specs.Int.{div_ceil}
@@ -18,11 +18,11 @@ use Rattle.seq_state.specs.declared.input.Command.TheVariants.{Open, CreatePort,
 use Rattle.seq_state.specs.declared.input.Input.{Input}
 use Rattle.seq_state.specs.declared.log.Delivery.{Delivery}
 use Rattle.seq_state.specs.Laws.{deliveries_of}
-use Rattle.seq_state.specs.Own.{has_port, port_of, fed_of}
+use Rattle.seq_state.specs.Effect.{has_port, port_of, fed_of}
 use Rattle.seq_state.specs.State.{State, start}
 use Rattle.seq_state.specs.Step.{port_addr, step, state_after, plain}
 use Rattle.seq_engine.specs.Seen.{Seen}
-use Rattle.text_forms.specs.Hex.{spaced}
+use Rattle.text_forms.specs.Hex.{spaced_hex}
 use Rattle.tool_text.specs.Stream.{message_lines}
 
 -- ---- the run
@@ -80,7 +80,7 @@ heading moment target =
 
 -- a delivery: its moment, its port and its message
 abbrev pub passage_line : Delivery → List ℕ
-passage_line d = heading d.moment d.target ++ spaced d.message ++ 10 ∷ []
+passage_line d = heading d.moment d.target ++ spaced_hex d.message ++ 10 ∷ []
 
 -- a line for each delivery of the plain run
 unfoldable pub thru_text : List ℕ → List ℕ
@@ -88,7 +88,7 @@ thru_text bytes = flat_map passage_line (deliveries_of (plain [] (passing bytes)
 
 -- a message of the stream as it comes to the port of the second client
 abbrev pub thru_line : List ℕ → List ℕ
-thru_line message = codes "0 129:p0" ++ spaced message ++ 10 ∷ []
+thru_line message = codes "0 129:p0" ++ spaced_hex message ++ 10 ∷ []
 
 -- the text is a line for each message of the stream
 abbrev pub ThruLaw : Type 0
@@ -110,17 +110,20 @@ pub record IsJoined (s : State) : Type 0 where
   pub pending : s.pending ≡ []
   pub stream : rest (fed_stream s) ≡ fed_stream s
 
--- an engine that has taken no input
-abbrev pub engine_at_start : Seen
-engine_at_start = record { files = []; state = start; moment = 0; steps = 0; failed = false }
-
 -- an engine in which the clients are joined
 abbrev pub engine_joined : Seen
-engine_joined = record { files = []; state = state_after [] start joining; moment = 0; steps = 5; failed = false }
+engine_joined = record {
+  files = [];
+  state = state_after [] start joining;
+  moment = 0;
+  steps = 5;
+  failed = false;
+}
 
 -- an engine after an input at moment 0
 abbrev pub after_input : Seen → Input → Seen
-after_input e i = record e { state = (step e.files e.state i).state; moment = 0; steps = e.steps + 1 }
+after_input e i =
+    record e { state = (step e.files e.state i).state; moment = 0; steps = e.steps + 1 }
 
 -- an engine of this session: it has no files, its moment is 0, and the clients are joined
 pub record IsPassing (e : Seen) : Type 0 where

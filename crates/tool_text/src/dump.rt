@@ -6,8 +6,8 @@ ghost use Rattle.byte_io.specs.Moved.{GaveSome, Took};
 ghost use Rattle.smf_grammar.specs.declared.fault.SmfFault.TheVariants as smf;
 ghost use Rattle.smf_grammar.specs.Chunks.{most_bytes};
 ghost use Rattle.tool_text.specs.Faults.{IsOutput};
-ghost use Rattle.tool_text.specs.Gathered.{Goes, Stops};
-ghost use Rattle.tool_text.specs.Dump.{head_line, tempo_line, event_line, skipped_line, dump_of, IsDumped, StopsWithin, TellsFault};
+ghost use Rattle.tool_text.specs.Gathered.{IsGathered, TookFirst};
+ghost use Rattle.tool_text.specs.Dump.{head_line, tempo_line, event_line, skipped_line, dump_of, IsDumped, IsDumpedInPart, TellsFault};
 
 use crate::fault::ToolFault;
 use crate::limits::MOST;
@@ -33,7 +33,7 @@ pub fn dump_text<R: Source, W: Sink>(
 
     ensures text { OnOk result (IsDumped R.HasLeft W.HasTaken
         input.old input.new out.old out.new) }
-    ensures short { OnErr result (StopsWithin R.HasLeft W.HasTaken
+    ensures short { OnErr result (IsDumpedInPart R.HasLeft W.HasTaken
         input.old input.new out.old out.new) }
     ensures bounded { GaveSome R.HasLeft (most_bytes + 1) input.old input.new }
 
@@ -67,7 +67,7 @@ pub fn dump_text<R: Source, W: Sink>(
 fn print_file<W: Sink>(alloc: Global, file: &SmfFile<'_>, out: &mut W) -> Result<(), ToolFault>
     requires { W.failed out.old ≡ false }
     ensures text { OnOk result (Took W.HasTaken out.old (dump_of file.now) out.new) }
-    ensures short { OnErr result (Stops W.HasTaken out.old (dump_of file.now) out.new) }
+    ensures short { OnErr result (TookFirst W.HasTaken out.old (dump_of file.now) out.new) }
     ensures write { IsErrOf result ToolFault.Write
         → (W.failed out.new ≡ true) ⊎ (W.takes_some out.old ≡ false) }
     ensures unwritten { IsErrOf result ToolFault.OutOfMemory → W.failed out.new ≡ false }
@@ -137,9 +137,9 @@ fn print_tempos<W: Sink>(
     out: &mut W,
 ) -> Result<(), ToolFault>
     requires { W.failed out.old ≡ false }
-    ensures sent { OnOk result (Goes W.HasTaken out.old out.new text.new.items []
+    ensures sent { OnOk result (IsGathered W.HasTaken out.old out.new text.new.items []
         (text.old.items ++ flat_map tempo_line entries.now)) }
-    ensures short { OnErr result (Stops W.HasTaken out.old
+    ensures short { OnErr result (TookFirst W.HasTaken out.old
         (text.old.items ++ flat_map tempo_line entries.now) out.new) }
     ensures unmarked { OnOk result (W.failed out.new ≡ false) }
     ensures eager { W.takes_some out.new ≡ W.takes_some out.old }
@@ -163,9 +163,9 @@ fn print_events<W: Sink>(
     out: &mut W,
 ) -> Result<(), ToolFault>
     requires { W.failed out.old ≡ false }
-    ensures sent { OnOk result (Goes W.HasTaken out.old out.new text.new.items []
+    ensures sent { OnOk result (IsGathered W.HasTaken out.old out.new text.new.items []
         (text.old.items ++ flat_map event_line cursor.old)) }
-    ensures short { OnErr result (Stops W.HasTaken out.old
+    ensures short { OnErr result (TookFirst W.HasTaken out.old
         (text.old.items ++ flat_map event_line cursor.old) out.new) }
     ensures unmarked { OnOk result (W.failed out.new ≡ false) }
     ensures eager { W.takes_some out.new ≡ W.takes_some out.old }

@@ -17,7 +17,7 @@ pub enum ToolFault {
     Read,
     /// A write failed, or took no byte.
     Write,
-    /// The bytes are no Standard MIDI File that can be read. It never holds want of memory.
+    /// The bytes are no Standard MIDI File that can be read. It is never out of memory.
     Smf(SmfFault),
 }
 
@@ -83,7 +83,7 @@ impl From<WireFault> for ToolFault {
     }
 }
 
-/// Want of memory is that of the tool.
+/// Out of memory is that of the tool.
 impl From<SmfFault> for ToolFault {
     ghost use Rattle.std.specs.Prelude.{◌≡◌};
     ghost use Rattle.tool_text.specs.Faults.{tool_fault};

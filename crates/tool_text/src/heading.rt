@@ -3,7 +3,7 @@
 ghost use Rattle.std.specs.Prelude.{◌≡◌, ◌≤◌, ◌<◌, ◌+◌, [], ◌∷◌, ◌++◌, length, vec_len, take, IfOk, IfSome, IfNone, OnOk};
 ghost use Rattle.std.specs.Option.{ForSome};
 ghost use Rattle.midi_wire.specs.Messages.{exclusive_message};
-ghost use Rattle.text_forms.specs.Hex.{spaced};
+ghost use Rattle.text_forms.specs.Hex.{spaced_hex};
 ghost use Rattle.tool_text.specs.Thru.{heading};
 ghost use Rattle.tool_text.specs.Headings.{IsBlock, IsRoomy};
 ghost use Rattle.tool_text.specs.declared.heading.TheConstants.{BLOCK, ROOM};
@@ -97,7 +97,7 @@ impl Heading {
     pub(crate) fn push_line(&self, text: &mut Vec<u8>, bytes: &[u8]) -> Result<(), OutOfMemory>
         requires { length bytes.now ≤ 3 }
         ensures { OnOk result (text.new.items ≡ text.old.items
-            ++ heading self.now.moment self.now.target ++ spaced bytes.now ++ 10 ∷ []) }
+            ++ heading self.now.moment self.now.target ++ spaced_hex bytes.now ++ 10 ∷ []) }
     {
         let end = text.len() + self.len;
         self.push_roomy(text)?;
@@ -113,7 +113,7 @@ impl Heading {
     ) -> Result<(), OutOfMemory>
         ensures { let message = exclusive_message payload.now in
             OnOk result (text.new.items ≡ text.old.items
-            ++ heading self.now.moment self.now.target ++ spaced message ++ 10 ∷ []) }
+            ++ heading self.now.moment self.now.target ++ spaced_hex message ++ 10 ∷ []) }
     {
         self.push(text)?;
         text.extend_from_slice(b" F0")?;

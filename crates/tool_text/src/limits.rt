@@ -1,7 +1,9 @@
 //! How much of a stream is read.
 
+use smf_grammar::MOST_BYTES;
+
 /// How many bytes are read at once.
 pub(crate) const CHUNK: usize = 4096;
 
 /// How many bytes a stream has at most.
-pub(crate) const MOST: usize = 16_777_216;
+pub(crate) const MOST: usize = MOST_BYTES;

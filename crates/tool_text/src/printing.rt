@@ -3,8 +3,8 @@
 ghost use Rattle.std.specs.Prelude.{◌≡◌, ◌<◌, ◌+◌, ◌++◌, ◌⊎◌, ℕ, List, [], true, false, length, IfErr, OnOk, OnErr, IsErrOf};
 ghost use Rattle.byte_io.specs.Moved.{GaveSome, Took, TookPart};
 ghost use Rattle.smf_grammar.specs.Chunks.{most_bytes};
-ghost use Rattle.tool_text.specs.Gathered.{Goes, Stops};
-ghost use Rattle.tool_text.specs.Stream.{HasRoom, IsPassed, StopsShort, GaveTooMany};
+ghost use Rattle.tool_text.specs.Gathered.{IsGathered, TookFirst};
+ghost use Rattle.tool_text.specs.Stream.{HasRoom, IsPassed, IsRenderedInPart, GaveTooMany};
 ghost use Rattle.tool_text.specs.Faults.{IsOfStream, IsOutput};
 
 use crate::fault::ToolFault;
@@ -54,7 +54,7 @@ pub(crate) fn print_stream<R: Source, W: Sink, P: Printer>(
 
     ensures passed { OnOk result (IsPassed R.HasLeft W.HasTaken (P.WasFed printer.new) P.lines
         input.old input.new out.old out.new) }
-    ensures short { OnErr result (StopsShort R.HasLeft W.HasTaken P.lines
+    ensures short { OnErr result (IsRenderedInPart R.HasLeft W.HasTaken P.lines
         input.old input.new out.old out.new) }
     ensures bounded { GaveSome R.HasLeft (most_bytes + 1) input.old input.new }
 
@@ -113,8 +113,8 @@ pub fn send<W: Sink>(out: &mut W, text: &[u8]) -> Result<(), ToolFault>
 pub(crate) fn spill<W: Sink>(text: &mut Vec<u8>, out: &mut W) -> Result<(), ToolFault>
     requires { W.failed out.old ≡ false }
     ensures sent { OnOk result
-        (Goes W.HasTaken out.old out.new text.new.items [] text.old.items) }
-    ensures short { OnErr result (Stops W.HasTaken out.old text.old.items out.new) }
+        (IsGathered W.HasTaken out.old out.new text.new.items [] text.old.items) }
+    ensures short { OnErr result (TookFirst W.HasTaken out.old text.old.items out.new) }
     ensures unmarked { OnOk result (W.failed out.new ≡ false) }
     ensures eager { W.takes_some out.new ≡ W.takes_some out.old }
     ensures write { IsErrOf result ToolFault.Write
@@ -133,7 +133,7 @@ pub(crate) fn flush<W: Sink>(text: &mut Vec<u8>, out: &mut W) -> Result<(), Tool
     requires { W.failed out.old ≡ false }
     ensures sent { OnOk result (Took W.HasTaken out.old text.old.items out.new) }
     ensures empty { OnOk result (text.new.items ≡ []) }
-    ensures short { OnErr result (Stops W.HasTaken out.old text.old.items out.new) }
+    ensures short { OnErr result (TookFirst W.HasTaken out.old text.old.items out.new) }
     ensures unmarked { OnOk result (W.failed out.new ≡ false) }
     ensures eager { W.takes_some out.new ≡ W.takes_some out.old }
     ensures write { IsErrOf result ToolFault.Write

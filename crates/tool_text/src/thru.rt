@@ -9,8 +9,9 @@ ghost use Rattle.std.specs.FinMap as map;
 ghost use Rattle.std.specs.Int.RustNames.{bit_or};
 ghost use Rattle.seq_state.specs.Step.{port_addr, step};
 ghost use Rattle.tool_text.specs.Faults.{IsOfStream};
-ghost use Rattle.tool_text.specs.Stream.{message_lines, IsRendered, StopsShort, GaveTooMany};
-ghost use Rattle.tool_text.specs.Thru.{passage_line, thru_line, thru_text, fed_stream, input_at_start, engine_at_start, engine_joined};
+ghost use Rattle.tool_text.specs.Stream.{message_lines, IsRendered, IsRenderedInPart, GaveTooMany};
+ghost use Rattle.seq_engine.specs.Begun.{seen_at_start};
+ghost use Rattle.tool_text.specs.Thru.{passage_line, thru_line, thru_text, fed_stream, input_at_start, engine_joined};
 ghost use Rattle.tool_text.specs.Thru.{most_piece, after_input, IsPassing, IsFed};
 
 use crate::fault::ToolFault;
@@ -44,12 +45,12 @@ pub fn thru_text<R: Source, W: Sink>(
 
     ensures text { OnOk result (IsRendered R.HasLeft W.HasTaken thru_text
         input.old input.new out.old out.new) }
-    ensures short { OnErr result (StopsShort R.HasLeft W.HasTaken thru_text
+    ensures short { OnErr result (IsRenderedInPart R.HasLeft W.HasTaken thru_text
         input.old input.new out.old out.new) }
     ensures bounded { GaveSome R.HasLeft (most_bytes + 1) input.old input.new }
 
     // `Read` comes where a read failed or there were too many bytes, `Write` where the sink failed or is one that may
-    // take no byte, and want of memory is told only where neither device failed.
+    // take no byte, and out of memory is reported only where neither device failed.
     ensures read { IsErrOf result ToolFault.Read → (R.failed input.new ≡ true)
         ⊎ GaveTooMany R.HasLeft input.old input.new }
     ensures unread { IsErrOf result ToolFault.OutOfMemory → R.failed input.new ≡ false }
@@ -109,7 +110,7 @@ fn joined<'b, A: Agenda + Drop>(alloc: Global, agenda: A) -> Result<Engine<'b, '
 
 /// Opens the two clients, and subscribes the port of the second to that of the first.
 fn join<'b, A: Agenda>(alloc: Global, engine: &mut Engine<'b, 'b, A>) -> Result<(), ToolFault>
-    requires { engine.old ≡ engine_at_start }
+    requires { engine.old ≡ seen_at_start [] }
     ensures joined { OnOk result (engine.new ≡ engine_joined) }
     ensures only { IfErr result (λ e. e ≡ ToolFault.OutOfMemory) }
 {

@@ -6,10 +6,10 @@ ghost use Rattle.midi_wire.specs.Readings.{reading, rest};
 ghost use Rattle.midi_wire.specs.Writings.{written_after, status_after_all};
 ghost use Rattle.byte_io.specs.Moved.{GaveSome, Took};
 ghost use Rattle.smf_grammar.specs.Chunks.{most_bytes};
-ghost use Rattle.text_forms.specs.Hex.{spaced, hex_line};
+ghost use Rattle.text_forms.specs.Hex.{spaced_hex, hex_line};
 ghost use Rattle.tool_text.specs.Faults.{IsOfStream, IsOutput};
-ghost use Rattle.tool_text.specs.Gathered.{Goes, Stops};
-ghost use Rattle.tool_text.specs.Stream.{message_lines, IsRendered, StopsShort, GaveTooMany};
+ghost use Rattle.tool_text.specs.Gathered.{IsGathered, TookFirst};
+ghost use Rattle.tool_text.specs.Stream.{message_lines, IsRendered, IsRenderedInPart, GaveTooMany};
 ghost use Rattle.tool_text.specs.Wire.{written_line, wire_text, IsCopied};
 
 use crate::fault::ToolFault;
@@ -38,12 +38,12 @@ pub fn wire_text<R: Source, W: Sink>(
 
     ensures text { OnOk result (IsRendered R.HasLeft W.HasTaken wire_text
         input.old input.new out.old out.new) }
-    ensures short { OnErr result (StopsShort R.HasLeft W.HasTaken wire_text
+    ensures short { OnErr result (IsRenderedInPart R.HasLeft W.HasTaken wire_text
         input.old input.new out.old out.new) }
     ensures bounded { GaveSome R.HasLeft (most_bytes + 1) input.old input.new }
 
     // `Read` comes where a read failed or there were too many bytes, `Write` where the sink failed or is one that may
-    // take no byte, and want of memory is told only where neither device failed.
+    // take no byte, and out of memory is reported only where neither device failed.
     ensures read { IsErrOf result ToolFault.Read → (R.failed input.new ≡ true)
         ⊎ GaveTooMany R.HasLeft input.old input.new }
     ensures unread { IsErrOf result ToolFault.OutOfMemory → R.failed input.new ≡ false }
@@ -155,7 +155,7 @@ fn write_on(
 fn print_written<W: Sink>(alloc: Global, written: &[u8], out: &mut W) -> Result<(), ToolFault>
     requires { W.failed out.old ≡ false }
     ensures text { OnOk result (Took W.HasTaken out.old (written_line written.now) out.new) }
-    ensures short { OnErr result (Stops W.HasTaken out.old (written_line written.now) out.new) }
+    ensures short { OnErr result (TookFirst W.HasTaken out.old (written_line written.now) out.new) }
     ensures write { IsErrOf result ToolFault.Write
         → (W.failed out.new ≡ true) ⊎ (W.takes_some out.old ≡ false) }
     ensures unwritten { IsErrOf result ToolFault.OutOfMemory → W.failed out.new ≡ false }
@@ -171,10 +171,10 @@ fn print_written<W: Sink>(alloc: Global, written: &[u8], out: &mut W) -> Result<
 /// Prints bytes in hexadecimal after a text that was gathered.
 fn print_spaced<W: Sink>(bytes: &[u8], text: &mut Vec<u8>, out: &mut W) -> Result<(), ToolFault>
     requires { W.failed out.old ≡ false }
-    ensures sent { OnOk result (Goes W.HasTaken out.old out.new text.new.items []
-        (text.old.items ++ spaced bytes.now)) }
-    ensures short { OnErr result (Stops W.HasTaken out.old
-        (text.old.items ++ spaced bytes.now) out.new) }
+    ensures sent { OnOk result (IsGathered W.HasTaken out.old out.new text.new.items []
+        (text.old.items ++ spaced_hex bytes.now)) }
+    ensures short { OnErr result (TookFirst W.HasTaken out.old
+        (text.old.items ++ spaced_hex bytes.now) out.new) }
     ensures unmarked { OnOk result (W.failed out.new ≡ false) }
     ensures eager { W.takes_some out.new ≡ W.takes_some out.old }
     ensures write { IsErrOf result ToolFault.Write

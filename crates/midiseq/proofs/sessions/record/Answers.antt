@@ -2,7 +2,7 @@ use Rattle.std.proofs.Common.{◌≡◌, ◌∙◌, ap, inr, rules}
 use Rattle.std.specs.Prelude.{codes}
 use Rattle.std.proofs.lemmas.Result.{IfErr-weaker, on_ok_weaker}
 use Rattle.clap.specs.Matches.{found_of}
-use Rattle.session_tools.specs.Words.{port_named}
+use Rattle.program_tasks.specs.Words.{port_named}
 use Rattle.midiseq.specs.Given.{text_of}
 use Rattle.midiseq.proofs.sessions.record.Goals as goal
 

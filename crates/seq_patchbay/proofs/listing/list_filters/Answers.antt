@@ -1,7 +1,7 @@
 use Rattle.std.proofs.Common.{◌≡◌, ◌++◌, ℕ, List, ap, subst, ◌∙◌, arith}
 use Rattle.std.specs.Prelude.{IfSome}
 use Rattle.std.specs.FinMap as map
-use Rattle.seq_state.specs.Own.{filter_of}
+use Rattle.seq_state.specs.Effect.{filter_of}
 use Rattle.seq_patchbay.specs.Listing.{filter_lines}
 use Rattle.seq_patchbay.proofs.Texts.{texts_more, texts_none}
 use Rattle.seq_patchbay.proofs.listing.list_filters.Goals as goal

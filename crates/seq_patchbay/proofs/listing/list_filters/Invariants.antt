@@ -1,6 +1,6 @@
 use Rattle.std.proofs.Common.{◌≡◌, ◌++◌}
 use Rattle.std.specs.FinMap as map
-use Rattle.seq_state.specs.Own.{filter_of}
+use Rattle.seq_state.specs.Effect.{filter_of}
 use Rattle.seq_patchbay.specs.Listing.{filter_lines, texts}
 use Rattle.seq_patchbay.proofs.listing.list_filters.Given as goal
 

@@ -1,6 +1,6 @@
 use Rattle.std.proofs.Common.{◌≡◌, ◌++◌}
 use Rattle.std.specs.FinMap as map
-use Rattle.seq_state.specs.Own.{port_of}
+use Rattle.seq_state.specs.Effect.{port_of}
 use Rattle.seq_patchbay.specs.Listing.{port_lines, texts}
 use Rattle.seq_patchbay.proofs.listing.list_ports.Given as goal
 

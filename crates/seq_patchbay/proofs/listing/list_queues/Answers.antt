@@ -1,7 +1,7 @@
 use Rattle.std.proofs.Common.{◌≡◌, ◌++◌, ℕ, List, ap, subst, ◌∙◌, arith}
 use Rattle.std.specs.Prelude.{IfSome}
 use Rattle.std.specs.FinMap as map
-use Rattle.seq_state.specs.Own.{queue_of}
+use Rattle.seq_state.specs.Effect.{queue_of}
 use Rattle.seq_patchbay.specs.Listing.{queue_lines}
 use Rattle.seq_patchbay.proofs.Texts.{texts_more, texts_none}
 use Rattle.seq_patchbay.proofs.listing.list_queues.Goals as goal

@@ -1,6 +1,6 @@
 use Rattle.std.proofs.Common.{◌≡◌, ◌++◌}
 use Rattle.std.specs.FinMap as map
-use Rattle.seq_state.specs.Own.{queue_of}
+use Rattle.seq_state.specs.Effect.{queue_of}
 use Rattle.seq_patchbay.specs.Listing.{queue_lines, texts}
 use Rattle.seq_patchbay.proofs.listing.list_queues.Given as goal
 

@@ -9,7 +9,7 @@ use Rattle.std.specs.FinMap.{FinMap, get-empty}
 use Rattle.seq_state.specs.State.{Queue}
 use Rattle.seq_state.proofs.Effects.{get-put}
 use Rattle.seq_patchbay.specs.Listing.{texts, client_line, client_lines, client_texts, port_lines, filter_lines, queue_lines, edge_texts}
-use Rattle.seq_patchbay.specs.Rows.{held_clock, running_clock, a_queue, in_port, out_port, drum_filter, octave_filter, everyone, silent, studio, studio_ports, studio_filters, studio_queues, two_edges}
+use Rattle.seq_patchbay.specs.Rows.{held_clock, running_clock, listed_queue, listed_in_port, listed_out_port, drum_filter, octave_filter, everyone, silent, listed_studio, studio_ports, studio_filters, studio_queues, two_edges}
 use Rattle.seq_patchbay.proofs.rows.worked_listing.Goals as goal
 
 -- ---- texts of which only the first and the last have something
@@ -39,10 +39,10 @@ queues_text =
     ++ codes "queue 191:q7 running shared\n"
 
 -- what is at each number
-port-at : (n : ℕ) → FinMap.get studio_ports n ≡ cond (eqb n 0) (Some in_port) (cond (eqb n 15) (Some out_port) None)
+port-at : (n : ℕ) → FinMap.get studio_ports n ≡ cond (eqb n 0) (Some listed_in_port) (cond (eqb n 15) (Some listed_out_port) None)
 port-at n =
-    get-put (FinMap.insert FinMap.empty 15 out_port) 0 (Some in_port) n
-    ∙ ap (cond (eqb n 0) (Some in_port)) (get-put FinMap.empty 15 (Some out_port) n ∙ ap (cond (eqb n 15) (Some out_port)) (get-empty nat_cmp n))
+    get-put (FinMap.insert FinMap.empty 15 listed_out_port) 0 (Some listed_in_port) n
+    ∙ ap (cond (eqb n 0) (Some listed_in_port)) (get-put FinMap.empty 15 (Some listed_out_port) n ∙ ap (cond (eqb n 15) (Some listed_out_port)) (get-empty nat_cmp n))
 
 filter-at : (n : ℕ) → FinMap.get studio_filters n ≡ cond (eqb n 1) (Some drum_filter) (cond (eqb n 10) (Some octave_filter) None)
 filter-at n =
@@ -50,23 +50,23 @@ filter-at n =
     ∙ ap (cond (eqb n 1) (Some drum_filter)) (get-put FinMap.empty 10 (Some octave_filter) n ∙ ap (cond (eqb n 10) (Some octave_filter)) (get-empty nat_cmp n))
 
 queue-at : (n : ℕ) → FinMap.get studio_queues n ≡
-    cond (eqb n 0) (Some (a_queue held_clock false)) (cond (eqb n 1) (Some (a_queue running_clock false)) (cond (eqb n 2) (Some (a_queue held_clock true)) (cond (eqb n 7) (Some (a_queue running_clock true)) None)))
+    cond (eqb n 0) (Some (listed_queue held_clock false)) (cond (eqb n 1) (Some (listed_queue running_clock false)) (cond (eqb n 2) (Some (listed_queue held_clock true)) (cond (eqb n 7) (Some (listed_queue running_clock true)) None)))
 queue-at n =
-    let one : FinMap nat_cmp Queue = FinMap.insert FinMap.empty 7 (a_queue running_clock true) in
-    let two : FinMap nat_cmp Queue = FinMap.insert one 2 (a_queue held_clock true) in
-    let three : FinMap nat_cmp Queue = FinMap.insert two 1 (a_queue running_clock false) in
-    get-put three 0 (Some (a_queue held_clock false)) n
-    ∙ ap (cond (eqb n 0) (Some (a_queue held_clock false))) (get-put two 1 (Some (a_queue running_clock false)) n
-    ∙ ap (cond (eqb n 1) (Some (a_queue running_clock false))) (get-put one 2 (Some (a_queue held_clock true)) n
-    ∙ ap (cond (eqb n 2) (Some (a_queue held_clock true))) (get-put FinMap.empty 7 (Some (a_queue running_clock true)) n
-    ∙ ap (cond (eqb n 7) (Some (a_queue running_clock true))) (get-empty nat_cmp n))))
+    let one : FinMap nat_cmp Queue = FinMap.insert FinMap.empty 7 (listed_queue running_clock true) in
+    let two : FinMap nat_cmp Queue = FinMap.insert one 2 (listed_queue held_clock true) in
+    let three : FinMap nat_cmp Queue = FinMap.insert two 1 (listed_queue running_clock false) in
+    get-put three 0 (Some (listed_queue held_clock false)) n
+    ∙ ap (cond (eqb n 0) (Some (listed_queue held_clock false))) (get-put two 1 (Some (listed_queue running_clock false)) n
+    ∙ ap (cond (eqb n 1) (Some (listed_queue running_clock false))) (get-put one 2 (Some (listed_queue held_clock true)) n
+    ∙ ap (cond (eqb n 2) (Some (listed_queue held_clock true))) (get-put FinMap.empty 7 (Some (listed_queue running_clock true)) n
+    ∙ ap (cond (eqb n 7) (Some (listed_queue running_clock true))) (get-empty nat_cmp n))))
 
 agree : (first n : ℕ) (f g : ℕ → List ℕ) → ((k : ℕ) → f k ≡ g k) → texts first n f ≡ texts first n g
 unfolding texts
 agree first zero f g h = refl
 agree first (suc n) f g h = ap (λ t. t ++ f (first + n)) (agree first n f g h) ∙ ap (λ t. texts first n g ++ t) (h (first + n))
 
-ports-found : texts 0 16 (λ n. port_lines 191 n (cond (eqb n 0) (Some in_port) (cond (eqb n 15) (Some out_port) None))) ≡ ports_text
+ports-found : texts 0 16 (λ n. port_lines 191 n (cond (eqb n 0) (Some listed_in_port) (cond (eqb n 15) (Some listed_out_port) None))) ≡ ports_text
 unfolding digits texts
 ports-found = refl
 
@@ -80,7 +80,7 @@ filters-found = refl
 filters : texts 0 16 (λ n. filter_lines 191 n (FinMap.get studio_filters n)) ≡ filters_text
 filters = agree 0 16 _ _ (λ n. ap (filter_lines 191 n) (filter-at n)) ∙ filters-found
 
-queues-found : texts 0 8 (λ n. queue_lines 191 n (cond (eqb n 0) (Some (a_queue held_clock false)) (cond (eqb n 1) (Some (a_queue running_clock false)) (cond (eqb n 2) (Some (a_queue held_clock true)) (cond (eqb n 7) (Some (a_queue running_clock true)) None))))) ≡ queues_text
+queues-found : texts 0 8 (λ n. queue_lines 191 n (cond (eqb n 0) (Some (listed_queue held_clock false)) (cond (eqb n 1) (Some (listed_queue running_clock false)) (cond (eqb n 2) (Some (listed_queue held_clock true)) (cond (eqb n 7) (Some (listed_queue running_clock true)) None))))) ≡ queues_text
 unfolding digits texts
 queues-found = refl
 
@@ -90,7 +90,7 @@ queues = agree 0 8 _ _ (λ n. ap (queue_lines 191 n) (queue-at n)) ∙ queues-fo
 abbrev studio_line : List ℕ
 studio_line = client_line 191 (codes "studio") 2000 1
 
-studio_lines : client_lines 191 (Some studio) ≡ studio_line ++ ports_text ++ filters_text ++ queues_text
+studio_lines : client_lines 191 (Some listed_studio) ≡ studio_line ++ ports_text ++ filters_text ++ queues_text
 studio_lines =
     let others : List ℕ = texts 0 16 (λ n. filter_lines 191 n (FinMap.get studio_filters n)) in
     let rest : List ℕ = texts 0 8 (λ n. queue_lines 191 n (FinMap.get studio_queues n)) in
@@ -119,12 +119,12 @@ silent_lines =
     ∙ ap (λ t. silent_line ++ [] ++ t ++ queues_left) none_of_filters
     ∙ ap (λ t. silent_line ++ [] ++ [] ++ t) none_of_queues
 
--- ---- who is there
+-- ---- the listing
 
-at : (n : ℕ) → FinMap.get everyone n ≡ cond (eqb n 128) (Some silent) (cond (eqb n 191) (Some studio) None)
+at : (n : ℕ) → FinMap.get everyone n ≡ cond (eqb n 128) (Some silent) (cond (eqb n 191) (Some listed_studio) None)
 at n =
-    get-put (FinMap.insert FinMap.empty 191 studio) 128 (Some silent) n
-    ∙ ap (λ o. cond (eqb n 128) (Some silent) o) (get-put FinMap.empty 191 (Some studio) n ∙ ap (λ o. cond (eqb n 191) (Some studio) o) (get-empty nat_cmp n))
+    get-put (FinMap.insert FinMap.empty 191 listed_studio) 128 (Some silent) n
+    ∙ ap (λ o. cond (eqb n 128) (Some silent) o) (get-put FinMap.empty 191 (Some listed_studio) n ∙ ap (λ o. cond (eqb n 191) (Some listed_studio) o) (get-empty nat_cmp n))
 
 apart : (n k : ℕ) → (n ≡ k → ⊥) → eqb n k ≡ false
 apart n k h = false_from_ne_true (eqb n k) (λ e. h (eqb-true n k e))
@@ -132,8 +132,8 @@ apart n k h = false_from_ne_true (eqb n k) (λ e. h (eqb-true n k e))
 nobody : (n : ℕ) → 128 < n → n < 191 → client_lines n (FinMap.get everyone n) ≡ []
 nobody n low high =
     ap (client_lines n) (at n
-    ∙ ap (λ b. cond b (Some silent) (cond (eqb n 191) (Some studio) None)) (apart n 128 (λ e. omega arith))
-    ∙ ap (λ b. cond b (Some studio) None) (apart n 191 (λ e. omega arith)))
+    ∙ ap (λ b. cond b (Some silent) (cond (eqb n 191) (Some listed_studio) None)) (apart n 128 (λ e. omega arith))
+    ∙ ap (λ b. cond b (Some listed_studio) None) (apart n 191 (λ e. omega arith)))
 
 clients : client_texts everyone ≡ codes "client 128 z in 1 out 10\n" ++ (studio_line ++ ports_text ++ filters_text ++ queues_text)
 clients =

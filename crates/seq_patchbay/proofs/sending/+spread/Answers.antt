@@ -5,9 +5,9 @@ use Rattle.std.specs.List.{flat_map}
 use Rattle.std.proofs.lemmas.List.{drop_all}
 use Rattle.node_table.specs.declared.number.Addr.{Addr}
 use Rattle.seq_state.specs.declared.log.Delivery.{Delivery}
-use Rattle.seq_state.specs.Own.{filter_of}
-use Rattle.seq_state.specs.Step.{offered, delivered}
-use Rattle.seq_patchbay.specs.Carrying.{copies_to, spread}
+use Rattle.seq_state.specs.Effect.{filter_of}
+use Rattle.seq_state.specs.Step.{pools_after, copies_with_room}
+use Rattle.seq_patchbay.specs.Carrying.{copies_to, copies_onward}
 use Rattle.seq_patchbay.proofs.Sent.{spread-none, spread-hops, to-filter, to-none, to-only, sent-one}
 use Rattle.seq_patchbay.proofs.sending.+spread.Goals as goal
 
@@ -18,14 +18,14 @@ send_to-returns-then-hops-eq0-clause-pools g t c =
     let a = c.args in
     let l = c.loop-node in
     ap (λ cs. cs.pools) l.invariant.clients
-    ∙ ap (offered a.clients.now.pools) (sym (to-none a.clients.now.clients a.graph.now a.moment l.hops l.node.now (g.M.Carried.bytes l.message) c.in-Filter.filter c.in-Filter.is c.if-hops-eq0.true) ∙ l.invariant.same)
+    ∙ ap (pools_after a.clients.now.pools) (sym (to-none a.clients.now.clients a.graph.now a.moment l.hops l.node.now (g.M.Carried.bytes l.message) c.in-Filter.filter c.in-Filter.is c.if-hops-eq0.true) ∙ l.invariant.same)
 
 pub send_to-returns-then-hops-eq0-clause-sent : goal.send_to-returns-then-hops-eq0-clause-sent
 send_to-returns-then-hops-eq0-clause-sent g t c =
     let a = c.args in
     let l = c.loop-node in
     ap (λ v. v.items) l.invariant.out ∙ sym (append-nil a.out.now.items)
-    ∙ ap (λ ds. a.out.now.items ++ delivered a.clients.now.pools ds) (sym (to-none a.clients.now.clients a.graph.now a.moment l.hops l.node.now (g.M.Carried.bytes l.message) c.in-Filter.filter c.in-Filter.is c.if-hops-eq0.true) ∙ l.invariant.same)
+    ∙ ap (λ ds. a.out.now.items ++ copies_with_room a.clients.now.pools ds) (sym (to-none a.clients.now.clients a.graph.now a.moment l.hops l.node.now (g.M.Carried.bytes l.message) c.in-Filter.filter c.in-Filter.is c.if-hops-eq0.true) ∙ l.invariant.same)
 
 pub send_to-loop-node-preserved : goal.send_to-loop-node-preserved
 send_to-loop-node-preserved g t c =
@@ -38,7 +38,7 @@ send_to-loop-node-preserved g t c =
       out = l.invariant.out;
       same =
           sym (to-only now a.graph.now a.moment l.hops c.targets.result.now c.next-item.result (g.M.Carried.bytes c.in-Some.passed) (omega arith) (omega arith) c.next-item.is c.if-hops-eq0.false)
-          ∙ ap (λ ts. spread now a.graph.now a.moment l.hops ts (g.M.Carried.bytes c.in-Some.passed)) c.targets.ensures
+          ∙ ap (λ ts. copies_onward now a.graph.now a.moment l.hops ts (g.M.Carried.bytes c.in-Some.passed)) c.targets.ensures
           ∙ sym (to-filter now a.graph.now a.moment l.hops l.node.now (g.M.Carried.bytes l.message) c.in-Filter.filter c.in-Filter.is _ (c.rule.ensures ∙ ap (λ cs. option_map (λ f. f.rule) (filter_of (FinMap.get cs.clients l.node.now.client) c.in-Filter.filter)) l.invariant.clients)
           (Some (g.M.Carried.bytes c.in-Some.passed)) (ap (option_map g.M.Carried.bytes) (sym c.in-Some.is) ∙ c.through-passed.ensures))
           ∙ l.invariant.same;
@@ -49,13 +49,13 @@ send_to-loop-node-preserved g t c =
 pub spread-returns-then-hops-eq0-clause-pools : goal.spread-returns-then-hops-eq0-clause-pools
 spread-returns-then-hops-eq0-clause-pools g t c =
     let a = c.args in
-    sym (ap (offered a.clients.now.pools) (spread-none a.clients.now.clients a.graph.now a.moment a.hops a.targets.now (g.M.Carried.bytes a.message) c.if-hops-eq0.true))
+    sym (ap (pools_after a.clients.now.pools) (spread-none a.clients.now.clients a.graph.now a.moment a.hops a.targets.now (g.M.Carried.bytes a.message) c.if-hops-eq0.true))
 
 pub spread-returns-then-hops-eq0-clause-sent : goal.spread-returns-then-hops-eq0-clause-sent
 spread-returns-then-hops-eq0-clause-sent g t c =
     let a = c.args in
     sym (append-nil a.out.now.items)
-    ∙ sym (ap (λ ds. a.out.now.items ++ delivered a.clients.now.pools ds) (spread-none a.clients.now.clients a.graph.now a.moment a.hops a.targets.now (g.M.Carried.bytes a.message) c.if-hops-eq0.true))
+    ∙ sym (ap (λ ds. a.out.now.items ++ copies_with_room a.clients.now.pools ds) (spread-none a.clients.now.clients a.graph.now a.moment a.hops a.targets.now (g.M.Carried.bytes a.message) c.if-hops-eq0.true))
 
 pub spread-loop-target-preserved : goal.spread-loop-target-preserved
 spread-loop-target-preserved g t c =
@@ -75,9 +75,9 @@ spread-returns-clause-pools g t c =
     let a = c.args in
     let l = c.loop-target in
     let one : Addr → List Delivery = λ node. copies_to a.clients.now.clients a.graph.now a.moment (a.hops - 1) node (g.M.Carried.bytes a.message) in
-    ap (λ ts. offered l.clients.pools (flat_map one ts)) (sym (drop_all l.target-index a.targets.now c.loop-target-test.false))
+    ap (λ ts. pools_after l.clients.pools (flat_map one ts)) (sym (drop_all l.target-index a.targets.now c.loop-target-test.false))
     ∙ l.invariant.pools
-    ∙ ap (offered a.clients.now.pools) (sym (spread-hops a.clients.now.clients a.graph.now a.moment a.hops a.targets.now (g.M.Carried.bytes a.message) c.if-hops-eq0.false))
+    ∙ ap (pools_after a.clients.now.pools) (sym (spread-hops a.clients.now.clients a.graph.now a.moment a.hops a.targets.now (g.M.Carried.bytes a.message) c.if-hops-eq0.false))
 
 pub spread-returns-clause-sent : goal.spread-returns-clause-sent
 spread-returns-clause-sent g t c =
@@ -85,6 +85,6 @@ spread-returns-clause-sent g t c =
     let l = c.loop-target in
     let one : Addr → List Delivery = λ node. copies_to a.clients.now.clients a.graph.now a.moment (a.hops - 1) node (g.M.Carried.bytes a.message) in
     sym (append-nil l.out.items)
-    ∙ ap (λ ts. l.out.items ++ delivered l.clients.pools (flat_map one ts)) (sym (drop_all l.target-index a.targets.now c.loop-target-test.false))
+    ∙ ap (λ ts. l.out.items ++ copies_with_room l.clients.pools (flat_map one ts)) (sym (drop_all l.target-index a.targets.now c.loop-target-test.false))
     ∙ l.invariant.sent
-    ∙ ap (λ ds. a.out.now.items ++ delivered a.clients.now.pools ds) (sym (spread-hops a.clients.now.clients a.graph.now a.moment a.hops a.targets.now (g.M.Carried.bytes a.message) c.if-hops-eq0.false))
+    ∙ ap (λ ds. a.out.now.items ++ copies_with_room a.clients.now.pools ds) (sym (spread-hops a.clients.now.clients a.graph.now a.moment a.hops a.targets.now (g.M.Carried.bytes a.message) c.if-hops-eq0.false))

@@ -2,7 +2,7 @@ use Rattle.std.proofs.Common.{◌≡◌, ◌≤◌, ◌++◌, ◌+◌, ◌*◌, 
 use Rattle.std.specs.List.{flat_map}
 use Rattle.node_table.specs.declared.number.Addr.{Addr}
 use Rattle.seq_state.specs.declared.log.Delivery.{Delivery}
-use Rattle.seq_state.specs.Step.{offered, delivered}
+use Rattle.seq_state.specs.Step.{pools_after, copies_with_room}
 use Rattle.seq_patchbay.specs.Carrying.{copies_to}
 use Rattle.seq_patchbay.proofs.sending.+spread.Given as goal
 
@@ -31,6 +31,6 @@ invariant-spread-loop-target g l =
     let one : Addr → List Delivery = λ node. copies_to c.clients l.graph l.moment (l.hops - 1) node (g.M.Carried.bytes l.message) in
     record {
       clients : l.clients.clients ≡ c.clients;
-      pools : offered l.clients.pools (flat_map one (drop l.target-index l.targets)) ≡ offered c.pools (flat_map one l.targets);
-      sent : l.out.items ++ delivered l.clients.pools (flat_map one (drop l.target-index l.targets)) ≡ l.fn.out.items ++ delivered c.pools (flat_map one l.targets);
+      pools : pools_after l.clients.pools (flat_map one (drop l.target-index l.targets)) ≡ pools_after c.pools (flat_map one l.targets);
+      sent : l.out.items ++ copies_with_room l.clients.pools (flat_map one (drop l.target-index l.targets)) ≡ l.fn.out.items ++ copies_with_room c.pools (flat_map one l.targets);
     }

@@ -2,7 +2,7 @@ use Rattle.std.proofs.Common.{◌++◌, List, refl, sym, ap, ◌∙◌, append-n
 use Rattle.std.specs.List.{flat_map}
 use Rattle.std.proofs.lemmas.List.{drop_all}
 use Rattle.seq_state.specs.declared.log.Delivery.{Delivery}
-use Rattle.seq_state.specs.Step.{offered, delivered}
+use Rattle.seq_state.specs.Step.{pools_after, copies_with_room}
 use Rattle.seq_patchbay.specs.Ways.{copies_on}
 use Rattle.seq_patchbay.specs.declared.ways.Way.{Way}
 use Rattle.seq_patchbay.proofs.Sent.{sent-one}
@@ -14,7 +14,7 @@ loop-way-init g c =
     record {
       clients = refl;
       pools = refl;
-      sent = ap (λ ds. ds ++ delivered a.clients.now.pools (flat_map (copies_on a.clients.now.clients a.graph.now a.moment (g.M.Carried.bytes a.message)) a.ways.now)) c.in_ok-reserve.ensures.items;
+      sent = ap (λ ds. ds ++ copies_with_room a.clients.now.pools (flat_map (copies_on a.clients.now.clients a.graph.now a.moment (g.M.Carried.bytes a.message)) a.ways.now)) c.in_ok-reserve.ensures.items;
     }
 
 pub returns-in_err-message-clause-clients : goal.returns-in_err-message-clause-clients
@@ -44,7 +44,7 @@ returns-clause-pools g c =
     let a = c.args in
     let l = c.loop-way in
     let one : Way → List Delivery = λ w. copies_on a.clients.now.clients a.graph.now a.moment (g.M.Carried.bytes a.message) w in
-    ap (λ ws. offered l.clients.pools (flat_map one ws)) (sym (drop_all l.way-index a.ways.now c.loop-way-test.false)) ∙ l.invariant.pools
+    ap (λ ws. pools_after l.clients.pools (flat_map one ws)) (sym (drop_all l.way-index a.ways.now c.loop-way-test.false)) ∙ l.invariant.pools
 
 pub returns-clause-sent : goal.returns-clause-sent
 returns-clause-sent g c =
@@ -52,4 +52,4 @@ returns-clause-sent g c =
     let l = c.loop-way in
     let one : Way → List Delivery = λ w. copies_on a.clients.now.clients a.graph.now a.moment (g.M.Carried.bytes a.message) w in
     sym (append-nil l.out.items)
-    ∙ ap (λ ws. l.out.items ++ delivered l.clients.pools (flat_map one ws)) (sym (drop_all l.way-index a.ways.now c.loop-way-test.false)) ∙ l.invariant.sent
+    ∙ ap (λ ws. l.out.items ++ copies_with_room l.clients.pools (flat_map one ws)) (sym (drop_all l.way-index a.ways.now c.loop-way-test.false)) ∙ l.invariant.sent

@@ -1,6 +1,6 @@
 use Rattle.std.proofs.Common.{◌≡◌, ◌++◌, take, List}
 use Rattle.node_table.specs.declared.number.Addr.{Addr}
-use Rattle.seq_state.specs.Step.{offered, delivered}
+use Rattle.seq_state.specs.Step.{pools_after, copies_with_room}
 use Rattle.seq_patchbay.specs.Ways.{spread_all, AreWays}
 use Rattle.seq_patchbay.proofs.sending.send_each.Given as goal
 
@@ -10,7 +10,7 @@ invariant-loop-message l =
     record {
       clients : l.clients.clients ≡ c.clients;
       pools : (targets : List Addr) → AreWays c.clients l.graph targets l.ways →
-          l.clients.pools ≡ offered c.pools (spread_all c.clients l.graph l.moment targets (take l.message-index l.messages));
+          l.clients.pools ≡ pools_after c.pools (spread_all c.clients l.graph l.moment targets (take l.message-index l.messages));
       sent : (targets : List Addr) → AreWays c.clients l.graph targets l.ways →
-          l.out.items ≡ l.fn.out.items ++ delivered c.pools (spread_all c.clients l.graph l.moment targets (take l.message-index l.messages));
+          l.out.items ≡ l.fn.out.items ++ copies_with_room c.pools (spread_all c.clients l.graph l.moment targets (take l.message-index l.messages));
     }

@@ -1,7 +1,7 @@
 use Rattle.std.proofs.Common.{◌≡◌, map, take}
-use Rattle.seq_session.specs.Sessions.{read}
+use Rattle.seq_session.specs.Sessions.{script_reading}
 use Rattle.seq_session.proofs.parse.parse_all.Given as goal
 
 abbrev pub invariant-loop-one : goal.invariant-loop-one
 invariant-loop-one l =
-    l.reads.items ≡ map (read l.files l.until) (take l.one-index l.scripts)
+    l.reads.items ≡ map (script_reading l.files l.until) (take l.one-index l.scripts)

@@ -2,8 +2,8 @@ use Rattle.std.proofs.Common.{◌≡◌, Some, sym, ap, ◌∙◌}
 use Rattle.std.specs.FinMap.{insert}
 use Rattle.std.proofs.lemmas.Result.{on_ok_weaker}
 use Rattle.cell_pools.specs.Cells.{Store, size_of}
-use Rattle.seq_state.specs.State.{put}
-use Rattle.seq_settle.specs.Cells.{Left, key_of}
+use Rattle.seq_state.specs.State.{with_entry}
+use Rattle.seq_settle.specs.Cells.{RankedPlayback, key_of}
 use Rattle.seq_settle.specs.Sends.{key_of_head, head_of, new_left}
 use Rattle.seq_settle.proofs.Added.{none_added, added_tasks, added_cells, added_keys, added_fresh, sizes-with}
 use Rattle.seq_settle.proofs.NewKeys.{key_of_head-is}
@@ -17,9 +17,9 @@ returns-in_default-clause-added g c =
 pub add_key-requires-clause-free : goal.add_key-requires-clause-free
 add_key-requires-clause-free g c =
     let a = c.args.accepted in
-    let l : Left = new_left c.args.rank a.port a.queue a.moment a.events in
-    let added : c.add.new.self.cells ≡ put c.args.cells.now.cells c.in-Ok.cell (Some (a.client, l)) =
-    ap (λ (s : Store Left). s.cells) c.in-Ok.ensures.ok ∙ ap (λ x. insert c.args.cells.now.cells c.in-Ok.cell (a.client, x)) c.new-playing.ensures in
+    let l : RankedPlayback = new_left c.args.rank a.port a.queue a.moment a.events in
+    let added : c.add.new.self.cells ≡ with_entry c.args.cells.now.cells c.in-Ok.cell (Some (a.client, l)) =
+    ap (λ (s : Store RankedPlayback). s.cells) c.in-Ok.ensures.ok ∙ ap (λ x. insert c.args.cells.now.cells c.in-Ok.cell (a.client, x)) c.new-playing.ensures in
     let some = sym c.first_due.ensures ∙ c.in-Some.is in
     let key_is : c.key_of-key.result ≡ key_of (g.D.Desk.clients c.args.desk.now) (Some (a.client, l)) =
     c.key_of-key.ensures ∙ ap (key_of_head (g.D.Desk.clients c.args.desk.now)) (c.head.ensures ∙ ap (λ x. head_of (a.client, x)) c.new-playing.ensures) ∙ key_of_head-is (g.D.Desk.clients c.args.desk.now) (a.client, l) in
@@ -28,9 +28,9 @@ add_key-requires-clause-free g c =
 pub returns-clause-added : goal.returns-clause-added
 returns-clause-added g c =
     let a = c.args.accepted in
-    let l : Left = new_left c.args.rank a.port a.queue a.moment a.events in
-    let added : c.add.new.self.cells ≡ put c.args.cells.now.cells c.in-Ok.cell (Some (a.client, l)) =
-    ap (λ (s : Store Left). s.cells) c.in-Ok.ensures.ok ∙ ap (λ x. insert c.args.cells.now.cells c.in-Ok.cell (a.client, x)) c.new-playing.ensures in
+    let l : RankedPlayback = new_left c.args.rank a.port a.queue a.moment a.events in
+    let added : c.add.new.self.cells ≡ with_entry c.args.cells.now.cells c.in-Ok.cell (Some (a.client, l)) =
+    ap (λ (s : Store RankedPlayback). s.cells) c.in-Ok.ensures.ok ∙ ap (λ x. insert c.args.cells.now.cells c.in-Ok.cell (a.client, x)) c.new-playing.ensures in
     let some = sym c.first_due.ensures ∙ c.in-Some.is in
     let key_is : c.key_of-key.result ≡ key_of (g.D.Desk.clients c.args.desk.now) (Some (a.client, l)) =
     c.key_of-key.ensures ∙ ap (key_of_head (g.D.Desk.clients c.args.desk.now)) (c.head.ensures ∙ ap (λ x. head_of (a.client, x)) c.new-playing.ensures) ∙ key_of_head-is (g.D.Desk.clients c.args.desk.now) (a.client, l) in
@@ -39,9 +39,9 @@ returns-clause-added g c =
 pub returns-clause-cells : goal.returns-clause-cells
 returns-clause-cells g c =
     let a = c.args.accepted in
-    let l : Left = new_left c.args.rank a.port a.queue a.moment a.events in
-    let added : c.add.new.self.cells ≡ put c.args.cells.now.cells c.in-Ok.cell (Some (a.client, l)) =
-    ap (λ (s : Store Left). s.cells) c.in-Ok.ensures.ok ∙ ap (λ x. insert c.args.cells.now.cells c.in-Ok.cell (a.client, x)) c.new-playing.ensures in
+    let l : RankedPlayback = new_left c.args.rank a.port a.queue a.moment a.events in
+    let added : c.add.new.self.cells ≡ with_entry c.args.cells.now.cells c.in-Ok.cell (Some (a.client, l)) =
+    ap (λ (s : Store RankedPlayback). s.cells) c.in-Ok.ensures.ok ∙ ap (λ x. insert c.args.cells.now.cells c.in-Ok.cell (a.client, x)) c.new-playing.ensures in
     let some = sym c.first_due.ensures ∙ c.in-Some.is in
     let key_is : c.key_of-key.result ≡ key_of (g.D.Desk.clients c.args.desk.now) (Some (a.client, l)) =
     c.key_of-key.ensures ∙ ap (key_of_head (g.D.Desk.clients c.args.desk.now)) (c.head.ensures ∙ ap (λ x. head_of (a.client, x)) c.new-playing.ensures) ∙ key_of_head-is (g.D.Desk.clients c.args.desk.now) (a.client, l) in
@@ -50,14 +50,14 @@ returns-clause-cells g c =
 pub returns-clause-keys : goal.returns-clause-keys
 returns-clause-keys g c =
     let a = c.args.accepted in
-    let l : Left = new_left c.args.rank a.port a.queue a.moment a.events in
-    let added : c.add.new.self.cells ≡ put c.args.cells.now.cells c.in-Ok.cell (Some (a.client, l)) =
-    ap (λ (s : Store Left). s.cells) c.in-Ok.ensures.ok ∙ ap (λ x. insert c.args.cells.now.cells c.in-Ok.cell (a.client, x)) c.new-playing.ensures in
+    let l : RankedPlayback = new_left c.args.rank a.port a.queue a.moment a.events in
+    let added : c.add.new.self.cells ≡ with_entry c.args.cells.now.cells c.in-Ok.cell (Some (a.client, l)) =
+    ap (λ (s : Store RankedPlayback). s.cells) c.in-Ok.ensures.ok ∙ ap (λ x. insert c.args.cells.now.cells c.in-Ok.cell (a.client, x)) c.new-playing.ensures in
     let some = sym c.first_due.ensures ∙ c.in-Some.is in
     let key_is : c.key_of-key.result ≡ key_of (g.D.Desk.clients c.args.desk.now) (Some (a.client, l)) =
     c.key_of-key.ensures ∙ ap (key_of_head (g.D.Desk.clients c.args.desk.now)) (c.head.ensures ∙ ap (λ x. head_of (a.client, x)) c.new-playing.ensures) ∙ key_of_head-is (g.D.Desk.clients c.args.desk.now) (a.client, l) in
-    on_ok_weaker c.add_key.result (λ e. added_keys (g.D.Desk.clients c.args.desk.now) c.args.cells.now.cells c.add.new.self.cells (g.A.Agenda.content c.args.agenda.now) c.args.rank c.in-Ok.cell a.client a.port a.queue a.moment a.events _ c.requires.cells c.requires.keys c.requires.ordered some c.in-Ok.ensures.vacant added (g.A.Agenda.content c.add_key.new.agenda) (e ∙ ap (put (g.A.Agenda.content c.args.agenda.now) c.in-Ok.cell) key_is)) c.add_key.ensures
+    on_ok_weaker c.add_key.result (λ e. added_keys (g.D.Desk.clients c.args.desk.now) c.args.cells.now.cells c.add.new.self.cells (g.A.Agenda.content c.args.agenda.now) c.args.rank c.in-Ok.cell a.client a.port a.queue a.moment a.events _ c.requires.cells c.requires.keys c.requires.ordered some c.in-Ok.ensures.vacant added (g.A.Agenda.content c.add_key.new.agenda) (e ∙ ap (with_entry (g.A.Agenda.content c.args.agenda.now) c.in-Ok.cell) key_is)) c.add_key.ensures
 
 pub returns-clause-sizes : goal.returns-clause-sizes
 returns-clause-sizes g c =
-    on_ok_weaker c.add_key.result (λ e other. ap (λ (s : Store Left). size_of s other) c.in-Ok.ensures.ok ∙ sizes-with c.args.cells.now c.args.accepted.client c.in-Ok.cell c.new-playing.result other) c.add_key.ensures
+    on_ok_weaker c.add_key.result (λ e other. ap (λ (s : Store RankedPlayback). size_of s other) c.in-Ok.ensures.ok ∙ sizes-with c.args.cells.now c.args.accepted.client c.in-Ok.cell c.new-playing.result other) c.add_key.ensures

@@ -1,7 +1,7 @@
 use Rattle.std.proofs.Common.{None, ap, ◌∙◌}
 use Rattle.std.specs.FinMap as map
 use Rattle.std.proofs.lemmas.Result.{on_ok_weaker}
-use Rattle.seq_state.specs.State.{put}
+use Rattle.seq_state.specs.State.{with_entry}
 use Rattle.seq_settle.proofs.Stores.{get-put_here, fresh_removed, put-put}
 use Rattle.seq_settle.proofs.keys.set_key.Goals as goal
 
@@ -16,4 +16,4 @@ add_key-requires-clause-free g c = λ k q e f.
 pub returns : goal.returns
 returns g c =
     let m = g.A.Agenda.content c.args.agenda.now in
-    on_ok_weaker c.add_key.result (λ e. e ∙ ap (λ x. put x c.args.cell c.args.key) c.remove.ensures ∙ put-put m c.args.cell None c.args.key) c.add_key.ensures
+    on_ok_weaker c.add_key.result (λ e. e ∙ ap (λ x. with_entry x c.args.cell c.args.key) c.remove.ensures ∙ put-put m c.args.cell None c.args.key) c.add_key.ensures

@@ -1,7 +1,7 @@
 use Rattle.std.proofs.Common.{◌≡◌, None, sym, ap, ◌∙◌}
 use Rattle.std.specs.Prelude.{IsSome, is_some}
 use Rattle.std.specs.FinMap.{get}
-use Rattle.seq_settle.specs.Cells.{seen}
+use Rattle.seq_settle.specs.Cells.{seen_state}
 use Rattle.seq_settle.specs.Sends.{key_of_first, key_of_head}
 use Rattle.seq_settle.proofs.Stores.{get-put_here}
 use Rattle.seq_settle.proofs.Loop.{turn_from, turn_fewer, fresh_next, loop_end, has_event, none_is_due, gone-again, from-same}
@@ -74,8 +74,8 @@ loop-due-preserved g c =
 pub returns-clause-state : goal.returns-clause-state
 returns-clause-state g c =
     let i = c.loop-due.invariant in
-    ap (λ x. seen x (g.D.Desk.pools c.loop-due.desk) (g.D.Desk.edges c.loop-due.desk) c.loop-due.cells.cells c.args.steps) i.clients
-    ∙ ap (λ x. seen (g.D.Desk.clients c.args.desk.now) (g.D.Desk.pools c.loop-due.desk) x c.loop-due.cells.cells c.args.steps) i.edges
+    ap (λ x. seen_state x (g.D.Desk.pools c.loop-due.desk) (g.D.Desk.edges c.loop-due.desk) c.loop-due.cells.cells c.args.steps) i.clients
+    ∙ ap (λ x. seen_state (g.D.Desk.clients c.args.desk.now) (g.D.Desk.pools c.loop-due.desk) x c.loop-due.cells.cells c.args.steps) i.edges
     ∙ (loop_end _ _ _ _ _ _ _ _ _ _ i.kept c.in_default.ensures.none).0
 
 pub returns-clause-delivered : goal.returns-clause-delivered

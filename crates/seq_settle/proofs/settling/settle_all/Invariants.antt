@@ -2,7 +2,7 @@ use Rattle.std.proofs.Common.{◌≡◌, ◌++◌, ℕ}
 use Rattle.cell_pools.specs.Cells.{size_of}
 use Rattle.seq_state.specs.Step.{settle}
 use Rattle.agenda_heap.specs.Due.{NoneDue}
-use Rattle.seq_settle.specs.Cells.{seen, playbacks, events_in}
+use Rattle.seq_settle.specs.Cells.{seen_state, playbacks, events_in}
 use Rattle.seq_settle.proofs.Loop.{Keeps}
 use Rattle.seq_settle.proofs.settling.settle_all.Given as goal
 
@@ -11,8 +11,8 @@ invariant-loop-due g l = record {
   clients : g.D.Desk.clients l.desk ≡ g.D.Desk.clients l.fn.desk;
   edges : g.D.Desk.edges l.desk ≡ g.D.Desk.edges l.fn.desk;
   kept : Keeps (g.D.Desk.clients l.fn.desk) (g.D.Desk.edges l.fn.desk) l.steps l.moment
-      (settle (seen (g.D.Desk.clients l.fn.desk) (g.D.Desk.pools l.fn.desk) (g.D.Desk.edges l.fn.desk) l.fn.cells.cells l.steps) l.moment).state
-      (l.fn.out.items ++ (settle (seen (g.D.Desk.clients l.fn.desk) (g.D.Desk.pools l.fn.desk) (g.D.Desk.edges l.fn.desk) l.fn.cells.cells l.steps) l.moment).delivered)
+      (settle (seen_state (g.D.Desk.clients l.fn.desk) (g.D.Desk.pools l.fn.desk) (g.D.Desk.edges l.fn.desk) l.fn.cells.cells l.steps) l.moment).state
+      (l.fn.out.items ++ (settle (seen_state (g.D.Desk.clients l.fn.desk) (g.D.Desk.pools l.fn.desk) (g.D.Desk.edges l.fn.desk) l.fn.cells.cells l.steps) l.moment).delivered)
       (g.D.Desk.pools l.desk) l.out.items l.cells.cells (g.A.Agenda.content l.agenda);
   sizes : (client : ℕ) → size_of l.cells client ≡ size_of l.fn.cells client;
   idle : NoneDue (g.A.Agenda.content l.fn.agenda) l.moment → g.A.Agenda.content l.agenda ≡ g.A.Agenda.content l.fn.agenda;

@@ -1,7 +1,7 @@
 use Rattle.std.proofs.Common.{◌≡◌, ◌++◌, ◌∙◌, length, ap, refl, arith}
 use Rattle.std.proofs.lemmas.List.{get_or-replicate}
 use Rattle.std.specs.Slice.Iter.{chunks_rest, chunks_size}
-use Rattle.text_forms.specs.Hex.{spaced}
+use Rattle.text_forms.specs.Hex.{spaced_hex}
 use Rattle.memory.proofs.Outcomes.{on_err}
 use Rattle.text_forms.proofs.Hexed.{one_more_group}
 use Rattle.text_forms.proofs.hex.push_spaced.Goals as goal
@@ -17,7 +17,7 @@ loop-group-init c =
       room = refl;
       spaces = λ k h. get_or-replicate 192 _ 32 0 h;
       capacity = omega arith;
-      text = ap (λ bytes. c.args.text.now.items ++ spaced bytes) (ap chunks_rest groups ∙ c.chunks-group-items.ensures.rest);
+      text = ap (λ bytes. c.args.text.now.items ++ spaced_hex bytes) (ap chunks_rest groups ∙ c.chunks-group-items.ensures.rest);
     }
 
 pub returns-in_err-extend_from_slice-clause-full : goal.returns-in_err-extend_from_slice-clause-full

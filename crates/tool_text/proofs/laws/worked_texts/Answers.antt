@@ -2,7 +2,7 @@ use Rattle.std.proofs.Common.{◌≡◌, ◌∙◌, ◌++◌, ◌∷◌, [], Lis
 use Rattle.std.specs.List.{flat_map}
 use Rattle.midi_wire.specs.Messages.{begins}
 use Rattle.midi_wire.specs.Readings.{reading}
-use Rattle.midi_wire.specs.Writings.{written}
+use Rattle.midi_wire.specs.Writings.{wire_bytes}
 use Rattle.text_forms.specs.Hex.{hex_line}
 use Rattle.tool_text.specs.Rows.{note, notes_with_clock}
 use Rattle.tool_text.specs.Thru.{thru_line}
@@ -20,7 +20,7 @@ notes-read = refl
 
 -- the text of wire, from the messages
 abbrev of-wire : List (List ℕ) → List ℕ
-of-wire messages = flat_map hex_line messages ++ written_line (written messages)
+of-wire messages = flat_map hex_line messages ++ written_line (wire_bytes messages)
 
 pub returns : goal.returns
 unfolding begins

@@ -1,5 +1,5 @@
 use Rattle.std.proofs.Common.{◌≡◌, ◌∙◌, arith, rules, min, length, ap}
-use Rattle.cell_pools.specs.Pools.{taken, after_take}
+use Rattle.cell_pools.specs.Pools.{oldest_items, after_take}
 use Rattle.cell_pools.proofs.Fronts.{split-more, moved, still-bounded, left}
 use Rattle.cell_pools.proofs.pool.InPool.take.Goals as goal
 
@@ -19,7 +19,7 @@ loop-turn-preserved g c = record {
 pub returns-clause-ok : goal.returns-clause-ok
 returns-clause-ok g c =
     let turns : c.loop-turn._turn ≡ min (length c.self.inside.items.items) c.args.max = omega arith in
-    moved _ _ _ _ _ c.loop-turn.invariant.moved c.loop-turn.invariant.counted turns ∙ ap (taken c.args.max) c.self.view_is
+    moved _ _ _ _ _ c.loop-turn.invariant.moved c.loop-turn.invariant.counted turns ∙ ap (oldest_items c.args.max) c.self.view_is
 
 pub returns-clause-left : goal.returns-clause-left
 returns-clause-left g c =

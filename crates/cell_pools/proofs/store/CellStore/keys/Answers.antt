@@ -1,6 +1,6 @@
 use Rattle.std.proofs.Common.{◌≡◌, ap, arith, ◌∙◌}
 use Rattle.std.proofs.lemmas.Option.{MatchOption-at_some}
-use Rattle.cell_pools.specs.Cells.{Store, Held, keys_of}
+use Rattle.cell_pools.specs.Cells.{Store, Holding, keys_of}
 use Rattle.cell_pools.proofs.Keeping.{known_seen, keys_listed}
 use Rattle.cell_pools.proofs.Gathering.{gathered-start, gathered-more, gathered-end}
 use Rattle.cell_pools.proofs.store.CellStore.keys.Goals as goal
@@ -12,7 +12,7 @@ pub loop-number-preserved : goal.loop-number-preserved
 loop-number-preserved g c =
     let is : c.unwrap-client.result ≡ c.loop-number.number = MatchOption-at_some _ (λ n. n ≡ c.loop-number.number) _ c.unwrap-client.ensures c.new.ensures.value in
     gathered-more _ _ _ _ _ _ c.loop-number.invariant (keys_listed _ _ c.self.invariant _ c.self.view_is c.loop-number.number)
-    (c.keys.ensures.value ∙ ap (λ (h : Held). h.keys) c.get.ensures.value ∙ ap (λ (s : Store g.row.T.Denot). keys_of s c.unwrap-client.result) c.self.view_is ∙ ap (keys_of c.args.self.now) is)
+    (c.keys.ensures.value ∙ ap (λ (h : Holding). h.keys) c.get.ensures.value ∙ ap (λ (s : Store g.row.T.Denot). keys_of s c.unwrap-client.result) c.self.view_is ∙ ap (keys_of c.args.self.now) is)
     c.in_ok-extend_from_slice.ensures.items
 
 pub returns : goal.returns

@@ -2,7 +2,7 @@ use Rattle.std.proofs.Common.{◌≡◌, ◌++◌, List, ℕ, length, true}
 use Rattle.midi_wire.specs.Readings.{reading, rest}
 use Rattle.midi_wire.proofs.parser.StreamParser.feed.Given as goal
 
--- some messages are told, and the others are those of what is held and the bytes that are left
+-- some messages are given, and the others are those of what is held and the bytes that are left
 abbrev pub invariant-loop-left : goal.invariant-loop-left
 invariant-loop-left l = record {
   told : (gained : List (List ℕ)) × (l.out.items ≡ l.initial.out.items ++ gained)

@@ -1,5 +1,5 @@
 use Rattle.std.proofs.Common.{◌∙◌, ap, ℤ, pos, rules}
-use Rattle.route_filter.specs.Chains.{raised}
+use Rattle.route_filter.specs.Chains.{note_after}
 use Rattle.route_filter.proofs.Ranges.{shift-stays}
 use Rattle.route_filter.proofs.Composed.{whole-some, whole-none, passed-twice}
 use Rattle.route_filter.proofs.rule_args.RuleArgs.then.Goals as goal
@@ -12,7 +12,7 @@ returns-in-Some-clause-passed c =
     let notes = c.in-Some.notes in
     let stays = shift-stays notes.shift c.in-Some.ensures.shift in
     let whole = whole-some c.args.self.now c.args.next.now _ _ _ c.channels_then-channels.ensures c.or-channel.ensures (c.intersection-kinds.ensures tt) notes.low notes.high _
-    (λ n. ap (λ (z : ℤ). raised notes.low notes.high z n) stays ∙ c.in-Some.ensures.both n) in
+    (λ n. ap (λ (z : ℤ). note_after notes.low notes.high z n) stays ∙ c.in-Some.ensures.both n) in
     passed-twice _ _ _ c.requires.first c.requires.second (returns-in-Some-clause-rule c) whole
 
 pub returns-in-None-clause-rule : goal.returns-in-None-clause-rule

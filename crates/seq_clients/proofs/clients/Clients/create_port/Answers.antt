@@ -3,7 +3,7 @@ use Rattle.node_table.specs.declared.number.Addr.{Addr}
 use Rattle.node_table.specs.Nodes.{node_seen, with_node, is_open}
 use Rattle.node_table.specs.declared.number.Node.TheVariants.{Port}
 use Rattle.std.specs.FinMap.{get}
-use Rattle.seq_state.specs.Own.{with_change, put_port}
+use Rattle.seq_state.specs.Effect.{with_change, put_port}
 use Rattle.seq_clients.specs.Roster.{with_client}
 use Rattle.seq_clients.specs.declared.body.NodeBody.TheVariants.{Stream}
 use Rattle.seq_clients.specs.Kept.{Nodes, roster, AreRowsKept}

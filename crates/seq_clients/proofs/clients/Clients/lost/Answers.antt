@@ -1,11 +1,11 @@
 use Rattle.std.proofs.Common.{◌∙◌, ap, sym}
 use Rattle.std.specs.Option.{option_map}
-use Rattle.seq_clients.specs.Roster.{lost}
+use Rattle.seq_clients.specs.Roster.{lost_count}
 use Rattle.seq_clients.proofs.Seeing.{get-pool}
 use Rattle.seq_clients.proofs.clients.Clients.lost.Goals as goal
 
 pub returns-in-Some : goal.returns-in-Some
-returns-in-Some c = c.lost.ensures.value ∙ ap (λ o. lost (option_map (λ r. r.pool) o)) c.in-Some.ensures ∙ ap lost (sym (get-pool c.self.inside.nodes c.self.inside.rows _ c.self.invariant c.self.view_is c.args.client))
+returns-in-Some c = c.lost.ensures.value ∙ ap (λ o. lost_count (option_map (λ r. r.pool) o)) c.in-Some.ensures ∙ ap lost_count (sym (get-pool c.self.inside.nodes c.self.inside.rows _ c.self.invariant c.self.view_is c.args.client))
 
 pub returns-in-None : goal.returns-in-None
-returns-in-None c = ap (λ o. lost (option_map (λ r. r.pool) o)) c.in-None.ensures ∙ ap lost (sym (get-pool c.self.inside.nodes c.self.inside.rows _ c.self.invariant c.self.view_is c.args.client))
+returns-in-None c = ap (λ o. lost_count (option_map (λ r. r.pool) o)) c.in-None.ensures ∙ ap lost_count (sym (get-pool c.self.inside.nodes c.self.inside.rows _ c.self.invariant c.self.view_is c.args.client))

@@ -1,5 +1,5 @@
 use Rattle.std.proofs.Common.{ap, refl}
-use Rattle.seq_state.specs.Own.{out_size}
+use Rattle.seq_state.specs.Effect.{out_size}
 use Rattle.seq_clients.proofs.Seeing.{by_row, no_row}
 use Rattle.seq_clients.proofs.clients.Clients.out_size.Goals as goal
 

@@ -2,7 +2,7 @@ use Rattle.std.proofs.Common.{◌∙◌, Some, ap, refl}
 use Rattle.std.specs.Ordering.{nat_cmp}
 use Rattle.std.specs.FinMap.{FinMap}
 use Rattle.seq_state.specs.State.{Queue}
-use Rattle.seq_state.specs.Own.{put_queue}
+use Rattle.seq_state.specs.Effect.{put_queue}
 use Rattle.seq_clients.specs.Kept.{client_seen}
 use Rattle.seq_clients.proofs.Changing.{back-kept, row-seen, absent-kept, absent-seen}
 use Rattle.seq_clients.proofs.clients.Clients.put_queue.Goals as goal

@@ -1,7 +1,7 @@
 use Rattle.std.proofs.Common.{◌∙◌, ap, refl, sym}
 use Rattle.std.specs.Ordering.{nat_cmp}
 use Rattle.std.specs.FinMap.{get, get-empty}
-use Rattle.seq_state.specs.Own.{queue_of}
+use Rattle.seq_state.specs.Effect.{queue_of}
 use Rattle.seq_clients.proofs.Seeing.{by_row, no_row}
 use Rattle.seq_clients.proofs.clients.Clients.queue_of.Goals as goal
 

@@ -1,7 +1,7 @@
 use Rattle.std.proofs.Common.{◌∙◌, Some, ap, refl}
 use Rattle.std.proofs.lemmas.Result.{IfOk-weaker, on_ok_weaker, on_err_weaker}
 use Rattle.cell_pools.specs.Pools.{after_take}
-use Rattle.seq_state.specs.Own.{oldest, without_oldest}
+use Rattle.seq_state.specs.Effect.{oldest, without_oldest}
 use Rattle.std.specs.FinMap.{get}
 use Rattle.seq_clients.specs.Roster.{with_pool}
 use Rattle.seq_clients.proofs.Changing.{left-oldest, back-kept, pool-seen, pool-same, pool-told, absent-kept, absent-left, absent-pool}

@@ -1,4 +1,4 @@
-use Rattle.seq_state.specs.Own.{public}
+use Rattle.seq_state.specs.Effect.{public}
 use Rattle.seq_clients.proofs.Requeued.{requeued, taken-none}
 use Rattle.seq_clients.proofs.clients.Clients.share.Goals as goal
 

@@ -1,6 +1,6 @@
 use Rattle.std.proofs.Common.{◌∙◌, Option, Some, ap, sym}
 use Rattle.std.specs.Option.{option_map}
-use Rattle.seq_state.specs.State.{put}
+use Rattle.seq_state.specs.State.{with_entry}
 use Rattle.seq_state.specs.Step.{pool_has_room}
 use Rattle.seq_clients.specs.Rows.{row_offered}
 use Rattle.seq_clients.specs.contracts.rows.RowTable.{the_view}
@@ -22,7 +22,7 @@ returns-clause-kept c =
 pub returns-clause-after : goal.returns-clause-after
 returns-clause-after c =
     let here = get_at (option_map (λ b. b.value)) 128 64 _ _ c.self.view_is c.self.invariant _ _ c.row_of.ensures.start c.row_of.ensures.small c.index-self-row_of.result in
-    let later = λ (o : Option ClientRow). put c.args.self.now c.args.client (option_map (row_offered c.args.arrival) o) in
+    let later = λ (o : Option ClientRow). with_entry c.args.self.now c.args.client (option_map (row_offered c.args.arrival) o) in
     elim c.match-self-row_of.branch [
       | in-Some w ↦ ap the_view w.self-inside-is
           ∙ inserted (option_map (λ b. b.value)) 128 64 _ _ c.self.view_is c.self.invariant _ _ c.row_of.ensures.start c.row_of.ensures.small _ _ (ap (λ p. Some (record w.deref_mut.result.now { pool = p })) w.offer.ensures.after ∙ ap (λ r. Some (row_offered c.args.arrival r)) w.deref_mut.ensures.value)

@@ -1,4 +1,4 @@
-use Rattle.seq_state.specs.Own.{out_size}
+use Rattle.seq_state.specs.Effect.{out_size}
 use Rattle.seq_clients.specs.Roster.{Roster}
 use Rattle.std.specs.FinMap.{get}
 use Rattle.std.proofs.Common.{[], ◌∷◌, ◌++◌, ap, ◌∙◌}
@@ -6,7 +6,7 @@ use Rattle.std.specs.List.{filter}
 use Rattle.memory.proofs.Outcomes.{on_ok-three}
 use Rattle.cell_pools.specs.Cells.{Store}
 use Rattle.seq_state.specs.Step.{is_left}
-use Rattle.seq_settle.specs.Cells.{Left, playbacks}
+use Rattle.seq_settle.specs.Cells.{RankedPlayback, playbacks}
 use Rattle.seq_commands.specs.Added.{playing}
 use Rattle.seq_commands.proofs.PlaybacksAdded.{added-gives, room-left}
 use Rattle.seq_commands.proofs.sequencer.Sequencer.add_events.Goals as goal
@@ -21,4 +21,4 @@ returns g c =
     let new = filter is_left (playing c.args.turn c.args.queue.now c.args.port c.args.events ∷ []) in
     let a = c.add_playback.ensures in
     on_ok-three c.add_playback.result (λ more are keys. added-gives c.args.self.now c.args.turn c.args.rank c.args.queue.now c.args.port c.args.events c.add_playback.new.cells _ c.requires.counted c.requires.fresh
-    (more ∙ ap (λ (s : Store Left). playbacks s.cells c.args.rank ++ new) c.set_size.ensures) are keys) a.added a.cells a.keys
+    (more ∙ ap (λ (s : Store RankedPlayback). playbacks s.cells c.args.rank ++ new) c.set_size.ensures) are keys) a.added a.cells a.keys

@@ -1,9 +1,9 @@
 use Rattle.seq_patchbay.specs.Carrying.{copies_of_all}
-use Rattle.seq_state.specs.Step.{offered, delivered}
+use Rattle.seq_state.specs.Step.{pools_after, copies_with_room}
 use Rattle.std.proofs.Common.{ℕ, ◌++◌, List, ap, ◌∙◌}
 use Rattle.std.specs.FinMap.{get}
 use Rattle.midi_wire.specs.Readings.{reading}
-use Rattle.seq_state.specs.Own.{port_of, fed_of}
+use Rattle.seq_state.specs.Effect.{port_of, fed_of}
 use Rattle.seq_commands.specs.Whole.{clients_of}
 use Rattle.seq_commands.proofs.SentNow.{bytes-accepted, bytes-kept, bytes-sent}
 use Rattle.seq_commands.proofs.sequencer.Sequencer.bytes.Goals as goal
@@ -20,7 +20,7 @@ returns-clause-gives c =
     let fed = c.feed.new.self.clients in
     bytes-kept s a.turn a.port a.bytes.now c.feed.new.self.clients c.send_all.new.self.clients c.send_all.new.self.graph c.as_slice.result.now c.in_ok-count.count c.requires.accepted
     c.in_ok-count.ensures.fed told c.in_ok-count.ensures.number c.in_ok-send_all.ensures.clients (c.in_ok-send_all.ensures.graph ∙ c.in_ok-count.ensures.graph)
-    (c.in_ok-send_all.ensures.pools ∙ ap (λ es. offered fed.pools (copies_of_all fed.clients es a.turn.moment a.turn.actor a.port c.as_slice.result.now)) c.in_ok-count.ensures.graph)
+    (c.in_ok-send_all.ensures.pools ∙ ap (λ es. pools_after fed.pools (copies_of_all fed.clients es a.turn.moment a.turn.actor a.port c.as_slice.result.now)) c.in_ok-count.ensures.graph)
 
 pub returns-clause-sent : goal.returns-clause-sent
 returns-clause-sent c =
@@ -30,5 +30,5 @@ returns-clause-sent c =
     let told = c.as_slice.ensures.value ∙ c.in_ok-count.ensures.told ∙ ap (λ ms. ms ++ more) c.new-messages.ensures.items in
     let fed = c.feed.new.self.clients in
     c.in_ok-send_all.ensures.sent
-    ∙ ap (λ es. a.out.now.items ++ delivered fed.pools (copies_of_all fed.clients es a.turn.moment a.turn.actor a.port c.as_slice.result.now)) c.in_ok-count.ensures.graph
+    ∙ ap (λ es. a.out.now.items ++ copies_with_room fed.pools (copies_of_all fed.clients es a.turn.moment a.turn.actor a.port c.as_slice.result.now)) c.in_ok-count.ensures.graph
     ∙ ap (λ ds. a.out.now.items ++ ds) (bytes-sent s a.turn a.port a.bytes.now fed c.as_slice.result.now c.requires.accepted c.in_ok-count.ensures.fed told)

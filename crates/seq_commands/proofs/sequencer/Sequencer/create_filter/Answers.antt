@@ -1,9 +1,9 @@
 use Rattle.std.specs.Prelude.{is_some}
-use Rattle.std.proofs.Common.{◌≡◌, Some, sym, ap, ◌∙◌, true, false, subst}
+use Rattle.std.proofs.Common.{◌≡◌, Some, refl, sym, ap, ◌∙◌, true, false, subst}
 use Rattle.std.proofs.lemmas.Result.{on_ok_weaker}
 use Rattle.std.specs.FinMap.{get}
 use Rattle.seq_state.specs.declared.input.Command.TheVariants.{CreateFilter}
-use Rattle.seq_state.specs.Own.{with_change, put_filter, new_filter, has_filter}
+use Rattle.seq_state.specs.Effect.{with_change, put_filter, new_filter, has_filter}
 use Rattle.seq_state.proofs.Done.{creates-filter}
 use Rattle.seq_clients.specs.Roster.{with_client, Roster}
 use Rattle.seq_commands.specs.Whole.{clients_of, state_of}
@@ -27,7 +27,7 @@ returns c =
     let its = get (clients_of c.args.self.now) c.args.turn.actor in
     let made = Some (new_filter c.args.caps c.args.rule.now) in
     let same : c.in-Some.rule ≡ c.args.rule.now = rule-made c.args.rule.now c.in-Some.rule (sym c.new.ensures ∙ c.in-Some.is) in
-    on_ok_weaker c.create_filter.result (λ e. nodes-kept c.args.self.now c.args.turn (CreateFilter c.args.filter c.args.caps c.args.rule.now) (with_change its (put_filter c.args.filter made)) _ c.requires.accepted
+    on_ok_weaker c.create_filter.result (λ e. nodes-kept c.args.self.now c.args.turn (CreateFilter c.args.filter c.args.caps c.args.rule.now) (with_change its (put_filter c.args.filter made)) _ _ c.requires.accepted
     (creates-filter c.args.self.now.files (state_of c.args.self.now) c.args.turn.moment c.args.turn.actor c.args.filter c.args.caps c.args.rule.now)
     (e ∙ ap (λ (r : Roster). with_client r c.args.turn.actor (with_change (get r.clients c.args.turn.actor) (put_filter c.args.filter (Some (new_filter c.args.caps c.in-Some.rule))))) c.clients_mut-clients.ensures.value
-    ∙ ap (λ x. with_client c.args.self.now.patchbay.clients c.args.turn.actor (with_change its (put_filter c.args.filter (Some (new_filter c.args.caps x))))) same) (queues-filter c.args.filter made its)) c.create_filter.ensures.ok
+    ∙ ap (λ x. with_client c.args.self.now.patchbay.clients c.args.turn.actor (with_change its (put_filter c.args.filter (Some (new_filter c.args.caps x))))) same) refl (queues-filter c.args.filter made its)) c.create_filter.ensures.ok

@@ -1,9 +1,9 @@
 use Rattle.std.proofs.Common.{Some, ap, ◌∙◌}
 use Rattle.std.specs.FinMap.{get}
 use Rattle.seq_state.specs.declared.input.Command.TheVariants.{CreateQueue}
-use Rattle.seq_state.specs.Own.{with_change, put_queue, queue_of, held_queue, one_tempo}
+use Rattle.seq_state.specs.Effect.{with_change, put_queue, queue_of, held_queue, one_tempo}
 use Rattle.seq_state.proofs.Done.{creates-queue}
-use Rattle.seq_clients.specs.Roster.{with_client, Roster}
+use Rattle.seq_clients.specs.Roster.{with_client}
 use Rattle.seq_commands.specs.Whole.{clients_of, state_of}
 use Rattle.seq_commands.proofs.ClientsGiven.{client-kept}
 use Rattle.seq_commands.proofs.QueuesAccepted.{accepted-queue}
@@ -21,9 +21,8 @@ returns c =
     let its = get (clients_of c.args.self.now) c.args.turn.actor in
     let map = one_tempo c.args.ppq c.args.tempo in
     let free = (accepted-queue c.args.self.now.files (state_of c.args.self.now) c.args.turn.moment c.args.turn.actor c.args.queue c.args.ppq c.args.tempo c.requires.accepted).2 in
-    client-kept c.args.self.now c.args.turn (CreateQueue c.args.queue c.args.ppq c.args.tempo) (with_change its (put_queue c.args.queue (Some (held_queue map)))) _ c.requires.accepted
+    client-kept c.args.self.now c.args.turn (CreateQueue c.args.queue c.args.ppq c.args.tempo) (with_change its (put_queue c.args.queue (Some (held_queue map)))) _ _ c.requires.accepted
     (creates-queue c.args.self.now.files (state_of c.args.self.now) c.args.turn.moment c.args.turn.actor c.args.queue c.args.ppq c.args.tempo)
-    (c.create_queue.ensures
-    ∙ ap (λ (r : Roster). with_client r c.args.turn.actor (with_change (get r.clients c.args.turn.actor) (put_queue c.args.queue (Some (held_queue c.in_ok-map.map))))) c.clients_mut-clients.ensures.value
-    ∙ ap (λ m. with_client c.args.self.now.patchbay.clients c.args.turn.actor (with_change its (put_queue c.args.queue (Some (held_queue m))))) c.in_ok-map.ensures)
+    (c.create_queue.ensures.clients
+    ∙ ap (λ m. with_client c.args.self.now.patchbay.clients c.args.turn.actor (with_change its (put_queue c.args.queue (Some (held_queue m))))) c.in_ok-map.ensures) c.create_queue.ensures.graph
     (replaced-same (clients_of c.args.self.now) c.args.turn.actor c.args.queue (Some (held_queue map)) (λ accepted due. held-same (queue_of its c.args.queue) map accepted due free))

@@ -1,6 +1,6 @@
 use Rattle.node_table.specs.declared.number.Node.TheVariants.{Filter}
 use Rattle.patch_graph.specs.Edges.{touches}
-use Rattle.seq_state.specs.Own.{with_change, put_filter}
+use Rattle.seq_state.specs.Effect.{with_change, put_filter}
 use Rattle.seq_clients.specs.Roster.{Roster, with_client}
 use Rattle.std.specs.FinMap.{get}
 use Rattle.std.specs.List.{filter}

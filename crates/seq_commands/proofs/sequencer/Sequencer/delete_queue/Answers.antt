@@ -1,7 +1,5 @@
-use Rattle.seq_clients.specs.Roster.{Roster, with_client}
-use Rattle.std.specs.FinMap.{get}
-use Rattle.std.proofs.Common.{◌∙◌, sym, ap, None}
-use Rattle.seq_state.specs.Own.{queue_is, with_change, put_queue}
+use Rattle.std.proofs.Common.{◌∙◌, sym, ap}
+use Rattle.seq_state.specs.Effect.{queue_is}
 use Rattle.seq_commands.specs.Whole.{clients_of}
 use Rattle.seq_commands.proofs.PlaybacksGone.{queue-alone, queue-gives, queue-mine}
 use Rattle.seq_commands.proofs.sequencer.Sequencer.delete_queue.Goals as goal
@@ -15,6 +13,6 @@ drop_playbacks-requires-clause-alone g c = λ private.
 pub returns : goal.returns
 returns g c =
     let d = c.drop_playbacks.ensures in
-    queue-gives c.args.self.now c.args.turn c.drop_playbacks.new.cells _ d.cells c.args.queue.now c.delete_queue.new.self c.requires.accepted d.playbacks
+    queue-gives c.args.self.now c.args.turn c.drop_playbacks.new.cells _ d.cells c.args.queue.now c.delete_queue.new.self.clients c.delete_queue.new.self.graph c.requires.accepted d.playbacks
     (d.keys (clients_of c.args.self.now) c.requires.whole.keys) d.left
-    (c.delete_queue.ensures ∙ ap (λ (r : Roster). with_client r c.args.turn.actor (with_change (get r.clients c.args.turn.actor) (put_queue c.args.queue.now.queue None))) c.clients_mut-clients.ensures.value)
+    c.delete_queue.ensures.clients c.delete_queue.ensures.graph

@@ -1,8 +1,3 @@
-use Rattle.cell_pools.specs.Pools.{empty_pool}
-use Rattle.seq_state.specs.Own.{new_client}
-use Rattle.std.specs.FinMap.{get}
-use Rattle.seq_clients.specs.Roster.{Roster, with_client, with_pool}
-use Rattle.std.proofs.Common.{◌≡◌, None, Some, sym, ap, subst, ◌∙◌}
 use Rattle.std.proofs.lemmas.Result.{on_ok_weaker}
 use Rattle.seq_commands.specs.Whole.{state_of}
 use Rattle.seq_commands.proofs.ClientsAccepted.{accepted-open}
@@ -10,7 +5,7 @@ use Rattle.seq_commands.proofs.ClientsGiven.{opened-kept}
 use Rattle.seq_commands.proofs.sequencer.Sequencer.open.Goals as goal
 
 pub open-requires-clause-fresh : goal.open-requires-clause-fresh
-open-requires-clause-fresh c = subst (λ (r : Roster). get r.clients c.args.turn.actor ≡ None) (sym c.clients_mut-clients.ensures.value) ((accepted-open c.args.self.now.files (state_of c.args.self.now) c.args.turn.moment c.args.turn.actor c.args.name.now c.args.in_size c.args.out_size c.requires.accepted).0)
+open-requires-clause-fresh c = (accepted-open c.args.self.now.files (state_of c.args.self.now) c.args.turn.moment c.args.turn.actor c.args.name.now c.args.in_size c.args.out_size c.requires.accepted).0
 
 pub open-requires-clause-named : goal.open-requires-clause-named
 open-requires-clause-named c = (accepted-open c.args.self.now.files (state_of c.args.self.now) c.args.turn.moment c.args.turn.actor c.args.name.now c.args.in_size c.args.out_size c.requires.accepted).1
@@ -19,5 +14,4 @@ pub open-requires-clause-sized : goal.open-requires-clause-sized
 open-requires-clause-sized c = (accepted-open c.args.self.now.files (state_of c.args.self.now) c.args.turn.moment c.args.turn.actor c.args.name.now c.args.in_size c.args.out_size c.requires.accepted).2
 
 pub returns : goal.returns
-returns c = on_ok_weaker c.open.result (λ e. opened-kept c.args.self.now c.args.turn c.args.name.now c.args.in_size c.args.out_size _ c.requires.accepted
-    (e ∙ ap (λ (r : Roster). with_pool (with_client r c.args.turn.actor (Some (new_client c.args.name.now c.args.in_size c.args.out_size))) c.args.turn.actor (Some (empty_pool c.args.in_size))) c.clients_mut-clients.ensures.value)) c.open.ensures.ok
+returns c = on_ok_weaker c.open.result (λ e. opened-kept c.args.self.now c.args.turn c.args.name.now c.args.in_size c.args.out_size _ _ c.requires.accepted e c.open.ensures.graph) c.open.ensures.ok

@@ -2,7 +2,7 @@ use Rattle.std.proofs.Common.{[], map, ap, subst, sym, ◌∙◌}
 use Rattle.std.specs.Option.{option_copied, option_map}
 use Rattle.std.proofs.lemmas.Result.{on_ok_weaker}
 use Rattle.smf_grammar.specs.Contents.{events_of}
-use Rattle.smf_grammar.specs.Played.{played}
+use Rattle.smf_grammar.specs.Played.{as_played}
 use Rattle.seq_settle.specs.Cells.{are_in_order}
 use Rattle.seq_settle.specs.Events.{file_event}
 use Rattle.seq_state.specs.declared.log.Reply.TheVariants.{Done}
@@ -13,7 +13,7 @@ use Rattle.seq_commands.proofs.sequencer.Sequencer.play.Goals as goal
 
 pub unreachable-requires : goal.unreachable-requires
 unreachable-requires g c =
-    play-there c.args.self.now c.args.turn c.args.queue.now c.args.port c.args.file c.requires.accepted (sym c.get.ensures ∙ ap (λ o. option_map played (option_copied o)) c.in_default.is)
+    play-there c.args.self.now c.args.turn c.args.queue.now c.args.port c.args.file c.requires.accepted (sym c.get.ensures ∙ ap (λ o. option_map as_played (option_copied o)) c.in_default.is)
 
 pub add_events-requires-clause-ordered : goal.add_events-requires-clause-ordered
 add_events-requires-clause-ordered g c =
@@ -25,6 +25,6 @@ add_events-requires-clause-room g c = play-room c.args.self.now c.args.turn c.ar
 pub returns : goal.returns
 returns g c =
     on_ok_weaker c.add_events.result (subst (λ (s : Stepped). IsStepTaken c.args.self.now c.add_events.new.self (g.A.Agenda.content c.add_events.new.agenda) s Done [])
-    (play-step c.args.self.now c.args.turn c.args.queue.now c.args.port c.args.file c.requires.accepted (played c.in-Some.file.now) c.played-events.result (sym c.in-Some.ensures)
+    (play-step c.args.self.now c.args.turn c.args.queue.now c.args.port c.args.file c.requires.accepted (as_played c.in-Some.file.now) c.played-events.result (sym c.in-Some.ensures)
     (c.played-events.ensures ∙ ap (map file_event) c.in_ok-cursor.ensures)))
     c.add_events.ensures

@@ -1,4 +1,4 @@
-use Rattle.seq_state.specs.Own.{queue_of}
+use Rattle.seq_state.specs.Effect.{queue_of}
 use Rattle.seq_clients.specs.Roster.{Roster}
 use Rattle.std.specs.FinMap.{get}
 use Rattle.std.proofs.Common.{sym, ap, ◌∙◌}

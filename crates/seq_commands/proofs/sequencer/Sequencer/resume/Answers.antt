@@ -1,11 +1,8 @@
-use Rattle.seq_state.specs.State as state
-use Rattle.seq_clients.specs.Roster.{Roster, with_client}
-use Rattle.std.proofs.Common.{ap, ◌∙◌, ◌≡◌, ◌<◌, Some, None, sym, subst}
 use Rattle.std.proofs.lemmas.Result.{on_ok_weaker}
 use Rattle.std.specs.FinMap.{get}
-use Rattle.tempo_clock.specs.Clocks.{resumed}
+use Rattle.tempo_clock.specs.Clocks.{running_on}
 use Rattle.seq_state.specs.declared.input.Command.TheVariants.{Continue}
-use Rattle.seq_state.specs.Own.{clocked, queue_changed, queue_of}
+use Rattle.seq_state.specs.Effect.{with_clock, queue_changed}
 use Rattle.seq_state.proofs.Done.{continues}
 use Rattle.seq_commands.specs.Whole.{clients_of, state_of}
 use Rattle.seq_commands.proofs.ClientsGiven.{client-given}
@@ -14,19 +11,19 @@ use Rattle.seq_commands.proofs.QueuesGiven.{keys-before, owner-alone}
 use Rattle.seq_commands.proofs.sequencer.Sequencer.resume.Goals as goal
 
 pub resume-requires-clause-held : goal.resume-requires-clause-held
-resume-requires-clause-held g c = subst (λ (r : Roster). (q : state.Queue) → queue_of (get r.clients c.args.turn.actor) c.args.queue.now.queue ≡ Some q → q.clock.since ≡ None) (sym c.clients_mut-clients.ensures.value) ((accepted-continue c.args.self.now.files (state_of c.args.self.now) c.args.turn.moment c.args.turn.actor c.args.queue.now c.requires.accepted).1)
+resume-requires-clause-held g c = (accepted-continue c.args.self.now.files (state_of c.args.self.now) c.args.turn.moment c.args.turn.actor c.args.queue.now c.requires.accepted).1
 
-pub rekey_all-requires-clause-keys : goal.rekey_all-requires-clause-keys
-rekey_all-requires-clause-keys g c =
-    keys-before c.args.self.now c.args.turn.actor c.args.queue.now (clocked (λ k. resumed k c.args.turn.moment)) _ _
-    (accepted-continue c.args.self.now.files (state_of c.args.self.now) c.args.turn.moment c.args.turn.actor c.args.queue.now c.requires.accepted).0 (c.resume.ensures ∙ ap (λ (r : Roster). with_client r c.args.turn.actor (queue_changed (get r.clients c.args.turn.actor) c.args.queue.now.queue (clocked (λ k. resumed k c.args.turn.moment)))) c.clients_mut-clients.ensures.value) c.requires.whole.keys
+pub rekey-requires-clause-keys : goal.rekey-requires-clause-keys
+rekey-requires-clause-keys g c =
+    keys-before c.args.self.now c.args.turn.actor c.args.queue.now (with_clock (λ k. running_on k c.args.turn.moment)) _ _
+    (accepted-continue c.args.self.now.files (state_of c.args.self.now) c.args.turn.moment c.args.turn.actor c.args.queue.now c.requires.accepted).0 c.resume.ensures.clients c.requires.whole.keys
 
-pub rekey_all-requires-clause-alone : goal.rekey_all-requires-clause-alone
-rekey_all-requires-clause-alone g c = owner-alone c.args.self.now _ _ c.args.queue.now _ c.requires.whole c.is_shared-foreign.ensures
+pub rekey-requires-clause-alone : goal.rekey-requires-clause-alone
+rekey-requires-clause-alone g c = owner-alone c.args.self.now _ _ c.args.queue.now _ c.requires.whole c.is_shared-foreign.ensures
 
 pub returns : goal.returns
 returns g c =
     let its = get (clients_of c.args.self.now) c.args.turn.actor in
-    on_ok_weaker c.rekey_all.result (λ keys.
-    client-given c.args.self.now c.args.turn (Continue c.args.queue.now) (queue_changed its c.args.queue.now.queue (clocked (λ k. resumed k c.args.turn.moment))) _ c.requires.accepted
-    (continues c.args.self.now.files (state_of c.args.self.now) c.args.turn.moment c.args.turn.actor c.args.queue.now) (c.resume.ensures ∙ ap (λ (r : Roster). with_client r c.args.turn.actor (queue_changed (get r.clients c.args.turn.actor) c.args.queue.now.queue (clocked (λ k. resumed k c.args.turn.moment)))) c.clients_mut-clients.ensures.value) _ c.requires.whole.cells keys) c.rekey_all.ensures
+    on_ok_weaker c.rekey.result (λ keys.
+    client-given c.args.self.now c.args.turn (Continue c.args.queue.now) (queue_changed its c.args.queue.now.queue (with_clock (λ k. running_on k c.args.turn.moment))) _ _ c.requires.accepted
+    (continues c.args.self.now.files (state_of c.args.self.now) c.args.turn.moment c.args.turn.actor c.args.queue.now) c.resume.ensures.clients c.resume.ensures.graph _ c.requires.whole.cells keys) c.rekey.ensures

@@ -1,7 +1,7 @@
-use Rattle.std.proofs.Common.{◌≡◌, sym, ap, ◌∙◌, true, subst}
+use Rattle.std.proofs.Common.{◌≡◌, refl, sym, ap, ◌∙◌, true, subst}
 use Rattle.std.specs.FinMap.{get}
 use Rattle.seq_state.specs.declared.input.Command.TheVariants.{SetFilter}
-use Rattle.seq_state.specs.Own.{with_change, put_filter, filter_of, filter_ruled, has_filter}
+use Rattle.seq_state.specs.Effect.{with_change, put_filter, filter_of, filter_ruled, has_filter}
 use Rattle.seq_state.proofs.Done.{sets-filter}
 use Rattle.seq_clients.specs.Roster.{with_client, Roster}
 use Rattle.seq_commands.specs.Whole.{clients_of, state_of}
@@ -22,9 +22,9 @@ returns c =
     let its = get (clients_of c.args.self.now) c.args.turn.actor in
     let was = filter_of its c.args.filter in
     let same : c.in-Some.rule ≡ c.args.rule.now = rule-made c.args.rule.now c.in-Some.rule (sym c.new.ensures ∙ c.in-Some.is) in
-    nodes-kept c.args.self.now c.args.turn (SetFilter c.args.filter c.args.rule.now) (with_change its (put_filter c.args.filter (filter_ruled c.args.rule.now was))) _ c.requires.accepted
+    nodes-kept c.args.self.now c.args.turn (SetFilter c.args.filter c.args.rule.now) (with_change its (put_filter c.args.filter (filter_ruled c.args.rule.now was))) _ _ c.requires.accepted
     (sets-filter c.args.self.now.files (state_of c.args.self.now) c.args.turn.moment c.args.turn.actor c.args.filter c.args.rule.now)
     (c.set_filter.ensures
     ∙ ap (λ (r : Roster). with_client r c.args.turn.actor (with_change (get r.clients c.args.turn.actor) (put_filter c.args.filter (filter_ruled c.in-Some.rule (filter_of (get r.clients c.args.turn.actor) c.args.filter))))) c.clients_mut-clients.ensures.value
-    ∙ ap (λ x. with_client c.args.self.now.patchbay.clients c.args.turn.actor (with_change its (put_filter c.args.filter (filter_ruled x was)))) same)
+    ∙ ap (λ x. with_client c.args.self.now.patchbay.clients c.args.turn.actor (with_change its (put_filter c.args.filter (filter_ruled x was)))) same) refl
     (queues-filter c.args.filter (filter_ruled c.args.rule.now was) its)

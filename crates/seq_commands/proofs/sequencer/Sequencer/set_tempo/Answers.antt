@@ -1,11 +1,8 @@
-use Rattle.seq_state.specs.State as state
-use Rattle.seq_clients.specs.Roster.{Roster, with_client}
-use Rattle.std.proofs.Common.{ap, ◌∙◌, ◌≡◌, ◌<◌, Some, None, sym, subst}
 use Rattle.std.proofs.lemmas.Result.{on_ok_weaker}
 use Rattle.std.specs.FinMap.{get}
 use Rattle.tempo_clock.specs.Clocks.{with_tempo}
 use Rattle.seq_state.specs.declared.input.Command.TheVariants.{Tempo}
-use Rattle.seq_state.specs.Own.{clocked, queue_changed, queue_of}
+use Rattle.seq_state.specs.Effect.{with_clock, queue_changed}
 use Rattle.seq_state.proofs.Done.{sets-tempo}
 use Rattle.seq_commands.specs.Whole.{clients_of, state_of}
 use Rattle.seq_commands.proofs.ClientsGiven.{client-given}
@@ -17,19 +14,19 @@ pub set_tempo-requires-clause-tempo : goal.set_tempo-requires-clause-tempo
 set_tempo-requires-clause-tempo g c = (accepted-tempo c.args.self.now.files (state_of c.args.self.now) c.args.turn.moment c.args.turn.actor c.args.queue.now c.args.tempo c.requires.accepted).1
 
 pub set_tempo-requires-clause-metrical : goal.set_tempo-requires-clause-metrical
-set_tempo-requires-clause-metrical g c = subst (λ (r : Roster). (q : state.Queue) → queue_of (get r.clients c.args.turn.actor) c.args.queue.now.queue ≡ Some q → q.clock.map.division < 32768) (sym c.clients_mut-clients.ensures.value) ((accepted-tempo c.args.self.now.files (state_of c.args.self.now) c.args.turn.moment c.args.turn.actor c.args.queue.now c.args.tempo c.requires.accepted).2)
+set_tempo-requires-clause-metrical g c = (accepted-tempo c.args.self.now.files (state_of c.args.self.now) c.args.turn.moment c.args.turn.actor c.args.queue.now c.args.tempo c.requires.accepted).2
 
-pub rekey_all-requires-clause-keys : goal.rekey_all-requires-clause-keys
-rekey_all-requires-clause-keys g c =
-    keys-before c.args.self.now c.args.turn.actor c.args.queue.now (clocked (λ k. with_tempo k c.args.turn.moment c.args.tempo)) _ _
-    (accepted-tempo c.args.self.now.files (state_of c.args.self.now) c.args.turn.moment c.args.turn.actor c.args.queue.now c.args.tempo c.requires.accepted).0 (c.in_ok-set_tempo.ensures.ok ∙ ap (λ (r : Roster). with_client r c.args.turn.actor (queue_changed (get r.clients c.args.turn.actor) c.args.queue.now.queue (clocked (λ k. with_tempo k c.args.turn.moment c.args.tempo)))) c.clients_mut-clients.ensures.value) c.requires.whole.keys
+pub rekey-requires-clause-keys : goal.rekey-requires-clause-keys
+rekey-requires-clause-keys g c =
+    keys-before c.args.self.now c.args.turn.actor c.args.queue.now (with_clock (λ k. with_tempo k c.args.turn.moment c.args.tempo)) _ _
+    (accepted-tempo c.args.self.now.files (state_of c.args.self.now) c.args.turn.moment c.args.turn.actor c.args.queue.now c.args.tempo c.requires.accepted).0 c.in_ok-set_tempo.ensures.ok c.requires.whole.keys
 
-pub rekey_all-requires-clause-alone : goal.rekey_all-requires-clause-alone
-rekey_all-requires-clause-alone g c = owner-alone c.args.self.now _ _ c.args.queue.now _ c.requires.whole c.is_shared-foreign.ensures
+pub rekey-requires-clause-alone : goal.rekey-requires-clause-alone
+rekey-requires-clause-alone g c = owner-alone c.args.self.now _ _ c.args.queue.now _ c.requires.whole c.is_shared-foreign.ensures
 
 pub returns : goal.returns
 returns g c =
     let its = get (clients_of c.args.self.now) c.args.turn.actor in
-    on_ok_weaker c.rekey_all.result (λ keys.
-    client-given c.args.self.now c.args.turn (Tempo c.args.queue.now c.args.tempo) (queue_changed its c.args.queue.now.queue (clocked (λ k. with_tempo k c.args.turn.moment c.args.tempo))) _ c.requires.accepted
-    (sets-tempo c.args.self.now.files (state_of c.args.self.now) c.args.turn.moment c.args.turn.actor c.args.queue.now c.args.tempo) (c.in_ok-set_tempo.ensures.ok ∙ ap (λ (r : Roster). with_client r c.args.turn.actor (queue_changed (get r.clients c.args.turn.actor) c.args.queue.now.queue (clocked (λ k. with_tempo k c.args.turn.moment c.args.tempo)))) c.clients_mut-clients.ensures.value) _ c.requires.whole.cells keys) c.rekey_all.ensures
+    on_ok_weaker c.rekey.result (λ keys.
+    client-given c.args.self.now c.args.turn (Tempo c.args.queue.now c.args.tempo) (queue_changed its c.args.queue.now.queue (with_clock (λ k. with_tempo k c.args.turn.moment c.args.tempo))) _ _ c.requires.accepted
+    (sets-tempo c.args.self.now.files (state_of c.args.self.now) c.args.turn.moment c.args.turn.actor c.args.queue.now c.args.tempo) c.in_ok-set_tempo.ensures.ok c.in_ok-set_tempo.ensures.graph _ c.requires.whole.cells keys) c.rekey.ensures

@@ -1,8 +1,6 @@
-use Rattle.seq_clients.specs.Roster.{Roster, with_client}
-use Rattle.std.proofs.Common.{ap, ◌∙◌}
 use Rattle.std.specs.FinMap.{get}
 use Rattle.seq_state.specs.declared.input.Command.TheVariants.{Share}
-use Rattle.seq_state.specs.Own.{public, queue_of, queue_map, queue_changed}
+use Rattle.seq_state.specs.Effect.{public, queue_of, queue_map, queue_changed}
 use Rattle.seq_state.proofs.Done.{shares}
 use Rattle.seq_commands.specs.Whole.{clients_of, state_of}
 use Rattle.seq_commands.proofs.ClientsGiven.{client-kept}
@@ -13,7 +11,7 @@ pub returns : goal.returns
 returns c =
     let its = get (clients_of c.args.self.now) c.args.turn.actor in
     let n = c.args.queue.now.queue in
-    client-kept c.args.self.now c.args.turn (Share c.args.queue.now) (queue_changed its n public) _ c.requires.accepted
+    client-kept c.args.self.now c.args.turn (Share c.args.queue.now) (queue_changed its n public) _ _ c.requires.accepted
     (shares c.args.self.now.files (state_of c.args.self.now) c.args.turn.moment c.args.turn.actor c.args.queue.now)
-    (c.share.ensures ∙ ap (λ (r : Roster). with_client r c.args.turn.actor (queue_changed (get r.clients c.args.turn.actor) n public)) c.clients_mut.ensures.value)
+    c.share.ensures.clients c.share.ensures.graph
     (replaced-same (clients_of c.args.self.now) c.args.turn.actor n (queue_map public (queue_of its n)) (public-same (queue_of its n)))

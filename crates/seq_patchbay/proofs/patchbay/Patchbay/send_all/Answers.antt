@@ -3,7 +3,7 @@ use Rattle.std.specs.Prelude.{OnOk}
 use Rattle.std.proofs.lemmas.Bool.{eqb-true}
 use Rattle.memory.proofs.Outcomes.{on_ok}
 use Rattle.patch_graph.specs.Index.{targets_of}
-use Rattle.seq_state.specs.Step.{port_addr, offered, delivered}
+use Rattle.seq_state.specs.Step.{port_addr, pools_after, copies_with_room}
 use Rattle.seq_patchbay.specs.Carrying.{copies_of_all}
 use Rattle.seq_patchbay.specs.Network.{Network}
 use Rattle.seq_patchbay.specs.Ways.{AreWays, AreWaysKept}
@@ -18,8 +18,8 @@ returns-in-Some-clause-pools c =
     let a = c.args in
     let s = c.self.inside in
     let source = port_addr a.client a.port in
-    subst (λ (n : Network). OnOk c.send_each.result (c.send_each.new.clients.pools ≡ offered n.clients.pools (copies_of_all n.clients.clients n.graph a.moment a.client a.port a.messages.now))) c.self.view_is
-    (subst (λ ds. OnOk c.send_each.result (c.send_each.new.clients.pools ≡ offered s.clients.pools ds)) (all-copies s.clients.clients s.graph a.moment a.client a.port a.messages.now)
+    subst (λ (n : Network). OnOk c.send_each.result (c.send_each.new.clients.pools ≡ pools_after n.clients.pools (copies_of_all n.clients.clients n.graph a.moment a.client a.port a.messages.now))) c.self.view_is
+    (subst (λ ds. OnOk c.send_each.result (c.send_each.new.clients.pools ≡ pools_after s.clients.pools ds)) (all-copies s.clients.clients s.graph a.moment a.client a.port a.messages.now)
     (c.send_each.ensures.pools (targets_of s.graph source) (c.in-Some.ensures s.clients.clients s.graph c.self.invariant)))
 
 pub returns-in-Some-clause-sent : goal.returns-in-Some-clause-sent
@@ -27,8 +27,8 @@ returns-in-Some-clause-sent c =
     let a = c.args in
     let s = c.self.inside in
     let source = port_addr a.client a.port in
-    subst (λ (n : Network). OnOk c.send_each.result (c.send_each.new.out.items ≡ a.out.now.items ++ delivered n.clients.pools (copies_of_all n.clients.clients n.graph a.moment a.client a.port a.messages.now))) c.self.view_is
-    (subst (λ ds. OnOk c.send_each.result (c.send_each.new.out.items ≡ a.out.now.items ++ delivered s.clients.pools ds)) (all-copies s.clients.clients s.graph a.moment a.client a.port a.messages.now)
+    subst (λ (n : Network). OnOk c.send_each.result (c.send_each.new.out.items ≡ a.out.now.items ++ copies_with_room n.clients.pools (copies_of_all n.clients.clients n.graph a.moment a.client a.port a.messages.now))) c.self.view_is
+    (subst (λ ds. OnOk c.send_each.result (c.send_each.new.out.items ≡ a.out.now.items ++ copies_with_room s.clients.pools ds)) (all-copies s.clients.clients s.graph a.moment a.client a.port a.messages.now)
     (c.send_each.ensures.sent (targets_of s.graph source) (c.in-Some.ensures s.clients.clients s.graph c.self.invariant)))
 
 pub invariant_of-self-in_err-send_each : goal.invariant_of-self-in_err-send_each
@@ -44,13 +44,13 @@ pub returns-then-is_empty-clause-pools : goal.returns-then-is_empty-clause-pools
 returns-then-is_empty-clause-pools c =
     let a = c.args in
     let n = a.self.now in
-    ap (offered n.clients.pools) (sym (none-come n.clients.clients n.graph a.moment a.client a.port a.messages.now (eqb-true _ _ (sym c.is_empty.ensures ∙ c.if-is_empty.true))))
+    ap (pools_after n.clients.pools) (sym (none-come n.clients.clients n.graph a.moment a.client a.port a.messages.now (eqb-true _ _ (sym c.is_empty.ensures ∙ c.if-is_empty.true))))
 
 pub returns-then-is_empty-clause-sent : goal.returns-then-is_empty-clause-sent
 returns-then-is_empty-clause-sent c =
     let a = c.args in
     let n = a.self.now in
-    sym (append-nil a.out.now.items) ∙ ap (λ ds. a.out.now.items ++ delivered n.clients.pools ds)
+    sym (append-nil a.out.now.items) ∙ ap (λ ds. a.out.now.items ++ copies_with_room n.clients.pools ds)
     (sym (none-come n.clients.clients n.graph a.moment a.client a.port a.messages.now (eqb-true _ _ (sym c.is_empty.ensures ∙ c.if-is_empty.true))))
 
 pub returns-then-is_empty-2-clause-pools : goal.returns-then-is_empty-2-clause-pools
@@ -59,8 +59,8 @@ returns-then-is_empty-2-clause-pools c =
     let s = c.self.inside in
     let targets = targets_of s.graph (port_addr a.client a.port) in
     let none : length targets ≡ 0 = ap length (sym c.targets-targets.ensures) ∙ eqb-true _ _ (sym c.is_empty-2.ensures ∙ c.if-is_empty-2.true) in
-    subst (λ (n : Network). n.clients.pools ≡ offered n.clients.pools (copies_of_all n.clients.clients n.graph a.moment a.client a.port a.messages.now)) c.self.view_is
-    (ap (offered s.clients.pools) (sym (none-to-nobody s.clients.clients s.graph a.moment targets a.messages.now none) ∙ all-copies s.clients.clients s.graph a.moment a.client a.port a.messages.now))
+    subst (λ (n : Network). n.clients.pools ≡ pools_after n.clients.pools (copies_of_all n.clients.clients n.graph a.moment a.client a.port a.messages.now)) c.self.view_is
+    (ap (pools_after s.clients.pools) (sym (none-to-nobody s.clients.clients s.graph a.moment targets a.messages.now none) ∙ all-copies s.clients.clients s.graph a.moment a.client a.port a.messages.now))
 
 pub returns-then-is_empty-2-clause-sent : goal.returns-then-is_empty-2-clause-sent
 returns-then-is_empty-2-clause-sent c =
@@ -68,8 +68,8 @@ returns-then-is_empty-2-clause-sent c =
     let s = c.self.inside in
     let targets = targets_of s.graph (port_addr a.client a.port) in
     let none : length targets ≡ 0 = ap length (sym c.targets-targets.ensures) ∙ eqb-true _ _ (sym c.is_empty-2.ensures ∙ c.if-is_empty-2.true) in
-    subst (λ (n : Network). a.out.now.items ≡ a.out.now.items ++ delivered n.clients.pools (copies_of_all n.clients.clients n.graph a.moment a.client a.port a.messages.now)) c.self.view_is
-    (sym (append-nil a.out.now.items) ∙ ap (λ ds. a.out.now.items ++ delivered s.clients.pools ds)
+    subst (λ (n : Network). a.out.now.items ≡ a.out.now.items ++ copies_with_room n.clients.pools (copies_of_all n.clients.clients n.graph a.moment a.client a.port a.messages.now)) c.self.view_is
+    (sym (append-nil a.out.now.items) ∙ ap (λ ds. a.out.now.items ++ copies_with_room s.clients.pools ds)
     (sym (none-to-nobody s.clients.clients s.graph a.moment targets a.messages.now none) ∙ all-copies s.clients.clients s.graph a.moment a.client a.port a.messages.now))
 
 -- the ways that were found are those of the port
@@ -84,13 +84,13 @@ pub returns-clause-pools : goal.returns-clause-pools
 returns-clause-pools c =
     let a = c.args in
     let s = c.self.inside in
-    on_ok c.insert.result (subst (λ (n : Network). c.send_each-2.new.clients.pools ≡ offered n.clients.pools (copies_of_all n.clients.clients n.graph a.moment a.client a.port a.messages.now)) c.self.view_is
-    (c.in_ok-send_each.ensures.pools (targets_of s.graph (port_addr a.client a.port)) (ways-are c) ∙ ap (offered s.clients.pools) (all-copies s.clients.clients s.graph a.moment a.client a.port a.messages.now)))
+    on_ok c.insert.result (subst (λ (n : Network). c.send_each-2.new.clients.pools ≡ pools_after n.clients.pools (copies_of_all n.clients.clients n.graph a.moment a.client a.port a.messages.now)) c.self.view_is
+    (c.in_ok-send_each.ensures.pools (targets_of s.graph (port_addr a.client a.port)) (ways-are c) ∙ ap (pools_after s.clients.pools) (all-copies s.clients.clients s.graph a.moment a.client a.port a.messages.now)))
 
 pub returns-clause-sent : goal.returns-clause-sent
 returns-clause-sent c =
     let a = c.args in
     let s = c.self.inside in
-    on_ok c.insert.result (subst (λ (n : Network). c.send_each-2.new.out.items ≡ a.out.now.items ++ delivered n.clients.pools (copies_of_all n.clients.clients n.graph a.moment a.client a.port a.messages.now)) c.self.view_is
+    on_ok c.insert.result (subst (λ (n : Network). c.send_each-2.new.out.items ≡ a.out.now.items ++ copies_with_room n.clients.pools (copies_of_all n.clients.clients n.graph a.moment a.client a.port a.messages.now)) c.self.view_is
     (c.in_ok-send_each.ensures.sent (targets_of s.graph (port_addr a.client a.port)) (ways-are c)
-    ∙ ap (λ ds. a.out.now.items ++ delivered s.clients.pools ds) (all-copies s.clients.clients s.graph a.moment a.client a.port a.messages.now)))
+    ∙ ap (λ ds. a.out.now.items ++ copies_with_room s.clients.pools ds) (all-copies s.clients.clients s.graph a.moment a.client a.port a.messages.now)))

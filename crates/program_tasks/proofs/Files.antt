@@ -1,0 +1,83 @@
+-- What was read of files that were opened by their paths.
+use Rattle.std.proofs.Common.{◌≡◌, ℕ, ◌+◌, ◌<◌, Bool, List, [], ◌∷◌, ◌++◌, ◌∙◌, length, map, take, get_or, Option, Some, None, refl, sym, ap, subst, inl, inr}
+use Rattle.std.proofs.lemmas.List.{map_more, take_more}
+use Rattle.seq_session.specs.declared.source.Script.{Script}
+use Rattle.seq_session.specs.declared.source.ScriptSource.{ScriptSource}
+use Rattle.seq_session.specs.Devices.{AreRead}
+use Rattle.program_tasks.specs.declared.words.ScriptWord.{ScriptWord}
+use Rattle.program_tasks.specs.Apart.{AreFilesApart, IsOneFile}
+use Rattle.program_tasks.specs.Opened.{AreOfFiles, AreSourcesOf, IsContent, AreContents, path_in}
+
+-- ---- scripts
+
+module _ {R : Type 0} (IsOpened : List ℕ → R → Type 0) (HasLeft : R → List ℕ → Type 0) where
+  -- what was read from sources is what was read from the files that they were opened at
+  pub of_files : (words : List ScriptWord) (sources rests : List (ScriptSource R)) (scripts : List Script) →
+      AreSourcesOf IsOpened words sources → AreRead HasLeft sources rests scripts → AreOfFiles IsOpened HasLeft words scripts
+  of_files [] [] [] [] o r = tt
+  of_files [] [] [] (s ∷ scripts) o r = absurd r
+  of_files [] [] (n ∷ rests) [] o r = absurd r
+  of_files [] [] (n ∷ rests) (s ∷ scripts) o r = absurd r
+  of_files [] (x ∷ sources) rests scripts o r = absurd o
+  of_files (w ∷ words) [] rests scripts o r = absurd o
+  of_files (w ∷ words) (x ∷ sources) [] [] o r = absurd r
+  of_files (w ∷ words) (x ∷ sources) [] (s ∷ scripts) o r = absurd r
+  of_files (w ∷ words) (x ∷ sources) (n ∷ rests) [] o r = absurd r
+  of_files (w ∷ words) (x ∷ sources) (n ∷ rests) (s ∷ scripts) o r = (
+    r.0.client ∙ o.0,
+    record { before = x.reader; after = n.reader; opened = o.1; gave = r.0.text },
+    of_files words sources rests scripts o.2 r.1,
+  )
+
+-- one more source
+pub sources_more : {R : Type 0} (IsOpened : List ℕ → R → Type 0) (words : List ScriptWord) (sources : List (ScriptSource R)) (w : ScriptWord) (x : ScriptSource R) →
+    AreSourcesOf IsOpened words sources → x.client ≡ w.client → IsOpened w.path.now x.reader → AreSourcesOf IsOpened (words ++ w ∷ []) (sources ++ x ∷ [])
+sources_more IsOpened [] [] w x o e h = (e, h, tt)
+sources_more IsOpened [] (y ∷ sources) w x o e h = absurd o
+sources_more IsOpened (v ∷ words) [] w x o e h = absurd o
+sources_more IsOpened (v ∷ words) (y ∷ sources) w x o e h = (o.0, o.1, sources_more IsOpened words sources w x o.2 e h)
+
+pub sources_next : {R : Type 0} (IsOpened : List ℕ → R → Type 0) (words : List ScriptWord) (i : ℕ) (w : ScriptWord) (sources news : List (ScriptSource R)) (x : ScriptSource R) →
+    i < length words → w ≡ get_or words i w → news ≡ sources ++ x ∷ [] → AreSourcesOf IsOpened (take i words) sources → x.client ≡ w.client → IsOpened w.path.now x.reader → AreSourcesOf IsOpened (take (i + 1) words) news
+sources_next IsOpened words i w sources news x lt here e o c h =
+    let first : take (i + 1) words ≡ take i words ++ w ∷ [] = take_more words i w lt ∙ ap (λ v. take i words ++ v ∷ []) (sym here) in
+    rw (first, e) (sources_more IsOpened (take i words) sources w x o c h)
+
+-- ---- the files of a folder
+
+module _ {R : Type 0} (IsOpened : List ℕ → R → Type 0) (HasLeft : R → List ℕ → Type 0) (CannotOpen : List ℕ → Type 0) (failed : R → Bool) (folder : List ℕ) where
+  -- one more file
+  contents_more : (names : List (List ℕ)) (contents : List (Option (List ℕ))) (name : List ℕ) (content : Option (List ℕ)) →
+      AreContents IsOpened HasLeft CannotOpen failed folder names contents → IsContent IsOpened HasLeft CannotOpen failed (path_in folder name) content →
+      AreContents IsOpened HasLeft CannotOpen failed folder (names ++ name ∷ []) (contents ++ content ∷ [])
+  contents_more [] [] name content a h = (h, tt)
+  contents_more [] (c ∷ contents) name content a h = absurd a
+  contents_more (n ∷ names) [] name content a h = absurd a
+  contents_more (n ∷ names) (c ∷ contents) name content a h = (a.0, contents_more names contents name content a.1 h)
+
+  map-last : {X Y : Type 0} (f : X → Y) (xs : List X) (x : X) → map f (xs ++ x ∷ []) ≡ map f xs ++ f x ∷ []
+  map-last f [] x = refl
+  map-last f (y ∷ ys) x = ap (λ zs. f y ∷ zs) (map-last f ys x)
+
+  pub contents_next : {N C : Type 0} (name_of : N → List ℕ) (content_of : C → Option (List ℕ)) (names : List N) (i : ℕ) (name : N) (contents news : List C) (content : C) →
+      i < length names → name ≡ get_or names i name → news ≡ contents ++ content ∷ [] → IsContent IsOpened HasLeft CannotOpen failed (path_in folder (name_of name)) (content_of content) →
+      AreContents IsOpened HasLeft CannotOpen failed folder (map name_of (take i names)) (map content_of contents) →
+      AreContents IsOpened HasLeft CannotOpen failed folder (map name_of (take (i + 1) names)) (map content_of news)
+  contents_next name_of content_of names i name contents news content lt here e h a =
+      let first : map name_of (take (i + 1) names) ≡ map name_of (take i names) ++ name_of name ∷ [] =
+      map_more name_of names i name lt ∙ ap (λ n. map name_of (take i names) ++ name_of n ∷ []) (sym here) in
+      let second : map content_of news ≡ map content_of contents ++ content_of content ∷ [] = ap (map content_of) e ∙ map-last content_of contents content in
+      rw (first, second) (contents_more (map name_of (take i names)) (map content_of contents) (name_of name) (content_of content) a h)
+
+-- a path that is apart from the first file and from the others
+pub files_apart : {N : Type 0} (AreApart : List ℕ → List ℕ → Type 0) (path folder : List ℕ) (name_of : N → List ℕ) (names more : List N) (first : N) → names ≡ first ∷ more →
+    AreApart path (path_in folder (name_of first)) → AreFilesApart AreApart path folder (map name_of more) → AreFilesApart AreApart path folder (map name_of names)
+files_apart AreApart path folder name_of names more first e here h = rw e (here, h)
+
+-- a path that leads to the first file, or to one of the others
+module _ {N : Type 0} (AreOne : List ℕ → List ℕ → Type 0) (path folder : List ℕ) (name_of : N → List ℕ) (names more : List N) (first : N) (e : names ≡ first ∷ more) where
+  pub one_file_here : AreOne path (path_in folder (name_of first)) → IsOneFile AreOne path folder (map name_of names)
+  one_file_here here = rw e (inl here)
+
+  pub one_file_more : IsOneFile AreOne path folder (map name_of more) → IsOneFile AreOne path folder (map name_of names)
+  one_file_more h = rw e (inr h)

@@ -1,0 +1,15 @@
+pub mod Files
+pub mod Opened
+pub mod Printed
+pub mod Rising
+pub mod Said
+pub mod Stopped
+pub mod Told
+pub mod Unread
+pub mod Found
+pub mod Fronts
+pub mod Ordered
+pub mod Places
+pub mod PrintedLogs
+pub mod WordsTold
+pub mod Ticks

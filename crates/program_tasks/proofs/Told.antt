@@ -1,0 +1,31 @@
+-- Lines that are shown one after another.
+use Rattle.std.proofs.Common.{◌≡◌, ◌<◌, ◌≤◌, ◌+◌, ◌++◌, ℕ, List, [], ◌∷◌, ◌∙◌, length, map, take, get_or, sym, ap, subst, arith}
+use Rattle.std.proofs.lemmas.Grind.{flat_map-append}
+use Rattle.std.proofs.lemmas.List.{append-nil, map_more}
+use Rattle.byte_io.specs.Moved.{Took}
+use Rattle.byte_io.proofs.Moved.{took_more}
+use Rattle.program_tasks.specs.Program.{left_out_line, left_out_lines}
+use Rattle.program_tasks.proofs.Opened.{take-all}
+
+-- the first line, and then the others
+pub told_first : {N X : Type 0} (HasTold : N → List ℕ → Type 0) (name_of : X → List ℕ) (names more : List X) (first : X) (s t u : N) → names ≡ first ∷ more →
+    Took HasTold s (left_out_line (name_of first) ++ 10 ∷ []) t → Took HasTold t (left_out_lines (map name_of more)) u → Took HasTold s (left_out_lines (map name_of names)) u
+told_first HasTold name_of names more first s t u e line lines = rw e (took_more HasTold s t u _ _ line lines)
+
+module _ {N X : Type 0} (HasTold : N → List ℕ → Type 0) (name_of : X → List ℕ) where
+  -- one more line
+  pub told_next : (names : List X) (i : ℕ) (name : X) (s t u : N) → i < length names → name ≡ get_or names i name →
+      Took HasTold s (left_out_lines (map name_of (take i names))) t → Took HasTold t (left_out_line (name_of name) ++ 10 ∷ []) u →
+      Took HasTold s (left_out_lines (map name_of (take (i + 1) names))) u
+  told_next names i name s t u lt here before line =
+      let last : left_out_lines (name_of name ∷ []) ≡ left_out_line (name_of name) ++ 10 ∷ [] = append-nil _ in
+      let lines : left_out_lines (map name_of (take (i + 1) names)) ≡ left_out_lines (map name_of (take i names)) ++ (left_out_line (name_of name) ++ 10 ∷ []) =
+      ap left_out_lines (map_more name_of names i name lt ∙ ap (λ n. map name_of (take i names) ++ name_of n ∷ []) (sym here))
+      ∙ flat_map-append (λ n. left_out_line n ++ 10 ∷ []) (map name_of (take i names)) (name_of name ∷ [])
+      ∙ ap (λ more. left_out_lines (map name_of (take i names)) ++ more) last in
+      subst (λ text. Took HasTold s text u) (sym lines) (took_more HasTold s t u _ _ before line)
+
+  -- and so all of them
+  pub told_all : (names : List X) (i : ℕ) (s t : N) → i ≤ length names → length names ≤ i →
+      Took HasTold s (left_out_lines (map name_of (take i names))) t → Took HasTold s (left_out_lines (map name_of names)) t
+  told_all names i s t l g told = subst (λ xs. Took HasTold s (left_out_lines (map name_of xs)) t) (take-all i names l g) told

@@ -1,0 +1,15 @@
+pub mod Tools
+pub mod Program
+pub mod Words
+pub mod FolderFiles
+pub mod LogsPrinted
+pub mod Recording
+pub mod Rows
+pub mod Opened
+pub mod Apart
+pub mod Sessions
+pub mod Printed
+pub mod Recorded
+pub mod Faults
+pub mod Tasks
+pub mod Subcommands

@@ -1,0 +1,43 @@
+-- Definition: What is printed of a session.
+use Rattle.std.specs.Prelude.{◌≡◌, ℕ, Bool, true, false, List, ◌++◌, map}
+use Rattle.std.specs.List.{flat_map}
+use Rattle.byte_io.specs.Memory.{MemOutput}
+use Rattle.byte_io.specs.Moved.{Took}
+use Rattle.seq_session.specs.declared.source.Script.{Script}
+use Rattle.seq_session.specs.Sessions.{FolderContents, log_of, all_logs, listing_after}
+use Rattle.program_tasks.specs.declared.words.ScriptWord.{ScriptWord}
+use Rattle.program_tasks.specs.LogsPrinted.{headed_log}
+use Rattle.program_tasks.specs.Opened.{AreOfFiles}
+
+-- each client's number and its log
+abbrev pub headed_logs : FolderContents → ℕ → List Script → List ℕ
+headed_logs folder end scripts =
+    flat_map (λ s. headed_log s.client (log_of folder end scripts s)) scripts
+
+-- and then, where it is asked for, the listing
+abbrev pub session_text : FolderContents → ℕ → Bool → List Script → List ℕ
+session_text folder end false scripts = headed_logs folder end scripts
+session_text folder end true scripts =
+    headed_logs folder end scripts ++ listing_after folder end scripts
+
+-- The scripts were read from the files that the words name, and the sink took what the session of
+-- just these says.
+pub record IsSessionPrinted {R W : Type 0} (IsOpened : List ℕ → R → Type 0)
+    (HasLeft : R → List ℕ → Type 0)
+    (HasTaken : W → List ℕ → Type 0) (folder : FolderContents) (end : ℕ) (listed : Bool)
+    (words : List ScriptWord)
+    (old new : W) : Type 0 where
+  pub scripts : List Script
+  pub read : AreOfFiles IsOpened HasLeft words scripts
+  pub took : Took HasTaken old (session_text folder end listed scripts) new
+
+-- The scripts were read from the files that the words name, and each log, and the listing, has what
+-- the session of just these says.
+pub record IsSessionLogged {R : Type 0} (IsOpened : List ℕ → R → Type 0)
+    (HasLeft : R → List ℕ → Type 0)
+    (folder : FolderContents) (end : ℕ) (words : List ScriptWord) (logs : List MemOutput)
+    (listing : MemOutput) : Type 0 where
+  pub scripts : List Script
+  pub read : AreOfFiles IsOpened HasLeft words scripts
+  pub logged : map (λ l. l.taken) logs ≡ all_logs folder end scripts
+  pub listing_is : listing.taken ≡ listing_after folder end scripts

@@ -1,0 +1,138 @@
+-- Definition: What the program is asked to do, and what it prints where it stops.
+use Rattle.std.specs.Prelude.{◌≡◌, ◌≢◌, ℕ, Bool, true, false, if◌then◌else◌, List, [], ◌∷◌, ◌++◌, Result, Ok, Err, codes, encode_utf8, encode_utf8_all}
+use Rattle.std.specs.List.{flat_map}
+use Rattle.std.specs.Char.{is_control}
+use Rattle.std.specs.Fmt.{decimal}
+use Rattle.std.specs.Char.Escape.{escape_default}
+use Rattle.std.specs.Str.{chars}
+use Rattle.memory.specs.Faults.{out_of_memory_text}
+use Rattle.smf_grammar.specs.Faults as smf
+use Rattle.program_tasks.specs.declared.choice.Tool.{Tool}
+use Rattle.program_tasks.specs.declared.choice.Tool.TheVariants.{Thru, Wire, Dump}
+use Rattle.program_tasks.specs.declared.choice.Stream.{Stream}
+use Rattle.program_tasks.specs.declared.choice.Stream.TheVariants.{Standard, Path}
+use Rattle.program_tasks.specs.declared.ending.Ended.{Ended}
+use Rattle.program_tasks.specs.declared.ending.Ended.TheVariants.{Done, Shown}
+use Rattle.tool_text.specs.declared.fault.ToolFault.{ToolFault}
+use Rattle.tool_text.specs.declared.fault.ToolFault.TheVariants as tool
+use Rattle.program_tasks.specs.declared.program_fault.ProgramFault.{ProgramFault}
+use Rattle.program_tasks.specs.declared.program_fault.ProgramFault.TheVariants.{NotUtf8, NoSubcommand, NotAMoment, NotAPort, NotAScript, TwoScripts, OutIsRead, CannotRead, CannotWrite, OutOfMemory, CannotRecord, Smf}
+
+-- ---- the choice
+
+-- the word that names a tool
+abbrev pub tool_name : Tool → List ℕ
+tool_name Thru = codes "thru"
+tool_name Wire = codes "wire"
+tool_name Dump = codes "dump"
+
+-- the word that names a stream
+abbrev pub stream_name : Stream → List ℕ
+stream_name Standard = codes "-"
+stream_name (Path path) = path.now
+
+-- `-` names standard input, and each other word a path
+abbrev pub IsNamedBy : Stream → List ℕ → Type 0
+IsNamedBy Standard word = word ≡ codes "-"
+IsNamedBy (Path path) word = (path.now ≡ word) × (word ≢ codes "-")
+
+-- ---- the line of a fault
+
+-- a control character as it is written with a backslash, and each other as it is
+abbrev pub escaped_char : ℕ → List ℕ
+escaped_char c = if is_control c then encode_utf8_all (escape_default c) else encode_utf8 c
+
+-- a text without control characters
+abbrev pub escaped_text : List ℕ → List ℕ
+escaped_text text = flat_map escaped_char (chars text)
+
+-- what stands in the line of a fault
+abbrev pub program_fault_text : ProgramFault → List ℕ
+program_fault_text NotUtf8 = codes "an argument is not UTF-8"
+program_fault_text NoSubcommand = codes "name a subcommand"
+program_fault_text (NotAMoment word) =
+    escaped_text word.now ++ codes " is no moment in nanoseconds"
+program_fault_text (NotAPort word) =
+    escaped_text word.now
+    ++ codes " names no port 0 to 15 of a client 128 to 191"
+program_fault_text (NotAScript word) =
+    escaped_text word.now ++ codes " names no script of a client 128 to 191"
+program_fault_text (TwoScripts client) =
+    codes "client " ++ decimal client ++ codes " has two scripts"
+program_fault_text (OutIsRead path) =
+    escaped_text path.now ++ codes " is a file that the session reads"
+program_fault_text (CannotRead path) = codes "cannot read " ++ escaped_text path.now
+program_fault_text (CannotWrite path) = codes "cannot write " ++ escaped_text path.now
+program_fault_text OutOfMemory = out_of_memory_text
+program_fault_text CannotRecord = codes "cannot record"
+program_fault_text (Smf fault) = smf.fault_text fault
+
+-- what is printed for the fault of a tool that was given a stream
+abbrev pub told_text : Stream → ToolFault → List ℕ
+told_text stream tool.Read = codes "cannot read " ++ escaped_text (stream_name stream)
+told_text stream tool.Write = codes "cannot write " ++ escaped_text (codes "-")
+told_text stream tool.OutOfMemory = out_of_memory_text
+told_text stream (tool.Smf fault) = smf.fault_text fault
+
+-- whether the help of the program says more of what is wrong
+abbrev pub is_helped : ProgramFault → Bool
+is_helped NotUtf8 = false
+is_helped NoSubcommand = true
+is_helped (NotAMoment word) = true
+is_helped (NotAPort word) = true
+is_helped (NotAScript word) = true
+is_helped (TwoScripts client) = true
+is_helped (OutIsRead path) = true
+is_helped (CannotRead path) = false
+is_helped (CannotWrite path) = false
+is_helped OutOfMemory = false
+is_helped CannotRecord = false
+is_helped (Smf fault) = false
+
+-- how to ask for help, where that says more
+abbrev pub help_hint : ProgramFault → List ℕ
+help_hint fault = if is_helped fault then codes "; see midiseq --help" else []
+
+-- what each line of the program begins with
+abbrev pub line_start : List ℕ
+line_start = codes "midiseq: "
+
+-- the line of a fault, without its end
+abbrev pub fault_line : ProgramFault → List ℕ
+fault_line fault = line_start ++ program_fault_text fault ++ help_hint fault
+
+-- the line of a file that a run leaves out, without its end
+abbrev pub left_out_line : List ℕ → List ℕ
+left_out_line name = line_start ++ codes "left out " ++ escaped_text name
+
+-- a line for each file that a run leaves out
+abbrev pub left_out_lines : List (List ℕ) → List ℕ
+left_out_lines names = flat_map (λ name. left_out_line name ++ 10 ∷ []) names
+
+-- 2 for a fault in the words, 1 for any other
+abbrev pub exit_status : ProgramFault → ℕ
+exit_status NotUtf8 = 2
+exit_status NoSubcommand = 2
+exit_status (NotAMoment word) = 2
+exit_status (NotAPort word) = 2
+exit_status (NotAScript word) = 2
+exit_status (TwoScripts client) = 2
+exit_status (OutIsRead path) = 2
+exit_status (CannotRead path) = 1
+exit_status (CannotWrite path) = 1
+exit_status OutOfMemory = 1
+exit_status CannotRecord = 1
+exit_status (Smf fault) = 1
+
+-- ---- how the program ends
+
+-- the status with which it ends
+abbrev pub end_status : Result Ended ProgramFault → ℕ
+end_status (Ok Done) = 0
+end_status (Ok (Shown status)) = status
+end_status (Err fault) = exit_status fault
+
+-- the lines that are shown as it ends: one for a fault, and else none
+abbrev pub end_lines : Result Ended ProgramFault → List ℕ
+end_lines (Ok ended) = []
+end_lines (Err fault) = fault_line fault ++ 10 ∷ []

@@ -1,0 +1,72 @@
+-- Definition: What the subcommands that run scripts do with a session.
+use Rattle.std.specs.Prelude.{◌≡◌, ◌⊎◌, ◌++◌, ℕ, Bool, List, Option, take, drop, map}
+use Rattle.std.specs.Option.{option_map}
+use Rattle.byte_io.specs.Moved.{Took}
+use Rattle.script_text.specs.declared.script.TheConstants.{MOST_FILES}
+use Rattle.seq_session.specs.Sessions.{FolderContents}
+use Rattle.program_tasks.specs.FolderFiles.{FoundFiles, AreOpened}
+use Rattle.smf_grammar.specs.Played.{as_played}
+use Rattle.program_tasks.specs.declared.program_fault.ProgramFault.{ProgramFault}
+use Rattle.program_tasks.specs.Program.{left_out_lines}
+use Rattle.program_tasks.specs.declared.recording.Recording.{Recording}
+use Rattle.program_tasks.specs.declared.session.Session.{Session}
+use Rattle.program_tasks.specs.Faults.{IsOfRefusal, IsOfScripts, IsOfSharing, IsOfWriting}
+use Rattle.program_tasks.specs.Opened.{IsFolder}
+use Rattle.program_tasks.specs.Printed.{IsSessionPrinted}
+use Rattle.program_tasks.specs.Recorded.{IsSessionRecorded}
+
+module _ {R : Type 0} (IsOpened : List ℕ → R → Type 0) (HasLeft : R → List ℕ → Type 0)
+    (CannotOpen : List ℕ → Type 0)
+    (failed : R → Bool) (HasNames : List ℕ → List (List ℕ) → Type 0) where
+  -- These are the files of the folder that can be played, from what was read of each, and of each
+  -- of the others a line was told.
+  pub record AreFilesOf {N : Type 0} (HasTold : N → List ℕ → Type 0) (folder : Option (List ℕ))
+      (before after : N)
+      (files : FolderContents) : Type 0 where
+    pub names : List (List ℕ)
+    pub contents : List (Option (List ℕ))
+    pub read : IsFolder IsOpened HasLeft CannotOpen failed HasNames folder names contents
+    pub found : FoundFiles
+    pub opened : AreOpened (take MOST_FILES names) contents found
+    pub names_are : files.names ≡ found.names
+    pub files_are : files.files ≡ map as_played found.files
+    pub told : Took HasTold before (left_out_lines (found.left_out ++ drop MOST_FILES names)) after
+
+  -- The session was run, and the sink took its logs and, where it is asked for, the listing.
+  pub record IsRunPrinted {W N : Type 0} (HasTaken : W → List ℕ → Type 0)
+      (HasTold : N → List ℕ → Type 0)
+      (session : Session) (listed : Bool) (old new : W) (before after : N) : Type 0 where
+    pub files : FolderContents
+    pub are : AreFilesOf HasTold (option_map (λ d. d.now) session.dir) before after files
+    pub printed :
+        IsSessionPrinted IsOpened HasLeft HasTaken files session.until listed session.scripts.items
+        old new
+
+  -- The session was run, and what came to a port was written to a path.
+  pub record IsRunRecorded {W N : Type 0} (IsBegun : List ℕ → W → Type 0)
+      (HasTaken : W → List ℕ → Type 0)
+      (IsStored : List ℕ → W → Type 0) (HasTold : N → List ℕ → Type 0) (session : Session)
+      (recording : Recording)
+      (before after : N) : Type 0 where
+    pub files : FolderContents
+    pub are : AreFilesOf HasTold (option_map (λ d. d.now) session.dir) before after files
+    pub recorded : IsSessionRecorded IsOpened HasLeft IsBegun HasTaken IsStored files session.until
+        session.scripts.items recording
+
+  -- The session was not recorded, for one of these reasons, once its folder was read.
+  pub record IsRecordingStopped {W N : Type 0} (AreOne : List ℕ → List ℕ → Type 0)
+      (IsBegun : List ℕ → W → Type 0)
+      (writer_failed takes_some : W → Bool) (CannotBegin CannotStore : List ℕ → Type 0)
+      (HasTold : N → List ℕ → Type 0)
+      (session : Session) (recording : Recording) (before after : N)
+      (fault : ProgramFault) : Type 0 where
+    pub files : FolderContents
+    pub are : AreFilesOf HasTold (option_map (λ d. d.now) session.dir) before after files
+    pub why :
+        IsOfSharing AreOne recording.path.now session.scripts.items
+        (option_map (λ d. d.now) session.dir)
+        (take MOST_FILES are.names) fault
+        ⊎ (IsOfScripts IsOpened HasLeft CannotOpen failed session.scripts.items fault
+        ⊎ (IsOfRefusal IsOpened HasLeft files session.until session.scripts.items recording fault
+        ⊎ IsOfWriting IsBegun writer_failed takes_some CannotBegin CannotStore recording.path.now
+        fault))

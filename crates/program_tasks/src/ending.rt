@@ -1,0 +1,32 @@
+//! How the program ends.
+
+ghost use Rattle.std.specs.Prelude.{◌≡◌};
+ghost use Rattle.byte_io.specs.Moved.{Took};
+ghost use Rattle.program_tasks.specs.Program.{end_status, end_lines};
+
+use crate::notes::Notes;
+use crate::program_fault::{FaultLine, ProgramFault};
+
+/// How the program ends where no fault came.
+#[derive(Clone, Copy, Debug, PartialEq, Eq)]
+pub enum Ended {
+    /// It has done what its words ask for.
+    Done,
+    /// It has shown how it is used, with the status for that: 0 where help was asked for.
+    Shown(u8),
+}
+
+/// Ends the program: tells a fault in one line, and gives the status to end with.
+pub fn finish<N: Notes>(ended: Result<Ended, ProgramFault<'_>>, notes: &mut N) -> u8
+    ensures status { result ≡ end_status ended.entry }
+    ensures told { Took N.HasTold notes.old (end_lines ended.entry) notes.new }
+{
+    match ended {
+        Ok(Ended::Done) => 0,
+        Ok(Ended::Shown(status)) => status,
+        Err(fault) => {
+            notes.tell(FaultLine(fault));
+            fault.status()
+        }
+    }
+}

@@ -1,0 +1,44 @@
+//! What the program does: the words that it is given, the files that these name, the work itself, and the line and the
+//! status of each fault.
+//!
+//! `run` is what `midiseq run` does, `record` what `midiseq record` does, and `perform` what the tools do, over every
+//! store of files: from the files that the words name to the text that is printed, or to the file that is written.
+#![tactic(auto)]
+
+mod apart;
+mod choice;
+mod ending;
+mod escaped;
+mod folder;
+mod logs;
+mod names;
+mod notes;
+mod opening;
+mod port_file;
+mod printing;
+mod program_fault;
+mod recording;
+mod rows;
+mod session;
+mod subcommands;
+mod task;
+mod words;
+mod writing;
+
+pub use choice::{STANDARD, Stream, Task, Tool};
+pub use ending::{Ended, finish};
+pub use folder::{Folder, named};
+pub use logs::print_logs;
+pub use names::{midi_files, taken_files};
+pub use notes::{Notes, StandardError};
+pub use opening::{FolderFiles, open_files};
+pub use port_file::record_file;
+pub use printing::print_session;
+pub use program_fault::{FaultLine, LeftOut, ProgramFault};
+pub use recording::{Recording, record_session, recorded};
+pub use rows::worked_recording;
+pub use session::Session;
+pub use subcommands::{record, run};
+pub use task::perform;
+pub use words::{ScriptWord, port_named, scripts_named, until_named};
+pub use writing::write_file;

@@ -1,0 +1,81 @@
+//! A session run, and its logs printed.
+
+ghost use Rattle.std.specs.Prelude.{◌≡◌, ◌⊎◌, false, length, IfErr, OnOk};
+ghost use Rattle.seq_session.specs.Rising.{AreRising};
+ghost use Rattle.program_tasks.specs.Faults.{IsOfScripts, IsOfOutput, IsStuck};
+ghost use Rattle.program_tasks.specs.Printed.{IsSessionPrinted, IsSessionLogged};
+ghost use Rattle.program_tasks.specs.Sessions.{owners, MayBeRun};
+
+use crate::choice::STANDARD;
+use crate::logs::print_logs;
+use crate::program_fault::ProgramFault;
+use crate::session::Session;
+use agenda_heap::HeapAgenda;
+use byte_io::{MemSink, Sink};
+use file_store::FileStore;
+use seq_session::{NamedFiles, run_sessions};
+use std::alloc::Global;
+use tool_text::ToolFault;
+
+/// Runs the scripts of a session, and prints each client's log and, where `listed` says so, the listing at the end.
+/// Before all is read and run nothing is printed.
+pub fn print_session<'a, S: FileStore, W: Sink>(
+    alloc: Global,
+    store: &S,
+    session: &Session<'a>,
+    files: &NamedFiles<'_, '_>,
+    listed: bool,
+    out: &mut W,
+) -> Result<(), ProgramFault<'a>>
+    requires rising { AreRising (owners session.now.scripts.items) }
+    requires sound { W.failed out.old ≡ false }
+    ensures printed { OnOk result (IsSessionPrinted S.IsOpened S.Reader.HasLeft W.HasTaken
+        files.now session.now.until listed session.now.scripts.items out.old out.new) }
+    ensures fault { IfErr result (λ e.
+        IsOfScripts S.IsOpened S.Reader.HasLeft S.CannotOpen S.Reader.failed
+        session.now.scripts.items e
+        ⊎ IsOfOutput (IsStuck W.failed W.takes_some out.old out.new) e) }
+{
+    let mut all = session.logs(alloc)?;
+    let logs = all.as_mut_slice();
+    let mut listing = MemSink::new(alloc, 0)?;
+    run(alloc, store, session, files, logs, &mut listing)?;
+    let listing = if listed { Some(listing.bytes()) } else { None };
+    match print_logs(alloc, session.scripts.as_slice(), logs, listing, out) {
+        Ok(()) => Ok(()),
+        Err(ToolFault::OutOfMemory) => Err(ProgramFault::OutOfMemory),
+        Err(_) => Err(ProgramFault::CannotWrite(STANDARD)),
+    }
+}
+
+/// Runs the scripts into logs and a listing.
+fn run<'a, S: FileStore>(
+    alloc: Global,
+    store: &S,
+    session: &Session<'a>,
+    files: &NamedFiles<'_, '_>,
+    logs: &mut [MemSink],
+    listing: &mut MemSink,
+) -> Result<(), ProgramFault<'a>>
+    requires { MayBeRun session.now.scripts.items logs.old listing.old }
+    ensures logged { OnOk result (IsSessionLogged S.IsOpened S.Reader.HasLeft
+        files.now session.now.until session.now.scripts.items logs.new listing.new) }
+    ensures fault { IfErr result (IsOfScripts S.IsOpened S.Reader.HasLeft S.CannotOpen
+        S.Reader.failed session.now.scripts.items) }
+{
+    let mut sources = session.open(alloc, store)?;
+    let agenda = HeapAgenda::new(alloc);
+    let until = session.until;
+    match run_sessions(
+        alloc,
+        sources.as_mut_slice(),
+        files,
+        agenda,
+        until,
+        logs,
+        listing,
+    ) {
+        Ok(()) => Ok(()),
+        Err(fault) => Err(session.fault_of(fault)),
+    }
+}

@@ -1,0 +1,219 @@
+//! Why the program stops.
+
+ghost use Rattle.std.specs.Prelude.{◌≡◌, ◌≢◌};
+ghost use Rattle.std.specs.Fmt.{WritesOnOk};
+ghost use Rattle.program_tasks.specs.Program.{program_fault_text, told_text, exit_status, is_helped, line_start};
+
+use crate::choice::{STANDARD, Stream};
+use crate::escaped::Escaped;
+use memory::OutOfMemory;
+use smf_files::SmfFault;
+use std::alloc::{AllocError, AllocFailed};
+use std::fmt;
+use std::io::ErrorKind;
+use tool_text::ToolFault;
+
+/// Why the program stops. It is printed in one line, with the control characters of a path escaped.
+#[derive(Clone, Copy, Debug, PartialEq, Eq)]
+pub enum ProgramFault<'a> {
+    NotUtf8,
+    NoSubcommand,
+    /// The word says no moment.
+    NotAMoment(&'a str),
+    /// The word names no port.
+    NotAPort(&'a str),
+    /// The word names no client with its script.
+    NotAScript(&'a str),
+    /// The client has two scripts.
+    TwoScripts(u8),
+    /// What is to be written is a file that the session reads.
+    OutIsRead(&'a str),
+    CannotRead(&'a str),
+    CannotWrite(&'a str),
+    OutOfMemory,
+    /// What came to the port makes no file.
+    CannotRecord,
+    /// What is wrong with a Standard MIDI File: its number, its name, and the place or the track.
+    Smf(SmfFault),
+}
+
+impl<'a> ProgramFault<'a> {
+    /// Why the words could not be read: where memory did not run out, some word is not UTF-8.
+    pub fn of_words(kind: ErrorKind) -> ProgramFault<'a>
+        ensures memory { kind ≡ ErrorKind.OutOfMemory → result ≡ ProgramFault.OutOfMemory }
+        ensures text { kind ≢ ErrorKind.OutOfMemory → result ≡ ProgramFault.NotUtf8 }
+    {
+        match kind {
+            ErrorKind::OutOfMemory => ProgramFault::OutOfMemory,
+            _ => ProgramFault::NotUtf8,
+        }
+    }
+
+    /// The fault of a tool that was given a stream. The tools print on standard output.
+    pub fn of_tool(stream: Stream<'a>, fault: ToolFault) -> ProgramFault<'a>
+        ensures text { program_fault_text result ≡ told_text stream.entry fault }
+        ensures status { exit_status result ≡ 1 }
+    {
+        match fault {
+            ToolFault::OutOfMemory => ProgramFault::OutOfMemory,
+            ToolFault::Read => ProgramFault::CannotRead(stream.name()),
+            ToolFault::Write => ProgramFault::CannotWrite(STANDARD),
+            ToolFault::Smf(fault) => ProgramFault::Smf(fault),
+        }
+    }
+
+    /// The status that the program ends with: 2 for a fault in the words, 1 for any other.
+    pub fn status(&self) -> u8
+        ensures { result ≡ exit_status self.now }
+    {
+        match self {
+            ProgramFault::NotUtf8
+            | ProgramFault::NoSubcommand
+            | ProgramFault::NotAMoment(_)
+            | ProgramFault::NotAPort(_)
+            | ProgramFault::NotAScript(_)
+            | ProgramFault::TwoScripts(_)
+            | ProgramFault::OutIsRead(_) => 2,
+            ProgramFault::CannotRead(_)
+            | ProgramFault::CannotWrite(_)
+            | ProgramFault::OutOfMemory
+            | ProgramFault::CannotRecord
+            | ProgramFault::Smf(_) => 1,
+        }
+    }
+
+    /// Whether the help of the program says more of what is wrong.
+    fn is_helped(&self) -> bool
+        ensures { result ≡ is_helped self.now }
+    {
+        matches!(
+            self,
+            ProgramFault::NoSubcommand
+                | ProgramFault::NotAMoment(_)
+                | ProgramFault::NotAPort(_)
+                | ProgramFault::NotAScript(_)
+                | ProgramFault::TwoScripts(_)
+                | ProgramFault::OutIsRead(_)
+        )
+    }
+}
+
+impl fmt::Display for ProgramFault<'_> {
+    ghost use Rattle.std.specs.Prelude.{Some};
+    ghost use Rattle.program_tasks.specs.Program.{program_fault_text};
+
+    ghost output = { λ e. Some (program_fault_text e) };
+
+    fn fmt<W: fmt::Write>(&self, f: &mut fmt::Formatter<W>) -> fmt::Result {
+        match *self {
+            ProgramFault::NotUtf8 => f.write_str("an argument is not UTF-8"),
+            ProgramFault::NoSubcommand => f.write_str("name a subcommand"),
+            ProgramFault::NotAMoment(word) => {
+                let word = Escaped(word);
+                write!(f, "{word} is no moment in nanoseconds")
+            }
+            ProgramFault::NotAPort(word) => {
+                let word = Escaped(word);
+                write!(f, "{word} names no port 0 to 15 of a client 128 to 191")
+            }
+            ProgramFault::NotAScript(word) => {
+                let word = Escaped(word);
+                write!(f, "{word} names no script of a client 128 to 191")
+            }
+            ProgramFault::TwoScripts(client) => { write!(f, "client {client} has two scripts") }
+            ProgramFault::OutIsRead(path) => {
+                let path = Escaped(path);
+                write!(f, "{path} is a file that the session reads")
+            }
+            ProgramFault::CannotRead(path) => {
+                let path = Escaped(path);
+                write!(f, "cannot read {path}")
+            }
+            ProgramFault::CannotWrite(path) => {
+                let path = Escaped(path);
+                write!(f, "cannot write {path}")
+            }
+            ProgramFault::OutOfMemory => f.write_str("out of memory"),
+            ProgramFault::CannotRecord => f.write_str("cannot record"),
+            ProgramFault::Smf(fault) => write!(f, "{fault}"),
+        }
+    }
+}
+
+impl From<OutOfMemory> for ProgramFault<'_> {
+    ghost use Rattle.std.specs.Prelude.{◌≡◌};
+    ghost use Rattle.program_tasks.specs.declared.program_fault.ProgramFault.TheVariants.{OutOfMemory};
+
+    ghost from_gives = { λ _ e. e ≡ OutOfMemory };
+
+    fn from(_error: OutOfMemory) -> Self {
+        ProgramFault::OutOfMemory
+    }
+}
+
+impl From<AllocError> for ProgramFault<'_> {
+    ghost use Rattle.std.specs.Prelude.{◌≡◌};
+    ghost use Rattle.program_tasks.specs.declared.program_fault.ProgramFault.TheVariants.{OutOfMemory};
+
+    ghost from_gives = { λ _ e. e ≡ OutOfMemory };
+
+    fn from(_error: AllocError) -> Self {
+        ProgramFault::OutOfMemory
+    }
+}
+
+impl<T: Drop> From<AllocFailed<T>> for ProgramFault<'_> {
+    ghost use Rattle.std.specs.Prelude.{◌≡◌};
+    ghost use Rattle.program_tasks.specs.declared.program_fault.ProgramFault.TheVariants.{OutOfMemory};
+
+    ghost from_gives = { λ _ e. e ≡ OutOfMemory };
+
+    fn from(_error: AllocFailed<T>) -> Self {
+        ProgramFault::OutOfMemory
+    }
+}
+
+/// Writes what each line of the program begins with.
+fn write_start<W: fmt::Write>(f: &mut fmt::Formatter<W>) -> fmt::Result
+    ensures { WritesOnOk W.write_str_gives f.old result line_start f.new }
+{
+    f.write_str("midiseq: ")
+}
+
+/// The line that tells why the program stops.
+#[derive(Clone, Copy, Debug, PartialEq, Eq)]
+pub struct FaultLine<'a>(pub ProgramFault<'a>);
+
+impl fmt::Display for FaultLine<'_> {
+    ghost use Rattle.std.specs.Prelude.{Some};
+    ghost use Rattle.program_tasks.specs.Program.{fault_line};
+
+    ghost output = { λ e. Some (fault_line e.0) };
+
+    fn fmt<W: fmt::Write>(&self, f: &mut fmt::Formatter<W>) -> fmt::Result {
+        let fault = self.0;
+        write_start(f)?;
+        write!(f, "{fault}")?;
+        if fault.is_helped() {
+            f.write_str("; see midiseq --help")?;
+        }
+        Ok(())
+    }
+}
+
+/// The line that tells of a file that a run leaves out, by its name, with the control characters of the name escaped.
+#[derive(Clone, Copy, Debug, PartialEq, Eq)]
+pub struct LeftOut<'a>(pub &'a str);
+
+impl fmt::Display for LeftOut<'_> {
+    ghost use Rattle.std.specs.Prelude.{Some};
+    ghost use Rattle.program_tasks.specs.Program.{left_out_line};
+
+    ghost output = { λ e. Some (left_out_line e.0.now) };
+
+    fn fmt<W: fmt::Write>(&self, f: &mut fmt::Formatter<W>) -> fmt::Result {
+        let name = Escaped(self.0);
+        write_start(f)?;
+        write!(f, "left out {name}")
+    }
+}

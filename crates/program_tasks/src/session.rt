@@ -1,0 +1,111 @@
+//! The scripts of a session, their logs and the faults of both.
+
+ghost use Rattle.std.specs.Prelude.{◌≡◌, Some, None, length, map, IfOk, IfErr, IfSome, IsSome};
+ghost use Rattle.script_text.specs.Numbers as says;
+ghost use Rattle.seq_session.specs.Rising.{AreRising};
+ghost use Rattle.seq_session.specs.Devices.{clients, AreSound, AreOpen, reader_of, IsAmong};
+ghost use Rattle.program_tasks.specs.Words.{scripts_named, scripts_seen, IsOfWords};
+ghost use Rattle.program_tasks.specs.Faults.{IsOfMemory, IsOfOpening};
+ghost use Rattle.program_tasks.specs.Opened.{AreSourcesOf};
+ghost use Rattle.program_tasks.specs.Sessions.{owners, AreEmpty, IsNotAMoment, IsToldAs};
+
+use crate::program_fault::ProgramFault;
+use crate::words::{ScriptWord, scripts_named, until_named};
+use byte_io::MemSink;
+use file_store::FileStore;
+use seq_session::{ScriptSource, SessionFault};
+use std::alloc::Global;
+
+/// A session as the words of the command line say it.
+#[derive(Drop)]
+pub struct Session<'a> {
+    /// The moment at which it ends, in nanoseconds from its beginning.
+    pub until: u64,
+    /// The folder whose Standard MIDI Files scripts may play, if one is named.
+    pub dir: Option<&'a str>,
+    /// The scripts, by client.
+    pub scripts: Vec<ScriptWord<'a>>,
+}
+
+impl<'a> Session<'a> {
+    /// The session that words name: its end in nanoseconds, its folder, and a word `CLIENT=PATH` for each script.
+    pub fn of_words(
+        alloc: Global,
+        until: &'a str,
+        dir: Option<&'a str>,
+        scripts: &[&'a str],
+    ) -> Result<Session<'a>, ProgramFault<'a>>
+        ensures until { IfOk result (λ s. Some s.until ≡ says.u64 until.now) }
+        ensures dir { IfOk result (λ s. s.dir ≡ dir.entry) }
+        ensures scripts { IfOk result (λ s.
+            Some (scripts_seen s.scripts.items) ≡ scripts_named (map (λ w. w.now) scripts.now)) }
+        ensures rising { IfOk result (λ s. AreRising (owners s.scripts.items)) }
+        ensures not_a_moment { says.u64 until.now ≡ None
+            → IfErr result (IsNotAMoment until.now) }
+        ensures refused { IsSome (says.u64 until.now)
+            → IfErr result (IsOfWords (map (λ w. w.now) scripts.now)) }
+    {
+        let Some(moment) = until_named(until) else {
+            return Err(ProgramFault::NotAMoment(until));
+        };
+        let scripts = scripts_named(alloc, scripts)?;
+        Ok(Session {
+            until: moment,
+            dir,
+            scripts,
+        })
+    }
+
+    /// Opens the scripts, by client.
+    pub fn open<S: FileStore>(
+        &self,
+        alloc: Global,
+        store: &S,
+    ) -> Result<Vec<ScriptSource<S::Reader>>, ProgramFault<'a>>
+        ensures opened { IfOk result (λ v.
+            AreSourcesOf S.IsOpened self.now.scripts.items v.items) }
+        ensures clients { IfOk result (λ v. clients v.items ≡ owners self.now.scripts.items) }
+        ensures readers { IfOk result (λ v. AreSound S.Reader.failed v.items) }
+        ensures fault { IfErr result (IsOfOpening S.CannotOpen self.now.scripts.items) }
+    {
+        let mut sources = Vec::new(alloc);
+        for script in &self.scripts {
+            let Ok(reader) = store.open(script.path) else {
+                return Err(ProgramFault::CannotRead(script.path));
+            };
+            let client = script.client;
+            sources.push(ScriptSource { client, reader })?;
+        }
+        Ok(sources)
+    }
+
+    /// A log in memory for each script.
+    pub fn logs(&self, alloc: Global) -> Result<Vec<MemSink>, ProgramFault<'a>>
+        ensures as_many { IfOk result (λ v. length v.items ≡ length self.now.scripts.items) }
+        ensures open { IfOk result (λ v. AreOpen (λ l. l.broken) v.items) }
+        ensures empty { IfOk result (λ v. AreEmpty v.items) }
+        ensures fault { IfErr result IsOfMemory }
+    {
+        let mut logs = Vec::new(alloc);
+        for _script in &self.scripts {
+            logs.push(MemSink::new(alloc, 0)?)?;
+        }
+        Ok(logs)
+    }
+
+    /// A log is kept in memory, so that its fault is out of memory.
+    pub fn fault_of(&self, fault: SessionFault) -> ProgramFault<'a>
+        requires { IfSome (reader_of fault) (λ k. IsAmong k (owners self.now.scripts.items)) }
+        ensures { IsToldAs self.now.scripts.items fault result }
+    {
+        let SessionFault::Read { client } = fault else {
+            return ProgramFault::OutOfMemory;
+        };
+        for script in &self.scripts {
+            if script.client == client {
+                return ProgramFault::CannotRead(script.path);
+            }
+        }
+        unreachable!()
+    }
+}

@@ -1,0 +1,70 @@
+//! The subcommands that run scripts: the session's folder read, its scripts run, and what is printed or written.
+
+ghost use Rattle.std.specs.Prelude.{◌≡◌, ◌⊎◌, false, IfErr, OnOk};
+ghost use Rattle.std.specs.Option.{option_map};
+ghost use Rattle.seq_session.specs.Rising.{AreRising};
+ghost use Rattle.program_tasks.specs.Faults.{IsOfListing, IsOfScripts, IsOfOutput, IsStuck};
+ghost use Rattle.program_tasks.specs.Sessions.{owners};
+ghost use Rattle.program_tasks.specs.Subcommands.{IsRunPrinted, IsRunRecorded, IsRecordingStopped};
+
+use crate::folder::{Folder, named};
+use crate::notes::Notes;
+use crate::printing::print_session;
+use crate::program_fault::ProgramFault;
+use crate::recording::{Recording, record_session};
+use crate::session::Session;
+use byte_io::Sink;
+use file_store::FileStore;
+use std::alloc::Global;
+
+/// Runs the scripts of a session, and prints each client's log and, where `listed` says so, the listing at the end.
+///
+/// Tells which files of the folder are left out.
+pub fn run<'a, S: FileStore, W: Sink, N: Notes>(
+    alloc: Global,
+    store: &S,
+    session: &Session<'a>,
+    listed: bool,
+    out: &mut W,
+    notes: &mut N,
+) -> Result<(), ProgramFault<'a>>
+    requires rising { AreRising (owners session.now.scripts.items) }
+    requires sound { W.failed out.old ≡ false }
+    ensures printed { OnOk result (IsRunPrinted S.IsOpened S.Reader.HasLeft S.CannotOpen
+        S.Reader.failed S.HasNames W.HasTaken N.HasTold session.now listed
+        out.old out.new notes.old notes.new) }
+    ensures fault { IfErr result (λ e.
+        IsOfListing S.CannotList (option_map (λ d. d.now) session.now.dir) e
+        ⊎ (IsOfScripts S.IsOpened S.Reader.HasLeft S.CannotOpen S.Reader.failed
+        session.now.scripts.items e
+        ⊎ IsOfOutput (IsStuck W.failed W.takes_some out.old out.new) e)) }
+{
+    let folder = Folder::read(alloc, store, session.dir)?;
+    let opened = folder.open(alloc, notes)?;
+    print_session(alloc, store, session, &named(&opened), listed, out)
+}
+
+/// Runs the scripts of a session, and writes what came to a port to a file, once all else is done.
+///
+/// Tells which files of the folder are left out.
+pub fn record<'a, S: FileStore, N: Notes>(
+    alloc: Global,
+    store: &S,
+    session: &Session<'a>,
+    recording: &Recording<'a>,
+    notes: &mut N,
+) -> Result<(), ProgramFault<'a>>
+    requires { AreRising (owners session.now.scripts.items) }
+    ensures recorded { OnOk result (IsRunRecorded S.IsOpened S.Reader.HasLeft S.CannotOpen
+        S.Reader.failed S.HasNames S.IsBegun S.Writer.HasTaken S.IsStored N.HasTold
+        session.now recording.now notes.old notes.new) }
+    ensures fault { IfErr result (λ e.
+        IsOfListing S.CannotList (option_map (λ d. d.now) session.now.dir) e
+        ⊎ IsRecordingStopped S.IsOpened S.Reader.HasLeft S.CannotOpen S.Reader.failed S.HasNames
+        S.AreOne S.IsBegun S.Writer.failed S.Writer.takes_some S.CannotBegin S.CannotStore
+        N.HasTold session.now recording.now notes.old notes.new e) }
+{
+    let folder = Folder::read(alloc, store, session.dir)?;
+    let opened = folder.open(alloc, notes)?;
+    record_session(alloc, store, session, &folder, &named(&opened), recording)
+}

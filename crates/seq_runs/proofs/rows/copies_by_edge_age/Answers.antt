@@ -1,5 +1,0 @@
-use Rattle.seq_runs.proofs.CopiesByEdgeAge.{run}
-use Rattle.seq_runs.proofs.rows.copies_by_edge_age.Goals as goal
-
-pub returns : goal.returns
-returns c = run

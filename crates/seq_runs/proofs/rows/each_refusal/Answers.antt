@@ -1,5 +1,0 @@
-use Rattle.seq_runs.proofs.Examples.{each_refusal}
-use Rattle.seq_runs.proofs.rows.each_refusal.Goals as goal
-
-pub returns : goal.returns
-returns c = each_refusal

@@ -1,5 +1,0 @@
-use Rattle.std.proofs.Common.{refl}
-use Rattle.seq_runs.proofs.rows.lost_count_stays.Goals as goal
-
-pub returns : goal.returns
-returns c = refl

@@ -1,6 +1,0 @@
-mod Found
-mod Fronts
-mod Ordered
-mod Places
-mod Printing
-mod Told

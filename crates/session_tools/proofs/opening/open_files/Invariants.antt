@@ -1,9 +1,0 @@
-use Rattle.std.proofs.Common.{map, drop}
-use Rattle.std.specs.Prelude.{string_bytes}
-use Rattle.session_tools.specs.Folder.{seen_files, bytes_read}
-use Rattle.session_tools.proofs.Found.{OpensOn}
-use Rattle.session_tools.proofs.opening.open_files.Given as goal
-
-abbrev pub invariant-loop-place : goal.invariant-loop-place
-invariant-loop-place l = OpensOn (map string_bytes l.names) (map bytes_read l.contents)
-    (map string_bytes (drop l.place l.names)) (map bytes_read (drop l.place l.contents)) (seen_files l.opened)

@@ -1,8 +1,0 @@
-use Rattle.std.proofs.Common.{map, take, drop}
-use Rattle.session_tools.specs.Words.{scripts_seen}
-use Rattle.session_tools.proofs.Told.{IsReadOn}
-use Rattle.session_tools.proofs.words.scripts_named.Given as goal
-
-abbrev pub invariant-loop-word : goal.invariant-loop-word
-invariant-loop-word l = IsReadOn (map (λ w. w.now) l.words) (map (λ w. w.now) (take l.word-index l.words))
-    (map (λ w. w.now) (drop l.word-index l.words)) (scripts_seen l.scripts.items)

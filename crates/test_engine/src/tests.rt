@@ -1,0 +1,14 @@
+//! Runs of whole lists of inputs, under both agendas, and tests of the layers below them.
+
+mod circles;
+mod clients;
+mod going;
+mod lines;
+mod logs;
+mod long_runs;
+mod patchbay;
+mod sending;
+mod setting_up;
+mod settle;
+mod single_steps;
+mod state;

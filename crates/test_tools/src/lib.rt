@@ -1,0 +1,10 @@
+//! Texts that the program's tools print, and what the program does with its words, through the public calls of
+//! `tool_text` and `program_tasks`. Nothing stands on this crate, so that its tests and those crates are proved side by
+//! side.
+#![tactic(auto)]
+
+#[cfg(test)]
+mod tests;
+mod texts;
+
+pub use texts::printed;

@@ -1,0 +1,129 @@
+//! What the program is asked to do, and the lines and statuses of its faults.
+
+use program_tasks::{FaultLine, ProgramFault, STANDARD, Stream, Task, Tool};
+use smf_files::SmfFault;
+use std::alloc::Global;
+use std::io::ErrorKind;
+use std::process::Abort;
+use std::test::Fail;
+use tool_text::ToolFault;
+
+/// A fault, the line that tells it, and the status with which it ends the program.
+type Told<'a> = (ProgramFault<'a>, &'static str, u8);
+
+/// Each prints as its line, and ends the program with its status.
+fn check_faults(rt: &impl Abort, alloc: Global, faults: &[Told<'_>]) -> Result<(), Fail> {
+    for (fault, text, status) in faults {
+        let line = FaultLine(*fault);
+        assert!(rt; format!(in alloc; "{line}")?.as_str() == *text);
+        assert!(rt; fault.status() == *status);
+    }
+    Ok(())
+}
+
+#[test]
+fn tells_of_words(rt: HostRuntime) -> Result<(), Fail> {
+    let not_text = ProgramFault::of_words(ErrorKind::InvalidData);
+    let no_memory = ProgramFault::of_words(ErrorKind::OutOfMemory);
+    let faults = [
+        (not_text, "midiseq: an argument is not UTF-8", 2),
+        (no_memory, "midiseq: out of memory", 1),
+        (
+            ProgramFault::NoSubcommand,
+            "midiseq: name a subcommand; see midiseq --help",
+            2,
+        ),
+    ];
+    check_faults(&rt, rt.alloc(), &faults)
+}
+
+#[test]
+fn tells_of_sessions(rt: HostRuntime) -> Result<(), Fail> {
+    let faults = [
+        (
+            ProgramFault::NotAMoment("soon\n"),
+            "midiseq: soon\\n is no moment in nanoseconds; see midiseq --help",
+            2,
+        ),
+        (
+            ProgramFault::NotAPort("129:16"),
+            "midiseq: 129:16 names no port 0 to 15 of a client 128 to 191; see midiseq --help",
+            2,
+        ),
+        (
+            ProgramFault::NotAScript("127=a"),
+            "midiseq: 127=a names no script of a client 128 to 191; see midiseq --help",
+            2,
+        ),
+        (
+            ProgramFault::TwoScripts(128),
+            "midiseq: client 128 has two scripts; see midiseq --help",
+            2,
+        ),
+        (
+            ProgramFault::OutIsRead("song.mid"),
+            "midiseq: song.mid is a file that the session reads; see midiseq --help",
+            2,
+        ),
+        (ProgramFault::CannotRecord, "midiseq: cannot record", 1),
+    ];
+    check_faults(&rt, rt.alloc(), &faults)
+}
+
+#[test]
+fn tells_of_streams(rt: HostRuntime) -> Result<(), Fail> {
+    let song = Stream::named("song.mid");
+    let no_status = ToolFault::Smf(SmfFault::NoStatus { at: 30 });
+    let tools = [
+        (song, ToolFault::Read, "midiseq: cannot read song.mid"),
+        (Stream::Standard, ToolFault::Read, "midiseq: cannot read -"),
+        (song, ToolFault::Write, "midiseq: cannot write -"),
+        (song, ToolFault::OutOfMemory, "midiseq: out of memory"),
+        (song, no_status, "midiseq: 12 NoStatus 30"),
+    ];
+    for (stream, fault, text) in tools {
+        let told = [(ProgramFault::of_tool(stream, fault), text, 1)];
+        check_faults(&rt, rt.alloc(), &told)?;
+    }
+    Ok(())
+}
+
+#[test]
+fn keeps_a_path_in_one_line(rt: HostRuntime) -> Result<(), Fail> {
+    let path = "a\nb\t\u{1b}[1mé\u{7f}\u{85}\\ ~";
+    let text = "midiseq: cannot read a\\nb\\t\\u{1b}[1mé\\u{7f}\\u{85}\\ ~";
+    let told = [(ProgramFault::CannotRead(path), text, 1)];
+    check_faults(&rt, rt.alloc(), &told)
+}
+
+#[test]
+fn chooses_by_words(rt: HostRuntime) {
+    let thru = Task::of_words("thru", STANDARD);
+    assert!(rt; thru == Some(Task::without_words()));
+    let wire = Task {
+        tool: Tool::Wire,
+        stream: Stream::Path("keys.raw"),
+    };
+    assert!(rt; Task::of_words("wire", "keys.raw") == Some(wire));
+    let dump = Task {
+        tool: Tool::Dump,
+        stream: Stream::Standard,
+    };
+    assert!(rt; Task::of_words("dump", "-") == Some(dump));
+    assert!(rt; Task::of_words("play", "-") == None);
+}
+
+#[test]
+fn shows_each_fault_of_a_tool(rt: HostRuntime) -> Result<(), Fail> {
+    let faults = [
+        (ToolFault::OutOfMemory, "out of memory"),
+        (ToolFault::Read, "a read failed"),
+        (ToolFault::Write, "a write failed"),
+        (ToolFault::Smf(SmfFault::NotMidi), "1 NotMidi"),
+    ];
+    for (fault, text) in &faults {
+        let line = format!(in rt.alloc(); "{fault}")?;
+        assert!(rt; line.as_str() == *text);
+    }
+    Ok(())
+}

@@ -1,0 +1,230 @@
+//! Words, names of files and logs, through the public calls.
+
+ghost use Rattle.std.specs.Prelude.{◌≡◌, IfOk, false};
+
+use byte_io::{MemSink, write_all};
+use memory::OutOfMemory;
+use node_table::{ClientId, PortAddr, PortNo};
+use program_tasks::{
+    FolderFiles, ProgramFault, ScriptWord, midi_files, open_files, port_named, print_logs,
+    scripts_named, taken_files, until_named,
+};
+use std::alloc::Global;
+use std::process::Abort;
+use std::test::Fail;
+use tool_text::ToolFault;
+
+#[test]
+fn reads_moments(rt: HostRuntime) {
+    for (word, moment) in [
+        ("0", Some(0)),
+        ("007", Some(7)),
+        ("18446744073709551615", Some(u64::MAX)),
+        ("18446744073709551616", None),
+        ("000000000000000000001", None),
+        ("", None),
+        ("+1", None),
+        ("1s", None),
+    ] {
+        assert!(rt; until_named(word) == moment, "at {word}");
+    }
+}
+
+#[test]
+fn reads_ports(rt: HostRuntime) -> Result<(), Fail> {
+    let client = ClientId::new(129).ok_or("a client number")?;
+    let port = PortNo::new(15).ok_or("a port number")?;
+    assert!(rt; port_named("0129:15") == Some(PortAddr { client, port }));
+    for word in [
+        "129:16", "127:0", "192:0", "129", "129:p0", "129:", ":0", "129:0:0",
+    ] {
+        assert!(rt; port_named(word) == None, "at {word}");
+    }
+    Ok(())
+}
+
+#[test]
+fn reads_scripts_by_client(rt: HostRuntime) -> Result<(), Fail> {
+    let words = ["191=-", "0128=a=b", "130="];
+    let scripts = scripts_named(rt.alloc(), &words)
+        .ok()
+        .ok_or("three scripts")?;
+    assert!(rt; scripts.len() == 3);
+    for (script, (number, path)) in scripts.iter().zip([(128, "a=b"), (130, ""), (191, "-")]) {
+        assert!(rt; script.client.number() == number);
+        assert!(rt; script.path == path);
+    }
+    Ok(())
+}
+
+#[test]
+fn tells_the_first_bad_word(rt: HostRuntime) {
+    for word in ["128", "127=a", "192=a", "=a", "p=a"] {
+        let words = ["130=a", word, "130=b"];
+        let fault = scripts_named(rt.alloc(), &words).err();
+        assert!(rt; fault == Some(ProgramFault::NotAScript(word)));
+    }
+}
+
+#[test]
+fn tells_a_client_with_two_scripts(rt: HostRuntime) -> Result<(), Fail> {
+    let client = ClientId::new(130).ok_or("a client number")?;
+    let words = ["131=a", "130=a", "129=a", "0130=b"];
+    let fault = scripts_named(rt.alloc(), &words).err();
+    assert!(rt; fault == Some(ProgramFault::TwoScripts(client.number())));
+    Ok(())
+}
+
+fn owned(alloc: Global, names: &[&str]) -> Result<Vec<String>, Fail> {
+    let mut all = Vec::new(alloc);
+    for name in names {
+        all.push(name.to_string(alloc)?)?;
+    }
+    Ok(all)
+}
+
+// What is owned is lent by the function that makes it, so that it is dropped at one place alone: that is proved sooner.
+
+/// The names are these, in this order.
+fn check_names(rt: &impl Abort, names: &[String], wanted: &[&str]) {
+    assert!(rt; names.len() == wanted.len());
+    for (name, wanted) in names.iter().zip(wanted.iter()) {
+        assert!(rt; name.as_str() == *wanted);
+    }
+}
+
+#[test]
+fn keeps_midi_files_in_byte_order(rt: HostRuntime) -> Result<(), Fail> {
+    let names = [
+        "b.mid",
+        "a.MID",
+        "B.mid",
+        "é.mid",
+        "x.mid.txt",
+        ".mid",
+        "mid",
+        "a.mid",
+    ];
+    let files = midi_files(owned(rt.alloc(), &names)?)?;
+    let wanted = [".mid", "B.mid", "a.mid", "b.mid", "é.mid"];
+    check_names(&rt, files.as_slice(), &wanted);
+    Ok(())
+}
+
+#[test]
+fn takes_256_files(rt: HostRuntime) -> Result<(), Fail> {
+    let mut names = owned(rt.alloc(), &["z.mid"])?;
+    for _turn in 0..256 {
+        names.push("a.mid".to_string(rt.alloc())?)?;
+    }
+    let files = midi_files(names)?;
+    let (taken, left_out) = taken_files(files.as_slice());
+    assert!(rt; taken.len() == 256);
+    assert!(rt; left_out.len() == 1);
+    for file in left_out {
+        assert!(rt; file.as_str() == "z.mid");
+    }
+    Ok(())
+}
+
+/// A file whose one track has nothing but its end.
+const SHORT: &[u8; 26] =
+    b"MThd\x00\x00\x00\x06\x00\x00\x00\x01\x01\xE0MTrk\x00\x00\x00\x04\x00\xFF\x2F\x00";
+
+/// What each file of a folder holds, where it could be read.
+fn contents(alloc: Global, files: &[Option<&[u8]>]) -> Result<Vec<Option<Vec<u8>>>, Fail> {
+    let mut contents = Vec::new(alloc);
+    for file in files {
+        let content = match file {
+            Some(bytes) => Some(Vec::from_slice(alloc, bytes)?),
+            None => None,
+        };
+        contents.push(content)?;
+    }
+    Ok(contents)
+}
+
+/// The first and the last of four files can be played.
+fn check_opened(rt: &impl Abort, opened: &FolderFiles<'_>) {
+    assert!(rt; opened.files.len() == 2);
+    assert!(rt; opened.names.len() == 2);
+    for (name, wanted) in opened.names.iter().zip(["a.mid", "d.mid"]) {
+        assert!(rt; name.as_slice() == wanted.as_bytes());
+    }
+    assert!(rt; opened.left_out.len() == 2);
+    for (name, wanted) in opened.left_out.iter().zip(["b.mid", "c.mid"]) {
+        assert!(rt; *name == wanted);
+    }
+}
+
+fn check_four(
+    rt: &impl Abort,
+    alloc: Global,
+    names: &[String],
+    contents: &[Option<Vec<u8>>],
+) -> Result<(), Fail> {
+    if names.len() != contents.len() {
+        return Err("a name for each file")?;
+    }
+    check_opened(rt, &open_files(alloc, names, contents)?);
+    Ok(())
+}
+
+#[test]
+fn leaves_out_what_is_no_file(rt: HostRuntime) -> Result<(), Fail> {
+    let alloc = rt.alloc();
+    let names = owned(alloc, &["a.mid", "b.mid", "c.mid", "d.mid"])?;
+    let files = [Some(&SHORT[..]), None, Some(&b"MThd"[..]), Some(&SHORT[..])];
+    let contents = contents(alloc, &files)?;
+    check_four(&rt, alloc, names.as_slice(), contents.as_slice())
+}
+
+fn sink(alloc: Global) -> Result<MemSink, OutOfMemory>
+    ensures { IfOk result (λ s. s.broken ≡ false) }
+{
+    MemSink::new(alloc, 0)
+}
+
+fn log(alloc: Global, text: &[u8]) -> Result<MemSink, Fail> {
+    let mut log = sink(alloc)?;
+    write_all(&mut log, text).ok().ok_or("a log in memory")?;
+    Ok(log)
+}
+
+fn script<'a>(client: ClientId) -> ScriptWord<'a> {
+    ScriptWord { client, path: "a" }
+}
+
+/// Prints the logs of clients 128 and 191, of which the one has a line, and the listing, and tells the outcome.
+fn print(
+    alloc: Global,
+    listing: Option<&[u8]>,
+    out: &mut MemSink,
+) -> Result<Result<(), ToolFault>, Fail>
+    requires { out.old.broken ≡ false }
+{
+    let first = ClientId::new(128).ok_or("a client number")?;
+    let second = ClientId::new(191).ok_or("a client number")?;
+    let scripts = [script(first), script(second)];
+    let logs = [log(alloc, b"0 line 1 ok\n")?, sink(alloc)?];
+    Ok(print_logs(alloc, &scripts, &logs, listing, out))
+}
+
+#[test]
+fn prints_logs_and_the_listing(rt: HostRuntime) -> Result<(), Fail> {
+    let mut out = sink(rt.alloc())?;
+    let listing = b"client 128 keys in 1 out 1\n".as_slice();
+    assert!(rt; print(rt.alloc(), Some(listing), &mut out)? == Ok(()));
+    let text = b"client 128\n0 line 1 ok\nclient 191\nclient 128 keys in 1 out 1\n";
+    assert!(rt; out.bytes() == text.as_slice());
+    Ok(())
+}
+
+#[test]
+fn stops_at_a_failed_write(rt: HostRuntime) -> Result<(), Fail> {
+    let mut out = sink(rt.alloc())?;
+    out.fail_at(2);
+    assert!(rt; print(rt.alloc(), None, &mut out)? == Err(ToolFault::Write));
+    assert!(rt; out.bytes() == b"client 128\n0 line 1 ok\n".as_slice());
+    Ok(())
+}

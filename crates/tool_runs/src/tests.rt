@@ -1,7 +1,0 @@
-//! The tools of the program, through their public calls.
-
-mod dump;
-mod failing_devices;
-mod faults;
-mod sessions;
-mod streams;
