@@ -9,7 +9,7 @@ BINDIR = $(DESTDIR)$(PREFIX)/bin
 MANDIR = $(DESTDIR)$(PREFIX)/share/man/man1
 COMPLETIONS = $(DESTDIR)$(PREFIX)/share/bash-completion/completions
 
-.PHONY: build demo test check check-docs install uninstall clean
+.PHONY: build demo test gate-times check check-docs install uninstall clean
 
 # Proves every crate that the program stands on, and leaves the program as bin/midiseq.
 build: $(PROGRAM)
@@ -28,6 +28,10 @@ demo: build
 test:
 	@test/whole
 
+# The gate from nothing, and what it took, into docs/GATE.md. It wants a machine that has nothing else to do, for over an hour.
+gate-times:
+	@test/gate-times --page docs/GATE.md
+
 # For daily work: every crate as it stands and its tests, then the tests of the built program; no edits.
 check: build
 	rt all test
@@ -44,7 +48,7 @@ check-docs: build
 install: build
 	$(INSTALL) -d $(BINDIR) $(MANDIR) $(COMPLETIONS)
 	$(INSTALL) -m 755 $(PROGRAM) $(BINDIR)/midiseq
-	$(INSTALL) -m 644 doc/midiseq.1 $(MANDIR)/midiseq.1
+	$(INSTALL) -m 644 docs/midiseq.1 $(MANDIR)/midiseq.1
 	$(INSTALL) -m 644 completions/midiseq.bash $(COMPLETIONS)/midiseq
 
 uninstall:
