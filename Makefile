@@ -28,7 +28,7 @@ demo: build
 test:
 	@test/whole
 
-# The gate from nothing, and what it took, into docs/GATE.md. It wants a machine that has nothing else to do, for over an hour.
+# The gate from nothing, and what it took, into docs/GATE.md: over an hour, on a machine that has nothing else to do.
 gate-times:
 	@test/gate-times --page docs/GATE.md
 

@@ -41,6 +41,32 @@ fn first_note(rt: HostRuntime) -> Result<(), Fail> {
     assert_session(&rt, rt.alloc(), &FIRST_NOTE)
 }
 
+/// Client 129 sends a note and a clock as soon as it is joined to client 128, and ends the note a second later.
+const WHOLE_NOTE: Session = Session {
+    parts: &[
+        Part {
+            client: 128,
+            script: "0 open b 8 8\n0 port 0 in 66\n",
+            log: "0 line 1 ok\n0 line 2 ok\n\
+                0 port 0 90 3C 40\n0 port 0 F8\n1000000000 port 0 90 3C 00\n",
+        },
+        Part {
+            client: 129,
+            script: "0 open a 8 8\n0 port 0 out 33\n0 connect 129:p0 128:p0\n\
+                0 bytes 0 90 3C 40 F8\n1000000000 send 0 90 3C 00\n",
+            log: "0 line 1 ok\n0 line 2 ok\n0 line 3 ok\n0 line 4 ok 2\n1000000000 line 5 ok\n",
+        },
+    ],
+    songs: &[],
+    until: 1_000_000_000,
+    listing: None,
+};
+
+#[test]
+fn whole_note(rt: HostRuntime) -> Result<(), Fail> {
+    assert_session(&rt, rt.alloc(), &WHOLE_NOTE)
+}
+
 /// A session of nobody.
 #[test]
 fn no_scripts(rt: HostRuntime) -> Result<(), Fail> {
