@@ -1,6 +1,6 @@
 -- Definition: What waits in a bounded place: the oldest is taken first, and what finds no room is
 -- counted.
-use Rattle.std.specs.Prelude.{ℕ, ◌≤◌, ◌+◌, ◌-◌, ◌^◌, Bool, ◌&&◌, nat_le, nat_lt, min, if◌then◌else◌, List, [], ◌∷◌, ◌++◌, length, take, drop, refl}
+use Rattle.std.specs.Prelude.{ℕ, zero, suc, ◌≤◌, ◌+◌, ◌-◌, ◌^◌, Bool, ◌&&◌, nat_le, nat_lt, min, if◌then◌else◌, List, [], ◌∷◌, ◌++◌, length, take, drop, refl}
 use Rattle.std.specs.Coded.{Coded, code_by, coded×, coded_list, coded_ℕ}
 
 -- how many items may wait, those that wait, the oldest first, and how many found no room
@@ -39,6 +39,19 @@ module _ {A : Type 0} where
 
   abbrev pub has_room : Pool A → Bool
   has_room p = nat_lt (length p.waiting) p.size
+
+  -- how many items more it has room for
+  abbrev pub room_in : Pool A → ℕ
+  room_in p = p.size - length p.waiting
+
+  -- a pool at which so many items were lost
+  abbrev pub after_losses : ℕ → Pool A → Pool A
+  after_losses zero p = p
+  after_losses (suc n) p = record p { lost = min (p.lost + suc n) most_lost }
+
+  -- a pool at which all for which it has no room are lost, before any of so many is offered
+  abbrev pub after_losses_of : ℕ → Pool A → Pool A
+  after_losses_of count p = after_losses (count - room_in p) p
 
   -- the pool after an item was offered: it waits where there is room, and else it is lost
   abbrev pub after_offer : Pool A → A → Pool A

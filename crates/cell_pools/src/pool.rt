@@ -1,7 +1,7 @@
 //! What waits to be read.
 
 ghost use Rattle.std.specs.Prelude.{◌≡◌, ◌↔◌, ◌≤◌, ◌<◌, ◌^◌, length, IfOk, OnOk, OnErr, IsErrOf, false};
-ghost use Rattle.cell_pools.specs.Pools.{most_waiting, is_size, empty_pool, has_room, after_offer, oldest_items, after_take};
+ghost use Rattle.cell_pools.specs.Pools.{most_waiting, is_size, empty_pool, has_room, after_offer, after_losses_of, oldest_items, after_take};
 
 use crate::fault::PoolFault;
 use circular_buffer::HeapCircularBuffer;
@@ -74,6 +74,21 @@ impl<T> InPool<T> {
                 false
             }
         }
+    }
+
+    /// Whether an item would find room.
+    pub fn has_room(&self) -> bool
+        ensures { result ≡ has_room self.now }
+    {
+        self.items.len() < self.items.capacity()
+    }
+
+    /// Counts as lost those for which there is no room, where so many items come, before any of them is offered.
+    pub fn lose_beyond(&mut self, count: u64)
+        ensures { self.new ≡ after_losses_of count self.old }
+    {
+        let room = self.items.capacity() - self.items.len();
+        self.lost = self.lost.saturating_add(count.saturating_sub(room as u64));
     }
 
     /// Takes the oldest items, `max` of them or all where there are fewer.

@@ -18,7 +18,10 @@ pub use fault::WireFault;
 pub use kind::Kind;
 pub use message::{FullBytes, Message, ShortMessage};
 pub use parser::StreamParser;
-pub use status::{CHANNELS, END_OF_EXCLUSIVE, EXCLUSIVE, StatusClass, Width, is_exclusive_tail};
+pub use status::{
+    CHANNEL_PRESSURE, CHANNELS, CONTROL_CHANGE, END_OF_EXCLUSIVE, EXCLUSIVE, NOTE_OFF, NOTE_ON,
+    PITCH_BEND, POLY_PRESSURE, PROGRAM_CHANGE, StatusClass, Width, is_exclusive_tail,
+};
 pub use writer::StreamWriter;
 
 /// A list of bytes passes the test of a message exactly where it is one.

@@ -11,7 +11,10 @@ ghost use Rattle.midi_wire.specs.declared.message.TheConstants.{SHARED};
 ghost use Rattle.midi_wire.specs.Writings.{status_of, tail_of};
 
 use crate::kind::{Kind, kind_of_status};
-use crate::status::{CHANNELS, END_OF_EXCLUSIVE, EXCLUSIVE, FIRST_STATUS, StatusClass, is_message};
+use crate::status::{
+    CHANNEL_PRESSURE, CHANNELS, CONTROL_CHANGE, END_OF_EXCLUSIVE, EXCLUSIVE, FIRST_STATUS,
+    NOTE_OFF, NOTE_ON, PITCH_BEND, POLY_PRESSURE, PROGRAM_CHANGE, StatusClass, is_message,
+};
 use memory::OutOfMemory;
 use smallvec::SmallVec;
 use std::alloc::Global;
@@ -174,13 +177,18 @@ impl Message {
         ensures { result ≡ channel_message kind channel first second }
     {
         match kind {
-            Kind::NoteOff => Message::voice_of_two(0x80, channel, first, second),
-            Kind::NoteOn => Message::voice_of_two(0x90, channel, first, second),
-            Kind::PolyPressure => Message::voice_of_two(0xA0, channel, first, second),
-            Kind::ControlChange => Message::voice_of_two(0xB0, channel, first, second),
-            Kind::ProgramChange => Message::voice_of_one(0xC0, channel, first, second),
-            Kind::ChannelPressure => Message::voice_of_one(0xD0, channel, first, second),
-            Kind::PitchBend => Message::voice_of_two(0xE0, channel, first, second),
+            Kind::NoteOff => Message::voice_of_two(NOTE_OFF, channel, first, second),
+            Kind::NoteOn => Message::voice_of_two(NOTE_ON, channel, first, second),
+            Kind::PolyPressure => Message::voice_of_two(POLY_PRESSURE, channel, first, second),
+            Kind::ControlChange => Message::voice_of_two(CONTROL_CHANGE, channel, first, second),
+            Kind::ProgramChange => Message::voice_of_one(PROGRAM_CHANGE, channel, first, second),
+            Kind::ChannelPressure => Message::voice_of_one(
+                CHANNEL_PRESSURE,
+                channel,
+                first,
+                second,
+            ),
+            Kind::PitchBend => Message::voice_of_two(PITCH_BEND, channel, first, second),
             Kind::SystemCommon | Kind::RealTime | Kind::Exclusive => None,
         }
     }

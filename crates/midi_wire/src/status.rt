@@ -10,6 +10,21 @@ pub(crate) const FIRST_STATUS: u8 = 0x80;
 /// How many channels there are: the low half of the status of a channel message.
 pub const CHANNELS: u8 = 16;
 
+/// The statuses of the channel messages, on the first channel: those of the others come behind.
+pub const NOTE_OFF: u8 = FIRST_STATUS;
+
+pub const NOTE_ON: u8 = 0x90;
+
+pub const POLY_PRESSURE: u8 = 0xA0;
+
+pub const CONTROL_CHANGE: u8 = 0xB0;
+
+pub const PROGRAM_CHANGE: u8 = 0xC0;
+
+pub const CHANNEL_PRESSURE: u8 = 0xD0;
+
+pub const PITCH_BEND: u8 = 0xE0;
+
 /// The status of an exclusive message.
 pub const EXCLUSIVE: u8 = 0xF0;
 

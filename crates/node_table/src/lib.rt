@@ -10,6 +10,7 @@ mod info;
 mod name;
 mod number;
 mod place;
+mod slots;
 mod table;
 
 pub use caps::{Caps, permitted};
@@ -21,4 +22,5 @@ pub use number::{
     Node, PortAddr, PortNo, QueueAddr, QueueNo,
 };
 pub use place::{MOST_CLIENTS, PLACES, addr_at, make_places, place_of, row_of};
+pub use slots::nothing;
 pub use table::NodeTable;

@@ -16,10 +16,10 @@ use crate::info::NodeInfo;
 use crate::name::is_name;
 use crate::number::{Addr, ClientId, FilterNo, MOST_FILTERS, MOST_PORTS, Node, PortNo};
 use crate::place::{CLIENT_PLACES, MOST_CLIENTS, make_places, place_of, row_of};
+use crate::slots::nothing;
 use memory::OutOfMemory;
 use slab::Slab;
 use std::alloc::{AllocFailed, Global};
-use std::array;
 use std::marker::Model;
 
 /// The clients that are open, each with its name and its nodes.
@@ -54,13 +54,6 @@ impl<P> Model for NodeTable<P> {
         (at_place t.keys.items t.nodes.slots) };
 
     ghost invariant = { λ t. AreNodesKept t.names t.keys.items t.nodes.slots };
-}
-
-fn nothing<T, const N: usize>() -> [Option<T>; N]
-    ensures len { length result ≡ N }
-    ensures none { (i : ℕ) → slice_index_or result i None ≡ None }
-{
-    array::from_fn(|_| None)
 }
 
 /// Where the node of a place is.

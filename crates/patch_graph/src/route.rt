@@ -90,8 +90,8 @@ impl Route {
     }
 }
 
-/// The paths from a node that are still to come, the oldest first: by the age of their first edges, then of their second
-/// ones, and so on.
+/// The paths from a node that are still to come, the oldest first: by the age of their first edges, then of their
+/// second ones, and so on.
 #[derive(Drop)]
 pub struct Routes<'g> {
     graph: &'g PatchGraph,

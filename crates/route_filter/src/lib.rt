@@ -16,4 +16,4 @@ pub use laws::{
 };
 pub use rule::Rule;
 pub use rule_args::RuleArgs;
-pub use voice::VoiceMessage;
+pub use voice::{FORMS, VoiceMessage};

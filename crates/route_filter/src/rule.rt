@@ -9,7 +9,7 @@ ghost use Rattle.route_filter.specs.VoiceBytes.{first_byte_after};
 
 use crate::rule_args::RuleArgs;
 use crate::voice::VoiceMessage;
-use midi_wire::{CHANNELS, Message};
+use midi_wire::{CHANNELS, CONTROL_CHANGE, Message};
 use std::marker::Model;
 
 /// A filter rule: which messages pass, and how they are changed. It is seen as its arguments.
@@ -124,5 +124,5 @@ impl Rule {
 fn has_note(status: u8) -> bool
     ensures { result ≡ has_note (kind_of_status status) }
 {
-    status < 0xB0
+    status < CONTROL_CHANGE
 }

@@ -1,12 +1,15 @@
 //! Channel messages taken apart.
 
-ghost use Rattle.std.specs.Prelude.{◌≡◌, ◌≤◌, IfSome, IfNone};
+ghost use Rattle.std.specs.Prelude.{◌≡◌, ◌≤◌, ◌<◌, true, IfSome, IfNone};
 ghost use Rattle.midi_wire.specs.Messages.{IsMessage};
 ghost use Rattle.midi_wire.specs.Writings.{status_of};
 ghost use Rattle.route_filter.specs.VoiceBytes.{has_one_data};
 
-use midi_wire::{EXCLUSIVE, Message};
+use midi_wire::{CHANNELS, EXCLUSIVE, Message, NOTE_OFF, PITCH_BEND, PROGRAM_CHANGE};
 use std::marker::Model;
+
+/// How many forms a channel message may take on its way: a channel and a first data byte.
+pub const FORMS: usize = 2048;
 
 /// A channel message as a status and its data, which cost nothing to pass on. It is seen as its full bytes.
 #[derive(Debug, Drop)]
@@ -59,6 +62,26 @@ impl VoiceMessage {
         }
     }
 
+    /// Whether it is the same message as another.
+    #[inline]
+    pub fn is_same(&self, other: &VoiceMessage) -> bool
+        ensures same { result ≡ true → self.now ≡ other.now }
+        ensures other { self.now ≡ other.now → result ≡ true }
+    {
+        if self.status != other.status || self.first != other.first {
+            return false;
+        }
+        has_one_data(self.status) || self.second == other.second
+    }
+
+    /// A number below `FORMS` by its channel and its first data byte, which are all that filters change.
+    #[inline]
+    pub fn form(&self) -> usize
+        ensures { result < FORMS }
+    {
+        usize::from(self.status % CHANNELS) * usize::from(NOTE_OFF) + usize::from(self.first)
+    }
+
     /// The message of these parts. It takes no memory.
     #[inline]
     pub fn message(&self) -> Message
@@ -76,5 +99,5 @@ impl VoiceMessage {
 fn has_one_data(status: u8) -> bool
     ensures { result ≡ has_one_data status }
 {
-    status >= 0xC0 && status < 0xE0
+    status >= PROGRAM_CHANGE && status < PITCH_BEND
 }

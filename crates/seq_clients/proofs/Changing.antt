@@ -6,7 +6,7 @@ use Rattle.std.specs.Ordering.{nat_cmp}
 use Rattle.std.specs.FinMap
 use Rattle.std.specs.FinMap.{FinMap, get, get-empty}
 use Rattle.std.proofs.lemmas.Bool.{cases_eq}
-use Rattle.cell_pools.specs.Pools.{empty_pool, after_offer, after_take}
+use Rattle.cell_pools.specs.Pools.{empty_pool, after_take}
 use Rattle.node_table.specs.Nodes as nodes
 use Rattle.node_table.specs.Nodes.{NodeSeen, ClientNodes, node_in, node_at, put_client, put_node, drop_node, with_node, without_node}
 use Rattle.node_table.specs.declared.number.Addr.{Addr}
@@ -20,7 +20,7 @@ use Rattle.seq_state.specs.Step.{port_addr, filter_addr}
 use Rattle.seq_clients.specs.Bodies.{is_body_for}
 use Rattle.seq_clients.specs.Kept.{Nodes, Rows, port_seen, filter_seen, client_seen, row_at, roster, AreRowsKept}
 use Rattle.seq_clients.specs.Roster.{Roster, with_client, with_pool}
-use Rattle.seq_clients.specs.Rows.{new_row, row_offered}
+use Rattle.seq_clients.specs.Rows.{new_row, with_pool_changed}
 use Rattle.seq_clients.specs.declared.body.NodeBody.{NodeBody}
 use Rattle.seq_clients.specs.declared.body.NodeBody.TheVariants.{Stream, Rule}
 use Rattle.seq_clients.specs.declared.row.ClientRow.{ClientRow}
@@ -397,24 +397,24 @@ module _ (table : Nodes) (rows : Rows) (s : Roster) (kept : AreRowsKept table ro
         ap (roster table) as_were ∙ view ∙ ap (λ (m : FinMap nat_cmp ClientPool). record s { pools = m }) (put_again s.pools client None (sym absent-pool))
         ∙ ap (with_pool s client) (sym e ∙ ap f absent-pool)
 
-  -- a message is offered to the pool of a row, if it is there
-  module _ (client : ℕ) (arrival : Arrival) (rs : Rows) (after : rs ≡ with_entry rows client (option_map (row_offered arrival) (get rows client))) where
-    with_row : (o : Option ClientRow) → o ≡ get rows client → rs ≡ with_entry rows client (option_map (row_offered arrival) o)
-    with_row o e = after ∙ ap (λ (x : Option ClientRow). with_entry rows client (option_map (row_offered arrival) x)) (sym e)
+  -- the pool of a row changes, if it is there
+  module _ (client : ℕ) (f : ClientPool → ClientPool) (rs : Rows) (after : rs ≡ with_entry rows client (option_map (with_pool_changed f) (get rows client))) where
+    with_row : (o : Option ClientRow) → o ≡ get rows client → rs ≡ with_entry rows client (option_map (with_pool_changed f) o)
+    with_row o e = after ∙ ap (λ (x : Option ClientRow). with_entry rows client (option_map (with_pool_changed f) x)) (sym e)
 
-    put-back : (r : ClientRow) → Some r ≡ get rows client → rs ≡ FinMap.insert (FinMap.remove rows client) client (row_offered arrival r)
-    put-back r e = with_row (Some r) e ∙ sym (put_later rows client None (Some (row_offered arrival r)))
+    put-back : (r : ClientRow) → Some r ≡ get rows client → rs ≡ FinMap.insert (FinMap.remove rows client) client (with_pool_changed f r)
+    put-back r e = with_row (Some r) e ∙ sym (put_later rows client None (Some (with_pool_changed f r)))
 
-    pub offered-kept : AreRowsKept table rs
-    offered-kept = go (get rows client) refl
+    pub pool-changed-kept : AreRowsKept table rs
+    pool-changed-kept = go (get rows client) refl
       where
         go : (o : Option ClientRow) → o ≡ get rows client → AreRowsKept table rs
         go None e = absent-kept client rs e (with_row None e)
-        go (Some r) e = back-kept client r (row_offered arrival r) (FinMap.remove rows client) rs e refl (put-back r e)
+        go (Some r) e = back-kept client r (with_pool_changed f r) (FinMap.remove rows client) rs e refl (put-back r e)
 
-    pub offered-seen : roster table rs ≡ with_pool s client (option_map (λ p. after_offer p arrival) (get s.pools client))
-    offered-seen = go (get rows client) refl
+    pub pool-changed-seen : roster table rs ≡ with_pool s client (option_map f (get s.pools client))
+    pool-changed-seen = go (get rows client) refl
       where
-        go : (o : Option ClientRow) → o ≡ get rows client → roster table rs ≡ with_pool s client (option_map (λ p. after_offer p arrival) (get s.pools client))
-        go None e = absent-left client rs e (with_row None e) (option_map (λ p. after_offer p arrival)) refl
-        go (Some r) e = pool-seen client r (row_offered arrival r) (FinMap.remove rows client) rs e refl (put-back r e) (λ p. after_offer p arrival) (λ c. refl) refl
+        go : (o : Option ClientRow) → o ≡ get rows client → roster table rs ≡ with_pool s client (option_map f (get s.pools client))
+        go None e = absent-left client rs e (with_row None e) (option_map f) refl
+        go (Some r) e = pool-seen client r (with_pool_changed f r) (FinMap.remove rows client) rs e refl (put-back r e) f (λ c. refl) refl

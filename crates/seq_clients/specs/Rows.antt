@@ -4,10 +4,9 @@ use Rattle.std.specs.Ordering.{nat_cmp}
 use Rattle.std.specs.Coded.{Coded, code_by, coded×, coded_ℕ}
 use Rattle.std.specs.FinMap
 use Rattle.std.specs.FinMap.{FinMap}
-use Rattle.cell_pools.specs.Pools.{coded_pool, empty_pool, after_offer}
+use Rattle.cell_pools.specs.Pools.{coded_pool, empty_pool}
 use Rattle.seq_state.specs.State.{Queue, ClientPool}
 use Rattle.seq_state.specs.Codes.{coded_queue, coded_arrival}
-use Rattle.seq_state.specs.declared.log.Arrival.{Arrival}
 use Rattle.seq_clients.specs.declared.row.ClientRow.{ClientRow}
 
 abbrev pub coded_row : Coded ClientRow
@@ -28,6 +27,6 @@ new_row in_size out_size =
       pool = empty_pool in_size;
     }
 
--- a row after its pool was offered a message
-abbrev pub row_offered : Arrival → ClientRow → ClientRow
-row_offered arrival r = record r { pool = after_offer r.pool arrival }
+-- a row after a change of its pool
+abbrev pub with_pool_changed : (ClientPool → ClientPool) → ClientRow → ClientRow
+with_pool_changed f r = record r { pool = f r.pool }

@@ -3,7 +3,7 @@
 ghost use Rattle.std.specs.Prelude.{◌≡◌, ◌≤◌, ◌<◌, ◌++◌, [], true, false, length, is_some, Some, None, IsSome, IsOk, IfOk, OnOk, OnErr};
 ghost use Rattle.std.specs.FinMap.{get};
 ghost use Rattle.std.specs.Option.{option_map};
-ghost use Rattle.cell_pools.specs.Pools.{is_size, empty_pool, after_offer};
+ghost use Rattle.cell_pools.specs.Pools.{is_size, empty_pool, after_offer, after_losses_of};
 ghost use Rattle.midi_wire.specs.Parsing.{GainsPrefix};
 ghost use Rattle.midi_wire.specs.Readings.{reading};
 ghost use Rattle.node_table.specs.Names.{is_name};
@@ -280,6 +280,24 @@ impl Clients {
         let held = row.queues.remove(queue);
         self.rows.insert(client, row);
         held
+    }
+
+    /// Whether the client has an input pool with room.
+    #[inline]
+    pub fn has_room(&self, client: ClientId) -> bool
+        ensures { result ≡ pool_has_room (get self.now.pools client) }
+    {
+        self.rows.has_room(client)
+    }
+
+    /// Counts as lost what finds no room in the client's input pool, where so many messages come, before any of them is
+    /// offered.
+    #[inline]
+    pub fn lose_beyond(&mut self, client: ClientId, copies: u64)
+        ensures { let left = option_map (after_losses_of copies) (get self.old.pools client) in
+            self.new ≡ with_pool self.old client left }
+    {
+        self.rows.lose_beyond(client, copies);
     }
 
     /// Adds a message to what waits in the client's input pool where there is room, and else drops and counts it. It

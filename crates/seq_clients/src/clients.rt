@@ -1,6 +1,7 @@
 //! The open clients: what is asked of them.
 
-ghost use Rattle.std.specs.Prelude.{◌≡◌, true, false, is_some};
+ghost use Rattle.std.specs.Prelude.{◌≡◌, ◌+◌, ◌<◌, ◌≤◌, ◌⊎◌, ℕ, None, true, false, is_some};
+ghost use Rattle.node_table.specs.Numbers.{first_client, most_clients};
 ghost use Rattle.std.specs.FinMap.{get};
 ghost use Rattle.std.specs.Option.{option_copied, option_map};
 ghost use Rattle.seq_state.specs.Effect.{has_port, has_filter, has_queue, node_caps, port_of, filter_of, queue_of, out_size};
@@ -105,6 +106,14 @@ impl Clients {
             Some(row) => row.out_size,
             None => 0,
         }
+    }
+
+    /// No input pool is of a number that no client has.
+    pub fn pools_are_of_clients(&self)
+        ensures { (n : ℕ) → (n < first_client) ⊎ (first_client + most_clients ≤ n)
+            → get self.now.pools n ≡ None }
+    {
+        self.rows.rows_are_of_clients();
     }
 
     /// Whether a client is open and has this port.

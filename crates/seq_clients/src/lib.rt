@@ -12,7 +12,6 @@ mod queue;
 mod queues;
 mod row;
 mod rows;
-mod slots;
 
 pub use clients::Clients;
 pub use queue::Queue;

@@ -38,8 +38,8 @@ impl PortStream {
         }
     }
 
-    /// Takes the next piece of the stream, adds each message that is whole now to `out`, and answers their number. Want
-    /// of memory begins the stream anew.
+    /// Takes the next piece of the stream, adds each message that is whole now to `out`, and answers their number.
+    /// Running out of memory begins the stream anew.
     pub(crate) fn feed(
         &mut self,
         bytes: &[u8],

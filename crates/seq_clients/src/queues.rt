@@ -6,8 +6,7 @@ ghost use Rattle.std.specs.FinMap as map;
 ghost use Rattle.seq_clients.specs.Roster.{NoneShared, SomeShared};
 
 use crate::queue::Queue;
-use crate::slots::nothing;
-use node_table::{MOST_QUEUES, QueueNo};
+use node_table::{MOST_QUEUES, QueueNo, nothing};
 use std::marker::Model;
 
 /// One for each queue that a client may have.

@@ -1,15 +1,16 @@
 //! The rows of the clients, by their numbers.
 
-ghost use Rattle.std.specs.Prelude.{◌≡◌, ◌+◌, ◌<◌, OnOk, OnErr};
+ghost use Rattle.std.specs.Prelude.{◌≡◌, ◌+◌, ◌<◌, ◌≤◌, ◌⊎◌, ℕ, None};
+ghost use Rattle.node_table.specs.Numbers.{first_client, most_clients};
 ghost use Rattle.std.specs.Option.{option_copied, option_map};
 ghost use Rattle.std.specs.FinMap as map;
+ghost use Rattle.cell_pools.specs.Pools.{after_offer, after_losses_of};
 ghost use Rattle.seq_state.specs.State.{with_entry};
 ghost use Rattle.seq_state.specs.Step.{pool_has_room};
-ghost use Rattle.seq_clients.specs.Rows.{row_offered};
+ghost use Rattle.seq_clients.specs.Rows.{with_pool_changed};
 
 use crate::row::ClientRow;
-use crate::slots::nothing;
-use node_table::{ClientId, MOST_CLIENTS, row_of};
+use node_table::{ClientId, MOST_CLIENTS, nothing, row_of};
 use seq_state::Arrival;
 use std::marker::Model;
 
@@ -72,12 +73,42 @@ impl RowTable {
         self.rows[row_of(client)].take()
     }
 
+    /// Whether a client that may be there has an input pool with room.
+    pub(crate) fn has_room(&self, client: ClientId) -> bool
+        ensures { let pool = option_map (λ r. r.pool) (map.get self.now client) in
+            result ≡ pool_has_room pool }
+    {
+        match &self.rows[row_of(client)] {
+            Some(row) => row.pool.has_room(),
+            None => false,
+        }
+    }
+
+    /// Counts as lost what finds no room in the input pool of a client that may be there, where so many messages come.
+    pub(crate) fn lose_beyond(&mut self, client: ClientId, copies: u64)
+        ensures { let lost = with_pool_changed (after_losses_of copies) in
+            self.new ≡ with_entry self.old client (option_map lost (map.get self.old client)) }
+    {
+        match &mut self.rows[row_of(client)] {
+            Some(row) => row.pool.lose_beyond(copies),
+            None => {}
+        }
+    }
+
+    /// No row is of a number that no client has.
+    pub(crate) fn rows_are_of_clients(&self)
+        ensures { (n : ℕ) → (n < first_client) ⊎ (first_client + most_clients ≤ n)
+            → map.get self.now n ≡ None }
+    {
+        let _rows = &self.rows;
+    }
+
     /// Offers a message to the input pool of a client that may be there.
     pub(crate) fn offer(&mut self, client: ClientId, arrival: Arrival) -> bool
         ensures kept { let pool = option_map (λ r. r.pool) (map.get self.old client) in
             result ≡ pool_has_room pool }
-        ensures after { let row = option_map (row_offered arrival) (map.get self.old client) in
-            self.new ≡ with_entry self.old client row }
+        ensures after { let offered = with_pool_changed (λ p. after_offer p arrival) in
+            self.new ≡ with_entry self.old client (option_map offered (map.get self.old client)) }
     {
         match &mut self.rows[row_of(client)] {
             Some(row) => row.pool.offer(arrival),

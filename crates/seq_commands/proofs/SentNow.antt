@@ -31,7 +31,7 @@ use Rattle.seq_settle.specs.Cells.{seen_state}
 use Rattle.seq_settle.specs.Sends.{copies_of}
 use Rattle.seq_settle.proofs.NewKeys.{keys_stay}
 use Rattle.seq_settle.proofs.Elsewhere.{queues_same}
-use Rattle.seq_patchbay.specs.Carrying.{copies_of_all}
+use Rattle.seq_patchbay.specs.Leaving.{copies_of_all}
 use Rattle.seq_commands.specs.declared.sequencer.Sequencer.{Sequencer}
 use Rattle.seq_commands.specs.declared.sequencer.Turn.{Turn}
 use Rattle.seq_commands.specs.Whole.{clients_of, state_of, refusal_in, step_in, IsStepTakenUnkeyed}

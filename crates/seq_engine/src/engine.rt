@@ -109,9 +109,9 @@ impl<'f, 'b, A: Agenda> Engine<'f, 'b, A> {
 
     /// Takes one input: sends all that is due by its moment, and then carries its command out or refuses it.
     ///
-    /// Where nothing is due, a refused command takes no memory, nor does one that only takes away or asks. After want
-    /// of memory the engine answers `Failed` to every further input; its moment and its number of steps stay what they
-    /// were.
+    /// Where nothing is due, a refused command takes no memory, nor does one that only takes away or asks. Once it
+    /// ran out of memory, the engine answers `Failed` to every further input; its moment and its number of steps stay
+    /// what they were.
     pub fn step(&mut self, input: &Input) -> Result<StepOut, EngineFault>
         requires in_time { self.old.moment ≤ input.now.moment }
         requires counted { self.old.steps < 2 ^ 64 - 1 }

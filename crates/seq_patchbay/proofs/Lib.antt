@@ -1,5 +1,2 @@
 pub mod Routes
-pub mod Sent
 pub mod Texts
-pub mod Onward
-pub mod Known

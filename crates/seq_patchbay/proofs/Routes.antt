@@ -19,12 +19,13 @@ use Rattle.seq_state.specs.declared.log.Delivery.{Delivery}
 use Rattle.seq_state.specs.Copies.{filter_at, passed_by, copy_on_path, copy, copies}
 use Rattle.seq_settle.specs.Sends.{copies_of}
 use Rattle.seq_state.specs.Step.{port_addr}
-use Rattle.seq_patchbay.specs.Carrying.{of_some, copies_by, copies_onward, copies_of_all}
-use Rattle.seq_patchbay.specs.Ways.{spread_all, AreWays}
-use Rattle.seq_patchbay.specs.declared.ways.Way.TheVariants.{Straight}
+use Rattle.seq_sending.specs.Carrying.{of_some, copies_by, copies_onward}
+use Rattle.seq_patchbay.specs.Leaving.{copies_of_all}
+use Rattle.seq_sending.specs.Ways.{spread_all, AreWays}
+use Rattle.seq_sending.specs.declared.ways.Way.TheVariants.{Straight}
 use Rattle.midi_wire.specs.Messages.{IsMessage}
 use Rattle.node_table.specs.declared.number.PortAddr.{PortAddr}
-use Rattle.seq_patchbay.proofs.Onward.{flat_map-same, to-nobody}
+use Rattle.seq_sending.proofs.Onward.{flat_map-same, to-nobody}
 
 -- ---- along a path
 

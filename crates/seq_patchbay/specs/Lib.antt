@@ -1,6 +1,5 @@
-pub mod Carrying
+pub mod Leaving
 pub mod Listing
 pub mod Network
-pub mod Ways
 pub mod Lends
 pub mod Rows

@@ -7,16 +7,15 @@ ghost use Rattle.midi_wire.specs.Readings.{reading};
 ghost use Rattle.seq_state.specs.Effect.{has_port, port_of, fed_of, port_fed, put_port, with_change, oldest, without_oldest};
 ghost use Rattle.seq_state.specs.Step.{pools_after, copies_with_room};
 ghost use Rattle.seq_clients.specs.Roster.{nobody, with_client, with_pool};
-ghost use Rattle.seq_patchbay.specs.Carrying.{copies_of_all};
+ghost use Rattle.seq_patchbay.specs.Leaving.{copies_of_all};
 ghost use Rattle.seq_patchbay.specs.Lends.{LendsClients, LendsGraph};
 
-use crate::sending::{deliver, send_each};
-use crate::ways::{WayTable, ways_to};
 use memory::OutOfMemory;
 use midi_wire::Message;
 use node_table::{Addr, ClientId, Node, PortNo, QueueAddr};
 use patch_graph::PatchGraph;
 use seq_clients::Clients;
+use seq_sending::{WayTable, deliver, send_each, ways_to};
 use seq_settle::Desk;
 use seq_state::{Arrival, Delivery};
 use std::alloc::Global;
@@ -35,7 +34,7 @@ pub struct Patchbay {
 
 impl Model for Patchbay {
     ghost use Rattle.seq_patchbay.specs.Network.{Network, coded_network};
-    ghost use Rattle.seq_patchbay.specs.Ways.{AreWaysKept};
+    ghost use Rattle.seq_sending.specs.Ways.{AreWaysKept};
 
     ghost Value = { Network };
 
@@ -132,7 +131,8 @@ impl Patchbay {
         self.clients.receive(client, max)
     }
 
-    /// Sends messages from a port, one after another. No messages take no memory; want of it may leave some copies sent.
+    /// Sends messages from a port, one after another. No messages take no memory; out of memory may leave some copies
+    /// sent.
     pub fn send_all(
         &mut self,
         moment: u64,
@@ -159,23 +159,19 @@ impl Patchbay {
             client,
             node: Node::Port(port),
         };
+        let alloc = self.alloc;
         if let Some(ways) = self.ways.get(&source) {
-            return send_each(&mut self.clients, &self.graph, moment, ways, messages, out);
+            let (clients, graph) = (&mut self.clients, &self.graph);
+            return send_each(alloc, clients, graph, moment, &source, ways, messages, out);
         }
         let targets = self.graph.targets(&source);
         // What reaches nobody takes no memory.
         if targets.is_empty() {
             return Ok(());
         }
-        let ways = ways_to(self.alloc, &self.clients, &self.graph, targets)?;
-        send_each(
-            &mut self.clients,
-            &self.graph,
-            moment,
-            ways.as_slice(),
-            messages,
-            out,
-        )?;
+        let ways = ways_to(alloc, &self.clients, &self.graph, targets)?;
+        let (clients, graph) = (&mut self.clients, &self.graph);
+        send_each(alloc, clients, graph, moment, &source, &ways, messages, out)?;
         self.ways.insert(&source, ways)
     }
 }

@@ -9,6 +9,7 @@ ghost use Rattle.smf_grammar.specs.Septets.{septets_at};
 ghost use Rattle.smf_grammar.specs.Seen.{Gives, event_seen, pair_seen, is_voice, is_event_sound, IsRunning};
 
 use crate::fault::{PairFault, QuantityFault};
+use midi_wire::{END_OF_EXCLUSIVE, EXCLUSIVE, PITCH_BEND, PROGRAM_CHANGE};
 
 /// An event of a track, as it stands in the file.
 #[derive(Clone, Copy)]
@@ -193,10 +194,10 @@ fn voice_at(status: u8, left: &[u8]) -> Result<(EventBytes<'_>, &[u8]), PairFaul
     requires { IsTrue (is_voice status) }
     ensures { Gives (λ x. (event_seen x.0, x.1.now)) result (voice_at status left.now) }
 {
-    if status < 0xC0 {
+    if status < PROGRAM_CHANGE {
         return voice_of_two_at(status, left);
     }
-    if status < 0xE0 {
+    if status < PITCH_BEND {
         return voice_of_one_at(status, left);
     }
     voice_of_two_at(status, left)
@@ -235,11 +236,11 @@ fn sized_event_at(
     if byte == 0xFF {
         return meta_at(left);
     }
-    if byte == 0xF0 {
+    if byte == EXCLUSIVE {
         let (payload, left) = sized_at(left)?;
         return Ok((EventBytes::Exclusive(payload), left));
     }
-    if byte == 0xF7 {
+    if byte == END_OF_EXCLUSIVE {
         let (payload, left) = sized_at(left)?;
         return Ok((EventBytes::Escape(payload), left));
     }
@@ -262,7 +263,7 @@ fn event_at(running: Option<u8>, left: &[u8]) -> Result<(EventBytes<'_>, &[u8]),
                 };
                 return voice_at(status, left);
             }
-            if *byte < 0xF0 {
+            if *byte < EXCLUSIVE {
                 return voice_at(*byte, rest);
             }
             sized_event_at(running, *byte, rest)

@@ -6,6 +6,7 @@ mod going;
 mod lines;
 mod logs;
 mod long_runs;
+mod many_ways;
 mod patchbay;
 mod sending;
 mod setting_up;

@@ -1,4 +1,4 @@
-use Rattle.seq_patchbay.specs.Carrying.{copies_of_all}
+use Rattle.seq_patchbay.specs.Leaving.{copies_of_all}
 use Rattle.seq_state.specs.Step.{pools_after, copies_with_room}
 use Rattle.std.proofs.Common.{ℕ, ◌++◌, List, ap, ◌∙◌}
 use Rattle.std.specs.FinMap.{get}

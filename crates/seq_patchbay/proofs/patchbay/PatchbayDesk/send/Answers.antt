@@ -1,11 +1,11 @@
 use Rattle.std.proofs.Common.{◌≡◌, ◌++◌, ◌∙◌, ap, sym, subst, append-nil}
 use Rattle.seq_patchbay.specs.Network.{Network}
-use Rattle.seq_patchbay.specs.Ways.{AreWaysKept}
+use Rattle.seq_sending.specs.Ways.{AreWaysKept}
 use Rattle.seq_patchbay.proofs.Routes.{straight-copies}
 use Rattle.std.specs.Prelude.{OnOk}
 use Rattle.seq_state.specs.Step.{pools_after, copies_with_room}
 use Rattle.seq_settle.specs.Sends.{copies_of}
-use Rattle.seq_patchbay.specs.Carrying.{copies_of_all}
+use Rattle.seq_patchbay.specs.Leaving.{copies_of_all}
 use Rattle.seq_patchbay.proofs.patchbay.PatchbayDesk.send.Goals as goal
 
 pub returns-clause-pools : goal.returns-clause-pools

@@ -1,0 +1,9 @@
+pub mod Sent
+pub mod Onward
+pub mod Known
+pub mod Rooms
+pub mod CopyCounts
+pub mod Totals
+pub mod Reached
+pub mod Losing
+pub mod Walked

@@ -1,0 +1,119 @@
+-- The lost copies, client by client.
+use Rattle.std.proofs.Common.{◌≡◌, ◌⊎◌, inl, inr, ◌+◌, ◌-◌, ◌<◌, ◌≤◌, ℕ, false, cond, min, List, [], ◌∷◌, length, get_or, None, refl, sym, ap, subst, ◌∙◌, arith}
+use Rattle.std.specs.FinMap.{get}
+use Rattle.std.proofs.lemmas.Bool.{cases_lt, cases_eq, eq-eqb}
+use Rattle.seq_state.specs.declared.log.Delivery.{Delivery}
+use Rattle.seq_state.specs.State.{with_entry}
+use Rattle.seq_clients.proofs.Changing.{get-put_same, get-put_other}
+use Rattle.seq_state.specs.Step.{pool_has_room, pools_after, copies_with_room}
+use Rattle.seq_sending.specs.Rooms.{room_of, for_client, copies_for, with_losses}
+use Rattle.seq_sending.proofs.Rooms.{Pools, firsts, has-room, losses_law}
+use Rattle.std.specs.Prelude.{nat_lt}
+use Rattle.std.proofs.lemmas.List.{length-take}
+use Rattle.std.proofs.lemmas.Bool.Decides.{nat_tests}
+
+-- the pool at one row changed
+module _ (was now after : Pools) (row : ℕ) (n : ℕ) (e : after ≡ with_entry now (128 + row) (with_losses n (get now (128 + row)))) where
+  pub others-stay : (c : ℕ) → (c ≡ 128 + row → ⊥) → get after c ≡ get now c
+  others-stay c apart = ap (λ p. get p c) e ∙ get-put_other now (128 + row) (with_losses n (get now (128 + row))) c apart
+
+  pub this-loses : get now (128 + row) ≡ get was (128 + row) → get after (128 + row) ≡ with_losses n (get was (128 + row))
+  this-loses same = ap (λ p. get p (128 + row)) e ∙ get-put_same now (128 + row) (with_losses n (get now (128 + row))) ∙ ap (with_losses n) same
+
+  pub lose-more : (counts : List ℕ) → n ≡ get_or counts row 0 → get now (128 + row) ≡ get was (128 + row) →
+      ((r : ℕ) → r < row → get now (128 + r) ≡ with_losses (get_or counts r 0) (get was (128 + r))) →
+      (r : ℕ) → r < row + 1 → get after (128 + r) ≡ with_losses (get_or counts r 0) (get was (128 + r))
+  lose-more counts at same before r low = go (cases_eq r row)
+    where
+      go : (r ≡ row) ⊎ (r ≡ row → ⊥) → get after (128 + r) ≡ with_losses (get_or counts r 0) (get was (128 + r))
+      go (inl here) = subst (λ k. get after (128 + k) ≡ with_losses (get_or counts k 0) (get was (128 + k))) (sym here) (this-loses same ∙ ap (λ k. with_losses k (get was (128 + row))) at)
+      go (inr apart) =
+          let m : r < row = less r row low apart in
+          others-stay (128 + r) (λ f. apart (same-row r row f)) ∙ before r m
+        where
+          less : (r row : ℕ) → r < row + 1 → (r ≡ row → ⊥) → r < row
+          less r row l a = omega arith
+
+          same-row : (r row : ℕ) → 128 + r ≡ 128 + row → r ≡ row
+          same-row r row f = omega arith
+
+-- where all rows lost what is beyond their room, and nobody else has a pool
+pub all-lost : (was counted : Pools) (ds : List Delivery) (counts : List ℕ) →
+    ((row : ℕ) → row < 64 → get counted (128 + row) ≡ with_losses (get_or counts row 0) (get was (128 + row))) →
+    ((c : ℕ) → (c < 128) ⊎ (192 ≤ c) → get counted c ≡ get was c) →
+    ((c : ℕ) → (c < 128) ⊎ (192 ≤ c) → get was c ≡ None) →
+    ((row : ℕ) → row < 64 → get_or counts row 0 ≡ copies_for (128 + row) ds) →
+    (c : ℕ) → get counted c ≡ with_losses (copies_for c ds) (get was c)
+all-lost was counted ds counts lost others nobody number c = go (cases_lt c 128) (cases_lt c 192)
+  where
+    out : (c < 128) ⊎ (192 ≤ c) → get counted c ≡ with_losses (copies_for c ds) (get was c)
+    out o = others c o ∙ nobody c o ∙ ap (with_losses (copies_for c ds)) (sym (nobody c o))
+
+    go : (c < 128) ⊎ (128 ≤ c) → (c < 192) ⊎ (192 ≤ c) → get counted c ≡ with_losses (copies_for c ds) (get was c)
+    go (inl low) b = out (inl low)
+    go (inr high) (inr above) = out (inr above)
+    go (inr high) (inl below) =
+        let row : ℕ = c - 128 in
+        let e : 128 + row ≡ c = omega arith in
+        let l : row < 64 = omega arith in
+        subst (λ k. get counted k ≡ with_losses (copies_for k ds) (get was k)) e
+        (lost row l ∙ ap (λ k. with_losses k (get was (128 + row))) (number row l))
+
+-- where each client has no copies or no room, nothing is delivered
+pub none-found : (pools : Pools) (ds : List Delivery) → ((c : ℕ) → (copies_for c ds ≡ 0) ⊎ (pool_has_room (get pools c) ≡ false)) → copies_with_room pools ds ≡ []
+none-found pools ds h = go (copies_with_room pools ds) refl
+  where
+    no-room : (n : ℕ) → nat_lt 0 n ≡ false → n ≡ 0
+    no-room n e = grind (arith, nat_tests)
+
+    none : (c : ℕ) → copies_for c (copies_with_room pools ds) ≡ 0
+    none c = at (h c)
+      where
+        few : copies_for c (copies_with_room pools ds) ≡ min (room_of (get pools c)) (copies_for c ds)
+        few = ap length (firsts c ds pools) ∙ length-take (room_of (get pools c)) (for_client c ds)
+
+        at : (copies_for c ds ≡ 0) ⊎ (pool_has_room (get pools c) ≡ false) → copies_for c (copies_with_room pools ds) ≡ 0
+        at (inl e) = omega (arith, few)
+        at (inr e) = let z : room_of (get pools c) ≡ 0 = no-room (room_of (get pools c)) (sym (has-room (get pools c)) ∙ e) in omega (arith, few)
+
+    go : (es : List Delivery) → copies_with_room pools ds ≡ es → es ≡ []
+    go [] e = refl
+    go (d ∷ es) e =
+        let c : ℕ = d.target.client in
+        let one : copies_for c (d ∷ es) ≡ length (d ∷ for_client c es) = ap (λ b. length (cond b (d ∷ for_client c es) (for_client c es))) (eq-eqb c c refl) in
+        let all : copies_for c (copies_with_room pools ds) ≡ copies_for c (d ∷ es) = ap (copies_for c) e in
+        absurd (omega (arith, none c))
+
+-- the same of the rows, where nobody else has a pool
+pub rows-none : (was counted : Pools) (ds : List Delivery) (counts : List ℕ) →
+    ((c : ℕ) → (c < 128) ⊎ (192 ≤ c) → get counted c ≡ get was c) →
+    ((c : ℕ) → (c < 128) ⊎ (192 ≤ c) → get was c ≡ None) →
+    ((row : ℕ) → row < 64 → get_or counts row 0 ≡ copies_for (128 + row) ds) →
+    ((row : ℕ) → row < 64 → (get_or counts row 0 ≡ 0) ⊎ (pool_has_room (get counted (128 + row)) ≡ false)) →
+    copies_with_room counted ds ≡ []
+rows-none was counted ds counts others nobody number rows = none-found counted ds (λ c. go c (cases_lt c 128) (cases_lt c 192))
+  where
+    out : (c : ℕ) → (c < 128) ⊎ (192 ≤ c) → (copies_for c ds ≡ 0) ⊎ (pool_has_room (get counted c) ≡ false)
+    out c o = inr (ap pool_has_room (others c o ∙ nobody c o))
+
+    go : (c : ℕ) → (c < 128) ⊎ (128 ≤ c) → (c < 192) ⊎ (192 ≤ c) → (copies_for c ds ≡ 0) ⊎ (pool_has_room (get counted c) ≡ false)
+    go c (inl low) b = out c (inl low)
+    go c (inr high) (inr above) = out c (inr above)
+    go c (inr high) (inl below) =
+        let row : ℕ = c - 128 in
+        let e : 128 + row ≡ c = omega arith in
+        let l : row < 64 = omega arith in
+        subst (λ k. (copies_for k ds ≡ 0) ⊎ (pool_has_room (get counted k) ≡ false)) e (turn row l (rows row l))
+      where
+        turn : (row : ℕ) → row < 64 → (get_or counts row 0 ≡ 0) ⊎ (pool_has_room (get counted (128 + row)) ≡ false) → (copies_for (128 + row) ds ≡ 0) ⊎ (pool_has_room (get counted (128 + row)) ≡ false)
+        turn row l (inl z) = inl (sym (number row l) ∙ z)
+        turn row l (inr z) = inr z
+
+-- so the losses may be counted first, by the numbers of the rows
+pub counted-first : (was counted : Pools) (ds : List Delivery) (counts : List ℕ) →
+    ((row : ℕ) → row < 64 → get counted (128 + row) ≡ with_losses (get_or counts row 0) (get was (128 + row))) →
+    ((c : ℕ) → (c < 128) ⊎ (192 ≤ c) → get counted c ≡ get was c) →
+    ((c : ℕ) → (c < 128) ⊎ (192 ≤ c) → get was c ≡ None) →
+    ((row : ℕ) → row < 64 → get_or counts row 0 ≡ copies_for (128 + row) ds) →
+    (pools_after counted (copies_with_room counted ds) ≡ pools_after was ds) × (copies_with_room counted ds ≡ copies_with_room was ds)
+counted-first was counted ds counts lost others nobody number = losses_law was counted ds (all-lost was counted ds counts lost others nobody number)

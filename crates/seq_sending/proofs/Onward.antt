@@ -1,0 +1,198 @@
+-- What comes of a message on its way from filter to filter, by the rule of all of them.
+use Rattle.std.proofs.Common.{◌≡◌, if◌then◌else◌, ℕ, zero, suc, ◌+◌, ◌-◌, ◌<◌, ◌≤◌, Bool, true, false, eqb, cond, List, [], ◌∷◌, ◌++◌, length, take, slice_index_or, Option, Some, None, refl, sym, ap, subst, ◌∙◌, arith}
+use Rattle.std.specs.Prelude.{Result, Ok, Err, OnOk, OnErr, is_err}
+use Rattle.std.specs.Option.{option_map, option_and_then, option_to_list}
+use Rattle.std.specs.List.{flat_map}
+use Rattle.std.specs.Ordering.{nat_cmp}
+use Rattle.std.specs.FinMap
+use Rattle.std.specs.FinMap.{FinMap}
+use Rattle.std.proofs.lemmas.Bool.{eqb-true}
+use Rattle.std.proofs.lemmas.List.{take_more}
+use Rattle.std.proofs.lemmas.Result.{on_err_weaker}
+use Rattle.node_table.specs.Addresses.{is_filter}
+use Rattle.node_table.specs.declared.number.Addr.{Addr}
+use Rattle.node_table.specs.declared.number.Node.{Node}
+use Rattle.node_table.specs.declared.number.Node.TheVariants.{Port, Filter}
+use Rattle.patch_graph.specs.Cursor.{at_port}
+use Rattle.patch_graph.specs.Index.{targets_of}
+use Rattle.patch_graph.specs.Paths.{hops}
+use Rattle.patch_graph.specs.declared.edge.Edge.{Edge}
+use Rattle.route_filter.specs.declared.rule_args.RuleArgs.{RuleArgs}
+use Rattle.seq_state.specs.declared.log.Delivery.{Delivery}
+use Rattle.seq_state.specs.State.{Client, PortInfo, Queue, filters_of, with_entry}
+use Rattle.seq_state.specs.Effect.{filter_of, with_change, put_port, put_queue}
+use Rattle.seq_state.specs.Copies.{filter_at, passed_by, copy}
+use Rattle.seq_state.proofs.Effects.{get-put}
+use Rattle.seq_state.proofs.Lists.{flat_map-append}
+use Rattle.seq_clients.specs.Roster.{Roster, with_client}
+use Rattle.seq_sending.specs.Carrying.{let_through, of_some, copies_by, copies_to, copies_onward}
+use Rattle.seq_sending.specs.Ways.{copies_on, copies_along, AreWays, AreWaysKept}
+use Rattle.seq_sending.specs.declared.ways.Way.{Way}
+use Rattle.seq_sending.specs.declared.ways.Way.TheVariants.{Straight, Filtered, Parting, Nowhere}
+use Rattle.seq_sending.proofs.Sent.{spread-none, to-filter, to-only, by-port}
+
+-- ---- of what may have been stopped
+
+pub of-same : (f g : List ℕ → List Delivery) → ((m : List ℕ) → f m ≡ g m) → (o : Option (List ℕ)) → of_some f o ≡ of_some g o
+of-same f g same None = refl
+of-same f g same (Some m) = same m
+
+pub of-both : (g : List ℕ → List Delivery) (h : List ℕ → Option (List ℕ)) (o : Option (List ℕ)) → of_some (λ m. of_some g (h m)) o ≡ of_some g (option_and_then h o)
+of-both g h None = refl
+of-both g h (Some m) = refl
+
+pub of-none : (f : List ℕ → List Delivery) → ((m : List ℕ) → f m ≡ []) → (o : Option (List ℕ)) → of_some f o ≡ []
+of-none f none None = refl
+of-none f none (Some m) = none m
+
+-- ---- from node to node
+
+module _ (clients : FinMap nat_cmp Client) (edges : List Edge) (moment : ℕ) where
+  -- what comes at a port is what was let through
+  pub at-end : (n : ℕ) (node : Addr) (port : ℕ) → node.node ≡ Port port → (o : Option (List ℕ)) →
+      of_some (λ m. copies_to clients edges moment n node m) o ≡ option_to_list (copy moment (at_port (record { client = node.client; port = port })) o)
+  at-end n node port e None = refl
+  at-end n node port e (Some m) = by-port clients edges moment (λ ts x. copies_onward clients edges moment n ts x) m node port e
+
+  -- what was let through to a filter goes on as what that lets through too
+  pub past-filter : (n : ℕ) (node : Addr) (filter : ℕ) (rule : Option RuleArgs) → node.node ≡ Filter filter → rule ≡ option_map (λ f. f.rule) (filter_of (FinMap.get clients node.client) filter) →
+      (o p : Option (List ℕ)) → p ≡ option_and_then (let_through rule) o →
+      of_some (λ m. copies_to clients edges moment n node m) o ≡ of_some (λ m. copies_onward clients edges moment n (targets_of edges node) m) p
+  past-filter n node filter rule e r o p q =
+      of-same (λ m. copies_to clients edges moment n node m) (λ m. of_some (λ x. copies_onward clients edges moment n (targets_of edges node) x) (let_through rule m))
+      (λ m. to-filter clients edges moment n node m filter e rule r (let_through rule m) refl) o
+      ∙ of-both (λ x. copies_onward clients edges moment n (targets_of edges node) x) (let_through rule) o
+      ∙ ap (of_some (λ x. copies_onward clients edges moment n (targets_of edges node) x)) (sym q)
+
+  -- to the only node behind it
+  pub on-to : (n : ℕ) (targets : List Addr) (next : Addr) → 1 ≤ length targets → length targets < 2 → next ≡ slice_index_or targets 0 next → (n ≡ 0 → ⊥) → (o : Option (List ℕ)) →
+      of_some (λ m. copies_onward clients edges moment n targets m) o ≡ of_some (λ m. copies_to clients edges moment (n - 1) next m) o
+  on-to n targets next some few e h o =
+      of-same (λ m. copies_onward clients edges moment n targets m) (λ m. copies_to clients edges moment (n - 1) next m) (λ m. to-only clients edges moment n targets next m some few e h) o
+
+  spread-nowhere : (n : ℕ) (message : List ℕ) → copies_onward clients edges moment n [] message ≡ []
+  unfolding copies_onward
+  spread-nowhere zero message = refl
+  spread-nowhere (suc n) message = refl
+
+  pub to-nobody : (n : ℕ) (targets : List Addr) (message : List ℕ) → length targets ≡ 0 → copies_onward clients edges moment n targets message ≡ []
+  to-nobody n [] message e = spread-nowhere n message
+  to-nobody n (t ∷ ts) message e = absurd (omega arith)
+
+  -- nowhere, where there is no node behind it or no edge is left
+  pub ends-at : (n : ℕ) (targets : List Addr) → length targets < 1 → (o : Option (List ℕ)) → of_some (λ m. copies_onward clients edges moment n targets m) o ≡ []
+  ends-at n [] l o = of-none (λ m. copies_onward clients edges moment n [] m) (λ m. spread-nowhere n m) o
+  ends-at n (t ∷ ts) l o = absurd (omega arith)
+
+  pub ends-by : (n : ℕ) (targets : List Addr) → n ≡ 0 → (o : Option (List ℕ)) → of_some (λ m. copies_onward clients edges moment n targets m) o ≡ []
+  ends-by n targets e o = of-none (λ m. copies_onward clients edges moment n targets m) (λ m. spread-none clients edges moment n targets m e) o
+
+  -- the ways to some of the nodes, and to one more
+  pub ways-more : (targets : List Addr) (i : ℕ) (t : Addr) (ways : List Way) (way : Way) (message : List ℕ) → i < length targets → t ≡ slice_index_or targets i t →
+      copies_along clients edges moment ways message ≡ flat_map (λ node. copies_to clients edges moment (hops - 1) node message) (take i targets) →
+      copies_on clients edges moment message way ≡ copies_to clients edges moment (hops - 1) t message →
+      copies_along clients edges moment (ways ++ way ∷ []) message ≡ flat_map (λ node. copies_to clients edges moment (hops - 1) node message) (take (i + 1) targets)
+  ways-more targets i t ways way message l e so_far one =
+      let f : Addr → List Delivery = λ node. copies_to clients edges moment (hops - 1) node message in
+      flat_map-append (copies_on clients edges moment message) ways (way ∷ []) ∙ ap (λ ds. ds ++ flat_map (copies_on clients edges moment message) (way ∷ [])) so_far
+      ∙ ap (λ ds. flat_map f (take i targets) ++ (ds ++ [])) one
+      ∙ sym (flat_map-append f (take i targets) (t ∷ [])) ∙ ap (flat_map f) (sym (take_more targets i t l ∙ ap (λ x. take i targets ++ x ∷ []) (sym e)))
+
+  -- the ways to all of them
+  pub ways-all : (targets : List Addr) (message : List ℕ) → flat_map (λ node. copies_to clients edges moment (hops - 1) node message) targets ≡ copies_onward clients edges moment hops targets message
+  unfolding copies_onward hops
+  ways-all targets message = refl
+
+-- ---- the same filters let the same through
+
+abbrev pub SameFilters : FinMap nat_cmp Client → FinMap nat_cmp Client → Type 0
+SameFilters a b = (c : ℕ) → filters_of (FinMap.get a c) ≡ filters_of (FinMap.get b c)
+
+pub flat_map-same : {X Y : Type 0} (f g : X → List Y) → ((x : X) → f x ≡ g x) → (xs : List X) → flat_map f xs ≡ flat_map g xs
+flat_map-same f g same [] = refl
+flat_map-same f g same (x ∷ xs) = ap (λ ys. ys ++ flat_map f xs) (same x) ∙ ap (λ ys. g x ++ ys) (flat_map-same f g same xs)
+
+module _ (a b : FinMap nat_cmp Client) (same : SameFilters a b) where
+  pub filter-same : (c : ℕ) (node : Node) → filter_at a c node ≡ filter_at b c node
+  filter-same c (Port n) = refl
+  filter-same c (Filter n) = ap (λ fs. FinMap.get fs n) (same c)
+
+  module _ (edges : List Edge) (moment : ℕ) where
+    to-same : (f g : List Addr → List ℕ → List Delivery) → ((ts : List Addr) (m : List ℕ) → f ts m ≡ g ts m) → (message : List ℕ) (node : Addr) →
+        copies_by a edges moment f message node ≡ copies_by b edges moment g message node
+    to-same f g further message node =
+        ap (λ o. if is_filter node then of_some (f (targets_of edges node)) (passed_by o message) else option_to_list (copy moment node (Some message))) (filter-same node.client node.node)
+        ∙ ap (λ ds. if is_filter node then ds else option_to_list (copy moment node (Some message)))
+        (of-same (f (targets_of edges node)) (g (targets_of edges node)) (further (targets_of edges node)) (passed_by (filter_at b node.client node.node) message))
+
+    spread-same : (n : ℕ) (targets : List Addr) (message : List ℕ) → copies_onward a edges moment n targets message ≡ copies_onward b edges moment n targets message
+    unfolding copies_onward
+    spread-same zero targets message = refl
+    spread-same (suc n) targets message =
+        flat_map-same _ _ (to-same (λ ts m. copies_onward a edges moment n ts m) (λ ts m. copies_onward b edges moment n ts m) (λ ts m. spread-same n ts m) message) targets
+
+    on-same : (message : List ℕ) (way : Way) → copies_on a edges moment message way ≡ copies_on b edges moment message way
+    on-same message (Straight end) = refl
+    on-same message (Filtered rule end) = refl
+    on-same message (Parting node) = to-same (λ ts m. copies_onward a edges moment (hops - 1) ts m) (λ ts m. copies_onward b edges moment (hops - 1) ts m) (λ ts m. spread-same (hops - 1) ts m) message node
+    on-same message Nowhere = refl
+
+  -- ways stay, where all filters do
+  pub ways-same : (edges : List Edge) (targets : List Addr) (ways : List Way) → AreWays a edges targets ways → AreWays b edges targets ways
+  ways-same edges targets ways are moment message p =
+      sym (flat_map-same _ _ (on-same edges moment message) ways) ∙ are moment message p ∙ spread-same edges moment hops targets message
+
+-- ways are kept, where one client has another entry with the same filters
+entry-same : (clients : FinMap nat_cmp Client) (actor : ℕ) (o : Option Client) → filters_of (FinMap.get clients actor) ≡ filters_of o → SameFilters clients (with_entry clients actor o)
+entry-same clients actor o same c = go (eqb c actor) refl ∙ sym (ap filters_of (get-put clients actor o c))
+  where
+    go : (b : Bool) → eqb c actor ≡ b → filters_of (FinMap.get clients c) ≡ filters_of (cond b o (FinMap.get clients c))
+    go true e = ap (λ x. filters_of (FinMap.get clients x)) (eqb-true c actor e) ∙ same
+    go false e = refl
+
+pub kept-with : (was now : Roster) (edges : List Edge) (table : List (Option (List Way))) (actor : ℕ) (o : Option Client) → now.clients ≡ with_entry was.clients actor o →
+    filters_of (FinMap.get was.clients actor) ≡ filters_of o → AreWaysKept was.clients edges table → AreWaysKept now.clients edges table
+kept-with was now edges table actor o is same kept = subst (λ cs. AreWaysKept cs edges table) (sym is) (λ a row place ways at e.
+    ways-same was.clients (with_entry was.clients actor o) (entry-same was.clients actor o same) edges (targets_of edges a) ways (kept a row place ways at e))
+
+-- where one client changed, but none of its filters
+kept-changed : (was now : Roster) (edges : List Edge) (table : List (Option (List Way))) (actor : ℕ) (g : Client → Client) → ((c : Client) → c.filters ≡ (g c).filters) →
+    now ≡ with_client was actor (with_change (FinMap.get was.clients actor) g) → AreWaysKept was.clients edges table → AreWaysKept now.clients edges table
+kept-changed was now edges table actor g keeps is =
+    kept-with was now edges table actor (with_change (FinMap.get was.clients actor) g) (ap (λ (r : Roster). r.clients) is) (go (FinMap.get was.clients actor))
+  where
+    go : (c : Option Client) → filters_of c ≡ filters_of (with_change c g)
+    go None = refl
+    go (Some c) = keeps c
+
+-- one of its ports
+pub kept-port : (was now : Roster) (edges : List Edge) (table : List (Option (List Way))) (actor n : ℕ) (o : Option PortInfo) →
+    now ≡ with_client was actor (with_change (FinMap.get was.clients actor) (put_port n o)) → AreWaysKept was.clients edges table → AreWaysKept now.clients edges table
+kept-port was now edges table actor n o = kept-changed was now edges table actor (put_port n o) (go o)
+  where
+    go : (o : Option PortInfo) (c : Client) → c.filters ≡ (put_port n o c).filters
+    go None c = refl
+    go (Some p) c = refl
+
+-- one of its queues
+pub kept-queue : (was now : Roster) (edges : List Edge) (table : List (Option (List Way))) (actor n : ℕ) (o : Option Queue) →
+    now ≡ with_client was actor (with_change (FinMap.get was.clients actor) (put_queue n o)) → AreWaysKept was.clients edges table → AreWaysKept now.clients edges table
+kept-queue was now edges table actor n o = kept-changed was now edges table actor (put_queue n o) (go o)
+  where
+    go : (o : Option Queue) (c : Client) → c.filters ≡ (put_queue n o c).filters
+    go None c = refl
+    go (Some q) c = refl
+
+-- what holds after every answer
+pub in-both : {T E : Type 0} (r : Result T E) (P : Type 0) → OnOk r P → OnErr r P → P
+in-both (Ok x) P ok err = ok
+in-both (Err x) P ok err = err
+
+pub where-ok : {T E : Type 0} (r : Result T E) (P : Type 0) → is_err r ≡ false → OnOk r P → P
+where-ok (Ok x) P e ok = ok
+where-ok (Err x) P e ok = cc
+
+-- and where nothing changed after an error
+pub kept-or-same : {T E : Type 0} (r : Result T E) (was now : Roster) (edges : List Edge) (table : List (Option (List Way))) → OnOk r (AreWaysKept now.clients edges table) → OnErr r (now ≡ was) →
+    AreWaysKept was.clients edges table → AreWaysKept now.clients edges table
+kept-or-same r was now edges table ok err kept = in-both r _ ok (on_err_weaker r (λ e. subst (λ (x : Roster). AreWaysKept x.clients edges table) (sym e) kept) err)

@@ -1,0 +1,31 @@
+//! Copies that find no room need not be told one from another. These functions do nothing: their contracts are the
+//! laws.
+
+ghost use Rattle.seq_sending.specs.Laws.{EachPoolLaw, FirstLaw, LossesLaw, CutLaw, OnwardLaw, CountLaw};
+
+/// What copies do to a pool hangs on those for its client alone: the first that find room wait, and the others are
+/// counted.
+pub fn each_pool_alone()
+    ensures pools { EachPoolLaw }
+    ensures first { FirstLaw }
+{}
+
+/// The lost copies may be counted first, by their number, and those that find room offered then.
+pub fn losses_come_first()
+    ensures { LossesLaw }
+{}
+
+/// Where nothing of some copies finds room, nothing does later.
+pub fn cuts_stay()
+    ensures { CutLaw }
+{}
+
+/// A walk that offers only what finds room goes on as one that offers all.
+pub fn onward_from_kept()
+    ensures { OnwardLaw }
+{}
+
+/// How many copies are for a client is found by counting.
+pub fn copies_are_counted()
+    ensures { CountLaw }
+{}
