@@ -9,12 +9,11 @@ use Rattle.tempo_clock.specs.declared.due.Due.TheVariants.{Tick}
 use Rattle.smf_grammar.specs.declared.event.Event as files
 use Rattle.cell_pools.specs.Cells.{Store, IsTaken}
 use Rattle.seq_state.specs.State.{DueMessage, with_entry}
-use Rattle.seq_settle.specs.declared.head.PlaybackHead.{PlaybackHead}
 use Rattle.seq_settle.specs.declared.head.PoppedMessage.{PoppedMessage}
 use Rattle.seq_settle.specs.Cells.{RankedPlayback, PlaybackCell, with_rest, cell_rest}
 use Rattle.seq_settle.specs.Events.{file_event}
-use Rattle.seq_settle.specs.Sends.{head_of, next_due, first_popped}
-use Rattle.seq_settle.proofs.Stores.{get-put_here, put-put}
+use Rattle.seq_settle.specs.Sends.{next_due, first_popped}
+use Rattle.seq_settle.proofs.Stores.{put-put}
 
 none_some : {X : Type 0} (x : X) → None ≡ Some x → ⊥
 none_some x e = cc
@@ -34,32 +33,17 @@ first-none (x ∷ xs) e = absurd (none_some x.tick e)
 
 -- ---- a cell whose first event went
 
-module _ (cells after : FinMap nat_cmp PlaybackCell) (k : ℕ) (c : PlaybackCell) (e : DueMessage) (es : List DueMessage) (went : after ≡ FinMap.insert cells k (c.0, with_rest c.1 es)) where
-  there : FinMap.get after k ≡ Some (c.0, with_rest c.1 es)
-  there = ap (λ m. FinMap.get m k) went ∙ get-put_here cells k (Some (c.0, with_rest c.1 es))
-
-  pub still-there : None ≡ option_map head_of (FinMap.get after k) → ⊥
-  still-there f = none_some (head_of (c.0, with_rest c.1 es)) (f ∙ ap (option_map head_of) there)
-
-  head-is : (h : PlaybackHead) → Some h ≡ option_map head_of (FinMap.get after k) → h ≡ head_of (c.0, with_rest c.1 es)
-  head-is h f = some_of h (head_of (c.0, with_rest c.1 es)) (f ∙ ap (option_map head_of) there)
-
-  pub popped-is : (m : List ℕ) (h : PlaybackHead) → Some m ≡ Some e.message → Some h ≡ option_map head_of (FinMap.get after k) → Some (let p : PoppedMessage = record { message = m; head = h } in p) ≡ Some (first_popped c e es)
-  popped-is m h f g =
-      ap (λ x. Some (let p : PoppedMessage = record { message = x; head = h } in p)) (some_of m e.message f)
-      ∙ ap (λ x. Some (let p : PoppedMessage = record { message = e.message; head = x } in p)) (head-is h g)
-
-  pub due-is : (h : PlaybackHead) → Some h ≡ option_map head_of (FinMap.get after k) → h.due ≡ next_due es
-  due-is h f = ap (λ (x : PlaybackHead). x.due) (head-is h f)
+due-is : (p : PoppedMessage) (c : PlaybackCell) (e : DueMessage) (es : List DueMessage) → Some p ≡ Some (first_popped c e es) → p.head.due ≡ next_due es
+due-is p c e es is = ap (λ (x : PoppedMessage). x.head.due) (some_of p (first_popped c e es) is)
 
 -- the cell goes with its last event
-pub rest-is : (cells : FinMap nat_cmp PlaybackCell) (after last : Store RankedPlayback) (k : ℕ) (c : PlaybackCell) (e : DueMessage) (es : List DueMessage) (h : PlaybackHead) → after.cells ≡ FinMap.insert cells k (c.0, with_rest c.1 es) →
-    Some h ≡ option_map head_of (FinMap.get after.cells k) → (h.due ≡ None → IsTaken after last k) → (IsSome h.due → last ≡ after) → last.cells ≡ with_entry cells k (cell_rest c es)
-rest-is cells after last k c e [] h went is spent left =
-    let taken : IsTaken after last k = spent (due-is cells after.cells k c e [] went h is) in
+pub rest-is : (cells : FinMap nat_cmp PlaybackCell) (after last : Store RankedPlayback) (k : ℕ) (c : PlaybackCell) (e : DueMessage) (es : List DueMessage) (p : PoppedMessage) → after.cells ≡ FinMap.insert cells k (c.0, with_rest c.1 es) →
+    Some p ≡ Some (first_popped c e es) → (p.head.due ≡ None → IsTaken after last k) → (IsSome p.head.due → last ≡ after) → last.cells ≡ with_entry cells k (cell_rest c es)
+rest-is cells after last k c e [] p went is spent left =
+    let taken : IsTaken after last k = spent (due-is p c e [] is) in
     taken.cells ∙ ap (λ m. with_entry m k None) went ∙ put-put cells k (Some (c.0, with_rest c.1 [])) None
-rest-is cells after last k c e (x ∷ xs) h went is spent left =
-    ap (λ (s : Store RankedPlayback). s.cells) (left (some (h.due) x.due (due-is cells after.cells k c e (x ∷ xs) went h is))) ∙ went
+rest-is cells after last k c e (x ∷ xs) p went is spent left =
+    ap (λ (s : Store RankedPlayback). s.cells) (left (some p.head.due x.due (due-is p c e (x ∷ xs) is))) ∙ went
   where
     some : {Y : Type 0} (o : Option Y) (y : Y) → o ≡ Some y → IsSome o
     some None y f = absurd (none_some y f)

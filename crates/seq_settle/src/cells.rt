@@ -3,7 +3,7 @@
 ghost use Rattle.std.specs.Prelude.{◌≡◌, ℕ, List, [], ◌∷◌, None, Some, IsSome, IsTrue, IfOk, OnOk};
 ghost use Rattle.std.specs.FinMap as map;
 ghost use Rattle.std.specs.Option.{option_map};
-ghost use Rattle.cell_pools.specs.Cells.{size_of, IsTaken};
+ghost use Rattle.cell_pools.specs.Cells.{size_of, client_at, IsTaken};
 ghost use Rattle.seq_state.specs.State.{DueMessage};
 ghost use Rattle.seq_settle.specs.Cells.{PlaybackCell, with_rest};
 ghost use Rattle.seq_settle.specs.Sends.{head_of, IsFirstOf, IsWithoutFirst};
@@ -12,7 +12,7 @@ use crate::head::{PlaybackHead, PoppedMessage};
 use crate::playback::Playback;
 use cell_pools::{CellKey, CellStore};
 use memory::OutOfMemory;
-use midi_wire::Message;
+use node_table::ClientId;
 
 /// The playbacks of all clients, each in a cell.
 pub type Cells<'b> = CellStore<Playback<'b>>;
@@ -36,14 +36,14 @@ pub(crate) fn pop_first(
     ensures sizes { OnOk result ((client : ℕ) →
         size_of cells.new client ≡ size_of cells.old client) }
 {
-    let Some(message) = next_of(cells, key)? else {
+    let Some(client) = cells.client_of(key) else {
         return Ok(None);
     };
-    let Some(head) = head_at(cells, key) else {
+    let Some(popped) = next_of(cells, key, client)? else {
         return Ok(None);
     };
-    drop_spent(cells, key, &head);
-    Ok(Some(PoppedMessage { message, head }))
+    drop_spent(cells, key, &popped.head);
+    Ok(Some(popped))
 }
 
 /// Takes a cell whose only event is a message that was scheduled, with that.
@@ -103,23 +103,25 @@ pub(crate) fn drop_cell(cells: &mut CellStore<Playback<'_>>, key: CellKey)
     cells.take(key);
 }
 
-/// Takes the message of the first event of a cell.
+/// Takes the first event of a cell.
+///
+/// It is passed whose the cell is, since the store cannot be asked that while it lends the cell.
 fn next_of(
     cells: &mut CellStore<Playback<'_>>,
     key: CellKey,
-) -> Result<Option<Message>, OutOfMemory>
-    ensures event { IfOk result (λ r. (c : PlaybackCell) (e : DueMessage) (es : List DueMessage) →
-        map.get cells.old.cells key ≡ Some c
-        → c.1.events ≡ e ∷ es → r ≡ Some e.message) }
+    client: ClientId,
+) -> Result<Option<PoppedMessage>, OutOfMemory>
+    requires { client_at cells.old key ≡ Some client }
+    ensures event { IfOk result (λ r. IsFirstOf cells.old.cells key r) }
     ensures rest { OnOk result ((c : PlaybackCell) (e : DueMessage) (es : List DueMessage) →
         map.get cells.old.cells key ≡ Some c
         → c.1.events ≡ e ∷ es →
         cells.new.cells ≡ map.insert cells.old.cells key (c.0, with_rest c.1 es)) }
-    ensures sizes { OnOk result ((client : ℕ) →
-        size_of cells.new client ≡ size_of cells.old client) }
+    ensures sizes { OnOk result ((other : ℕ) →
+        size_of cells.new other ≡ size_of cells.old other) }
 {
     match cells.get_mut(key) {
-        Some(playing) => playing.next(),
+        Some(playing) => playing.pop_first(client),
         None => Ok(None),
     }
 }

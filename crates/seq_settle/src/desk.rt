@@ -27,8 +27,8 @@ pub trait Desk {
     fn moment_of(&self, queue: &QueueAddr, accepted: u64, due: Due) -> Option<u64>
         ensures { result ≡ moment_at (clients self.now) queue.now accepted due };
 
-    /// Sends a message from a port: a copy along each path, to the input pools that have room. Running out of memory may leave
-    /// some copies sent.
+    /// Sends a message from a port: a copy along each path, to the input pools that have room. Running out of memory
+    /// may leave some copies sent.
     fn send(
         &mut self,
         moment: u64,

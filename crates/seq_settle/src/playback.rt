@@ -8,7 +8,6 @@ ghost use Rattle.seq_settle.specs.Sends.{head_of, first_popped};
 use crate::events::Events;
 use crate::head::{PlaybackHead, PoppedMessage};
 use memory::OutOfMemory;
-use midi_wire::Message;
 use node_table::{ClientId, PortNo, QueueAddr};
 use std::marker::Model;
 
@@ -78,14 +77,21 @@ impl<'b> Playback<'b> {
         }
     }
 
-    /// Takes the message of its first event.
-    pub(crate) fn next(&mut self) -> Result<Option<Message>, OutOfMemory>
+    /// Takes its first event, if there is one, with what a cell of this client says of itself without it.
+    pub(crate) fn pop_first(
+        &mut self,
+        client: ClientId,
+    ) -> Result<Option<PoppedMessage>, OutOfMemory>
         ensures first { IfOk result (λ r. (e : DueMessage) (es : List DueMessage) →
-            self.old.events ≡ e ∷ es → r ≡ Some e.message) }
+            self.old.events ≡ e ∷ es → r ≡ Some (first_popped (client, self.old) e es)) }
         ensures rest { OnOk result ((e : DueMessage) (es : List DueMessage) → self.old.events ≡ e ∷ es →
             self.new ≡ with_rest self.old es) }
     {
-        self.events.next()
+        let Some(message) = self.events.next()? else {
+            return Ok(None);
+        };
+        let head = self.head(client);
+        Ok(Some(PoppedMessage { message, head }))
     }
 
     /// Whether what is left is one message, which was scheduled.

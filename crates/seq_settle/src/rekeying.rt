@@ -21,8 +21,8 @@ use node_table::{ClientId, FIRST_CLIENT, LAST_CLIENT, QueueAddr};
 
 /// Gives all cells on a queue the keys that they have by the queue as it is now.
 ///
-/// `foreign` says whether others may have something on the queue: without it only its owner's cells are looked at. Want
-/// of memory may leave the agenda without a cell.
+/// `foreign` says whether others may have something on the queue: without it only its owner's cells are looked at.
+/// Running out of memory may leave the agenda without a cell.
 pub fn rekey_all<D: Desk, A: Agenda>(
     desk: &D,
     cells: &CellStore<Playback<'_>>,
