@@ -1,5 +1,5 @@
 -- What was read of files that were opened by their paths.
-use Rattle.std.proofs.Common.{◌≡◌, ℕ, ◌+◌, ◌<◌, Bool, List, [], ◌∷◌, ◌++◌, ◌∙◌, length, map, take, get_or, Option, Some, None, refl, sym, ap, subst, inl, inr}
+use Rattle.std.proofs.Common.{◌≡◌, ℕ, ◌+◌, ◌<◌, Bool, List, [], ◌∷◌, ◌++◌, ◌∙◌, length, map, take, get_or, Option, refl, sym, ap, inl, inr}
 use Rattle.std.proofs.lemmas.List.{map_more, take_more}
 use Rattle.seq_session.specs.declared.source.Script.{Script}
 use Rattle.seq_session.specs.declared.source.ScriptSource.{ScriptSource}

@@ -8,7 +8,7 @@ use Rattle.seq_session.specs.Sessions.{FolderContents, log_of, all_logs, listing
 use Rattle.program_tasks.specs.declared.words.ScriptWord.{ScriptWord}
 use Rattle.program_tasks.specs.LogsPrinted.{headed_log, logs_text, printed_text}
 use Rattle.program_tasks.specs.Opened.{AreOfFiles}
-use Rattle.program_tasks.specs.Printed.{headed_logs, session_text}
+use Rattle.program_tasks.specs.Printed.{session_text}
 use Rattle.program_tasks.specs.Sessions.{AreEmpty}
 
 -- empty logs have what was written to them

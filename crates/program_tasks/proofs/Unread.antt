@@ -1,6 +1,6 @@
 -- Why scripts could not be read, from what each step tells.
-use Rattle.std.proofs.Common.{◌≡◌, ◌⊎◌, ◌<◌, ℕ, zero, suc, Bool, true, List, [], ◌∷◌, ◌∙◌, length, drop, get_or, Some, Result, Ok, Err, eq-eqb, inl, inr, sym, ap, subst, arith}
-use Rattle.std.specs.Prelude.{◌==◌, IfErr, IsErrAnd}
+use Rattle.std.proofs.Common.{◌≡◌, ◌⊎◌, ◌<◌, ℕ, zero, suc, Bool, List, [], ◌∷◌, ◌∙◌, length, drop, get_or, Some, Result, Ok, Err, eq-eqb, inl, inr, sym, ap, subst, arith}
+use Rattle.std.specs.Prelude.{IfErr, IsErrAnd}
 use Rattle.seq_session.specs.declared.fault.SessionFault.{SessionFault}
 use Rattle.seq_session.specs.declared.fault.SessionFault.TheVariants as session
 use Rattle.seq_session.specs.declared.source.Script.{Script}

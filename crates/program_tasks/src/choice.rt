@@ -1,11 +1,13 @@
 //! What the program is asked to do.
 
 ghost use Rattle.std.specs.Prelude.{◌≡◌, ◌≢◌, ◌+◌, ◌⊎◌, true, false, Err, IfSome, IfNone, IfErr, OnOk, OnErr, IsErrOf};
+ghost use Rattle.byte_io.specs.Marks.{SinkMarks};
 ghost use Rattle.byte_io.specs.Moved.{GaveSome};
 ghost use Rattle.smf_grammar.specs.declared.fault.SmfFault.TheVariants as smf;
 ghost use Rattle.smf_grammar.specs.Chunks.{most_bytes};
 ghost use Rattle.program_tasks.specs.declared.choice.Tool.{Tool};
 ghost use Rattle.program_tasks.specs.Program.{tool_name, stream_name, IsNamedBy};
+ghost use Rattle.tool_text.specs.Faults.{blames_sink};
 ghost use Rattle.tool_text.specs.Stream.{GaveTooMany};
 ghost use Rattle.program_tasks.specs.Tools.{IsPrinted, IsPrintedInPart, MayTell};
 
@@ -80,9 +82,7 @@ impl Tool {
         ensures read { IsErrOf result ToolFault.Read → (R.failed input.new ≡ true)
             ⊎ GaveTooMany R.HasLeft input.old input.new }
         ensures unread { IsErrOf result ToolFault.OutOfMemory → R.failed input.new ≡ false }
-        ensures write { IsErrOf result ToolFault.Write
-            → (W.failed out.new ≡ true) ⊎ (W.takes_some out.old ≡ false) }
-        ensures unwritten { IsErrOf result ToolFault.OutOfMemory → W.failed out.new ≡ false }
+        ensures marks { SinkMarks W.failed W.takes_some out.old out.new (blames_sink result) }
     {
         match self {
             Tool::Thru => thru_text(alloc, input, out),

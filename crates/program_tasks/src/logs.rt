@@ -1,8 +1,10 @@
 //! The printing of logs.
 
-ghost use Rattle.std.specs.Prelude.{◌≡◌, ◌++◌, ◌⊎◌, true, false, length, IfErr, OnOk, OnErr, IsErrOf};
+ghost use Rattle.std.specs.Prelude.{◌≡◌, ◌++◌, false, length, IfErr, OnOk, OnErr};
 ghost use Rattle.std.specs.Option.{option_map};
+ghost use Rattle.byte_io.specs.Marks.{SinkMarks};
 ghost use Rattle.byte_io.specs.Moved.{Took, TookPart};
+ghost use Rattle.tool_text.specs.Faults.{blames_sink};
 ghost use Rattle.program_tasks.specs.LogsPrinted.{client_heading, headed_log, logs_text, printed_text, IsOfPrinting};
 
 use crate::words::ScriptWord;
@@ -31,12 +33,7 @@ pub fn print_logs<W: Sink>(
         (printed_text scripts.now logs.now (option_map (λ l. l.now) listing.entry)) out.new) }
     ensures short { OnErr result (TookPart W.HasTaken out.old
         (printed_text scripts.now logs.now (option_map (λ l. l.now) listing.entry)) out.new) }
-
-    // `Write` comes where the sink failed or is one that may take no byte, and out of memory is reported only where the
-    // sink did not fail.
-    ensures write { IsErrOf result ToolFault.Write
-        → (W.failed out.new ≡ true) ⊎ (W.takes_some out.old ≡ false) }
-    ensures unwritten { IsErrOf result ToolFault.OutOfMemory → W.failed out.new ≡ false }
+    ensures marks { SinkMarks W.failed W.takes_some out.old out.new (blames_sink result) }
     ensures only { IfErr result IsOfPrinting }
 {
     print_all(alloc, scripts, logs, out)?;
@@ -59,11 +56,7 @@ fn print_all<W: Sink>(
         (Took W.HasTaken out.old (logs_text scripts.now logs.now) out.new) }
     ensures short { OnErr result
         (TookPart W.HasTaken out.old (logs_text scripts.now logs.now) out.new) }
-    ensures eager { W.takes_some out.new ≡ W.takes_some out.old }
-    ensures unmarked { OnOk result (W.failed out.new ≡ false) }
-    ensures write { IsErrOf result ToolFault.Write
-        → (W.failed out.new ≡ true) ⊎ (W.takes_some out.old ≡ false) }
-    ensures unwritten { IsErrOf result ToolFault.OutOfMemory → W.failed out.new ≡ false }
+    ensures marks { SinkMarks W.failed W.takes_some out.old out.new (blames_sink result) }
     ensures only { IfErr result IsOfPrinting }
 {
     let mut line = Vec::new(alloc);
@@ -85,11 +78,7 @@ fn print_log<W: Sink>(
     ensures text { OnOk result (Took W.HasTaken out.old (headed_log client log.now) out.new) }
     ensures short { OnErr result
         (TookPart W.HasTaken out.old (headed_log client log.now) out.new) }
-    ensures eager { W.takes_some out.new ≡ W.takes_some out.old }
-    ensures unmarked { OnOk result (W.failed out.new ≡ false) }
-    ensures write { IsErrOf result ToolFault.Write
-        → (W.failed out.new ≡ true) ⊎ (W.takes_some out.old ≡ false) }
-    ensures unwritten { IsErrOf result ToolFault.OutOfMemory → W.failed out.new ≡ false }
+    ensures marks { SinkMarks W.failed W.takes_some out.old out.new (blames_sink result) }
     ensures only { IfErr result IsOfPrinting }
 {
     line.clear();

@@ -23,8 +23,8 @@ const TEMPO: u32 = 500_000;
 /// each.
 ///
 /// Each message of a channel and each exclusive one stands at the last tick that has come by its moment; system common
-/// and real time messages have no place in a file. `BadEvent` is the fault where more than 268,435,455 ticks lie between
-/// two.
+/// and real time messages have no place in a file. `BadEvent` is the fault where more than 268,435,455 ticks lie
+/// between two.
 pub fn record_file(alloc: Global, log: &RunLog, port: PortAddr) -> Result<Vec<u8>, WriteFault>
     ensures text { IfOk result (λ file. file.items ≡ recording_text port log.now.entries) }
     ensures taken { let events = recording_of port log.now.entries in

@@ -1,9 +1,9 @@
-//! Runs a session call by call for `test/refused-memory`: `refused_memory --until N [CLIENT=PATH..] [FILE..]`. Scripts play a
-//! FILE by that name.
+//! Runs a session call by call for `test/refused-memory`: `refused_memory --until N [CLIENT=PATH..] [FILE..]`. Scripts
+//! play a FILE by that name.
 //!
-//! It prints the lines that are skipped, each reply and each delivery, and at last the listing, with one write for each call.
-//! Where a call runs out of memory, it looks whether that call and those after it keep to what is promised, says which
-//! call it was, and ends with a status of its own; with another where something is otherwise.
+//! It prints the lines that are skipped, each reply and each delivery, and at last the listing, with one write for each
+//! call. Where a call runs out of memory, it looks whether that call and those after it keep to what is promised, says
+//! which call it was, and ends with a status of its own; with another where something is otherwise.
 #![tactic(auto)]
 
 mod ending;

@@ -1,5 +1,5 @@
 -- Definition: The faults of the tools.
-use Rattle.std.specs.Prelude.{◌≡◌, ◌⊎◌, ℕ, List, codes}
+use Rattle.std.specs.Prelude.{◌≡◌, ◌⊎◌, ℕ, Bool, true, false, List, Result, Err, codes}
 use Rattle.memory.specs.Faults.{out_of_memory_text}
 use Rattle.smf_grammar.specs.Faults.{fault_text}
 use Rattle.smf_grammar.specs.declared.fault.SmfFault.{SmfFault}
@@ -25,6 +25,11 @@ IsOfStream (Smf x) = ⊥
 IsOfStream OutOfMemory = Unit {0}
 IsOfStream Read = Unit {0}
 IsOfStream Write = Unit {0}
+
+-- whether an answer blames the sink
+abbrev pub blames_sink : {A : Type 0} → Result A ToolFault → Bool
+blames_sink (Err Write) = true
+blames_sink _ = false
 
 -- a fault of printing
 abbrev pub IsOutput : ToolFault → Type 0

@@ -1,11 +1,12 @@
 //! What a Standard MIDI File says.
 
-ghost use Rattle.std.specs.Prelude.{◌≡◌, ◌≢◌, ◌+◌, ◌++◌, ◌⊎◌, [], true, false, Err, IfErr, OnOk, OnErr, IsErrOf};
+ghost use Rattle.std.specs.Prelude.{◌≡◌, ◌≢◌, ◌+◌, ◌++◌, [], true, false, Err, IfErr, OnOk, OnErr, IsErrOf};
 ghost use Rattle.std.specs.List.{flat_map};
+ghost use Rattle.byte_io.specs.Marks.{SinkMarks};
 ghost use Rattle.byte_io.specs.Moved.{GaveSome, Took};
 ghost use Rattle.smf_grammar.specs.declared.fault.SmfFault.TheVariants as smf;
 ghost use Rattle.smf_grammar.specs.Chunks.{most_bytes};
-ghost use Rattle.tool_text.specs.Faults.{IsOutput};
+ghost use Rattle.tool_text.specs.Faults.{blames_sink, IsOutput};
 ghost use Rattle.tool_text.specs.Gathered.{IsGathered, TookFirst};
 ghost use Rattle.tool_text.specs.Dump.{head_line, tempo_line, event_line, skipped_line, dump_of, IsDumped, IsDumpedInPart, TellsFault};
 
@@ -43,9 +44,7 @@ pub fn dump_text<R: Source, W: Sink>(
     ensures memory { result ≢ Err (ToolFault.Smf smf.OutOfMemory) }
     ensures read { IsErrOf result ToolFault.Read → R.failed input.new ≡ true }
     ensures unread { IsErrOf result ToolFault.OutOfMemory → R.failed input.new ≡ false }
-    ensures write { IsErrOf result ToolFault.Write
-        → (W.failed out.new ≡ true) ⊎ (W.takes_some out.old ≡ false) }
-    ensures unwritten { IsErrOf result ToolFault.OutOfMemory → W.failed out.new ≡ false }
+    ensures marks { SinkMarks W.failed W.takes_some out.old out.new (blames_sink result) }
 {
     let bytes = match read_to(alloc, input, MOST + 1) {
         Ok(bytes) => bytes,
@@ -68,9 +67,7 @@ fn print_file<W: Sink>(alloc: Global, file: &SmfFile<'_>, out: &mut W) -> Result
     requires { W.failed out.old ≡ false }
     ensures text { OnOk result (Took W.HasTaken out.old (dump_of file.now) out.new) }
     ensures short { OnErr result (TookFirst W.HasTaken out.old (dump_of file.now) out.new) }
-    ensures write { IsErrOf result ToolFault.Write
-        → (W.failed out.new ≡ true) ⊎ (W.takes_some out.old ≡ false) }
-    ensures unwritten { IsErrOf result ToolFault.OutOfMemory → W.failed out.new ≡ false }
+    ensures marks { SinkMarks W.failed W.takes_some out.old out.new (blames_sink result) }
     ensures only { IfErr result IsOutput }
 {
     let mut cursor = file.cursor()?;
@@ -141,11 +138,7 @@ fn print_tempos<W: Sink>(
         (text.old.items ++ flat_map tempo_line entries.now)) }
     ensures short { OnErr result (TookFirst W.HasTaken out.old
         (text.old.items ++ flat_map tempo_line entries.now) out.new) }
-    ensures unmarked { OnOk result (W.failed out.new ≡ false) }
-    ensures eager { W.takes_some out.new ≡ W.takes_some out.old }
-    ensures write { IsErrOf result ToolFault.Write
-        → (W.failed out.new ≡ true) ⊎ (W.takes_some out.old ≡ false) }
-    ensures unwritten { IsErrOf result ToolFault.OutOfMemory → W.failed out.new ≡ false }
+    ensures marks { SinkMarks W.failed W.takes_some out.old out.new (blames_sink result) }
     ensures only { IfErr result IsOutput }
 {
     for entry in entries {
@@ -167,11 +160,7 @@ fn print_events<W: Sink>(
         (text.old.items ++ flat_map event_line cursor.old)) }
     ensures short { OnErr result (TookFirst W.HasTaken out.old
         (text.old.items ++ flat_map event_line cursor.old) out.new) }
-    ensures unmarked { OnOk result (W.failed out.new ≡ false) }
-    ensures eager { W.takes_some out.new ≡ W.takes_some out.old }
-    ensures write { IsErrOf result ToolFault.Write
-        → (W.failed out.new ≡ true) ⊎ (W.takes_some out.old ≡ false) }
-    ensures unwritten { IsErrOf result ToolFault.OutOfMemory → W.failed out.new ≡ false }
+    ensures marks { SinkMarks W.failed W.takes_some out.old out.new (blames_sink result) }
     ensures only { IfErr result IsOutput }
 {
     let mut bytes = Vec::new(alloc);

@@ -1,11 +1,12 @@
 //! Text that is printed as it comes, and text that is gathered and printed piece by piece.
 
 ghost use Rattle.std.specs.Prelude.{◌≡◌, ◌<◌, ◌+◌, ◌++◌, ◌⊎◌, ℕ, List, [], true, false, length, IfErr, OnOk, OnErr, IsErrOf};
+ghost use Rattle.byte_io.specs.Marks.{SinkMarks};
 ghost use Rattle.byte_io.specs.Moved.{GaveSome, Took, TookPart};
 ghost use Rattle.smf_grammar.specs.Chunks.{most_bytes};
 ghost use Rattle.tool_text.specs.Gathered.{IsGathered, TookFirst};
 ghost use Rattle.tool_text.specs.Stream.{HasRoom, IsPassed, IsRenderedInPart, GaveTooMany};
-ghost use Rattle.tool_text.specs.Faults.{IsOfStream, IsOutput};
+ghost use Rattle.tool_text.specs.Faults.{blames_sink, IsOfStream, IsOutput};
 
 use crate::fault::ToolFault;
 use crate::limits::{CHUNK, MOST};
@@ -61,14 +62,9 @@ pub(crate) fn print_stream<R: Source, W: Sink, P: Printer>(
     ensures read { IsErrOf result ToolFault.Read → (R.failed input.new ≡ true)
         ⊎ GaveTooMany R.HasLeft input.old input.new }
     ensures unread { IsErrOf result ToolFault.OutOfMemory → R.failed input.new ≡ false }
-    ensures write { IsErrOf result ToolFault.Write
-        → (W.failed out.new ≡ true) ⊎ (W.takes_some out.old ≡ false) }
-    ensures unwritten { IsErrOf result ToolFault.OutOfMemory → W.failed out.new ≡ false }
-    ensures only { IfErr result IsOfStream }
-
     ensures input_unmarked { OnOk result (R.failed input.new ≡ false) }
-    ensures out_unmarked { OnOk result (W.failed out.new ≡ false) }
-    ensures eager { W.takes_some out.new ≡ W.takes_some out.old }
+    ensures marks { SinkMarks W.failed W.takes_some out.old out.new (blames_sink result) }
+    ensures only { IfErr result IsOfStream }
 {
     let mut text = Vec::new(alloc);
     let mut chunk = [0u8; CHUNK];
@@ -97,9 +93,7 @@ pub fn send<W: Sink>(out: &mut W, text: &[u8]) -> Result<(), ToolFault>
     requires { W.failed out.old ≡ false }
     ensures written { OnOk result (Took W.HasTaken out.old text.now out.new) }
     ensures part { OnErr result (TookPart W.HasTaken out.old text.now out.new) }
-    ensures eager { W.takes_some out.new ≡ W.takes_some out.old }
-    ensures unmarked { OnOk result (W.failed out.new ≡ false) }
-    ensures write { OnErr result ((W.failed out.new ≡ true) ⊎ (W.takes_some out.old ≡ false)) }
+    ensures marks { SinkMarks W.failed W.takes_some out.old out.new (blames_sink result) }
     ensures only { IfErr result (λ e. e ≡ ToolFault.Write) }
 {
     if write_all(out, text).is_err() {
@@ -115,11 +109,7 @@ pub(crate) fn spill<W: Sink>(text: &mut Vec<u8>, out: &mut W) -> Result<(), Tool
     ensures sent { OnOk result
         (IsGathered W.HasTaken out.old out.new text.new.items [] text.old.items) }
     ensures short { OnErr result (TookFirst W.HasTaken out.old text.old.items out.new) }
-    ensures unmarked { OnOk result (W.failed out.new ≡ false) }
-    ensures eager { W.takes_some out.new ≡ W.takes_some out.old }
-    ensures write { IsErrOf result ToolFault.Write
-        → (W.failed out.new ≡ true) ⊎ (W.takes_some out.old ≡ false) }
-    ensures unwritten { IsErrOf result ToolFault.OutOfMemory → W.failed out.new ≡ false }
+    ensures marks { SinkMarks W.failed W.takes_some out.old out.new (blames_sink result) }
     ensures only { IfErr result IsOutput }
 {
     if text.len() < PIECE {
@@ -134,11 +124,7 @@ pub(crate) fn flush<W: Sink>(text: &mut Vec<u8>, out: &mut W) -> Result<(), Tool
     ensures sent { OnOk result (Took W.HasTaken out.old text.old.items out.new) }
     ensures empty { OnOk result (text.new.items ≡ []) }
     ensures short { OnErr result (TookFirst W.HasTaken out.old text.old.items out.new) }
-    ensures unmarked { OnOk result (W.failed out.new ≡ false) }
-    ensures eager { W.takes_some out.new ≡ W.takes_some out.old }
-    ensures write { IsErrOf result ToolFault.Write
-        → (W.failed out.new ≡ true) ⊎ (W.takes_some out.old ≡ false) }
-    ensures unwritten { IsErrOf result ToolFault.OutOfMemory → W.failed out.new ≡ false }
+    ensures marks { SinkMarks W.failed W.takes_some out.old out.new (blames_sink result) }
     ensures only { IfErr result IsOutput }
 {
     send(out, text.as_slice())?;

@@ -3,12 +3,13 @@
 ghost use Rattle.std.specs.Prelude.{◌≡◌, ◌≤◌, ◌<◌, ◌+◌, ◌*◌, ◌++◌, ◌⊎◌, ◌^◌, [], true, false, length, IfOk, IfErr, OnOk, OnErr, IsErrOf};
 ghost use Rattle.std.specs.List.{flat_map};
 ghost use Rattle.midi_wire.specs.Readings.{rest};
+ghost use Rattle.byte_io.specs.Marks.{SinkMarks};
 ghost use Rattle.byte_io.specs.Moved.{GaveSome};
 ghost use Rattle.smf_grammar.specs.Chunks.{most_bytes};
 ghost use Rattle.std.specs.FinMap as map;
 ghost use Rattle.std.specs.Int.RustNames.{bit_or};
 ghost use Rattle.seq_state.specs.Step.{port_addr, step};
-ghost use Rattle.tool_text.specs.Faults.{IsOfStream};
+ghost use Rattle.tool_text.specs.Faults.{blames_sink, IsOfStream};
 ghost use Rattle.tool_text.specs.Stream.{message_lines, IsRendered, IsRenderedInPart, GaveTooMany};
 ghost use Rattle.seq_engine.specs.Begun.{seen_at_start};
 ghost use Rattle.tool_text.specs.Thru.{passage_line, thru_line, thru_text, fed_stream, input_at_start, engine_joined};
@@ -49,14 +50,12 @@ pub fn thru_text<R: Source, W: Sink>(
         input.old input.new out.old out.new) }
     ensures bounded { GaveSome R.HasLeft (most_bytes + 1) input.old input.new }
 
-    // `Read` comes where a read failed or there were too many bytes, `Write` where the sink failed or is one that may
-    // take no byte, and out of memory is reported only where neither device failed.
+    // `Read` comes where a read failed or there were too many bytes, and out of memory is reported only where the source
+    // did not fail. Only `Write` blames the sink.
     ensures read { IsErrOf result ToolFault.Read → (R.failed input.new ≡ true)
         ⊎ GaveTooMany R.HasLeft input.old input.new }
     ensures unread { IsErrOf result ToolFault.OutOfMemory → R.failed input.new ≡ false }
-    ensures write { IsErrOf result ToolFault.Write
-        → (W.failed out.new ≡ true) ⊎ (W.takes_some out.old ≡ false) }
-    ensures unwritten { IsErrOf result ToolFault.OutOfMemory → W.failed out.new ≡ false }
+    ensures marks { SinkMarks W.failed W.takes_some out.old out.new (blames_sink result) }
     ensures only { IfErr result IsOfStream }
 {
     let mut passage = Passage::new(alloc, HeapAgenda::new(alloc))?;

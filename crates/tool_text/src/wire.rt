@@ -4,10 +4,11 @@ ghost use Rattle.std.specs.Prelude.{◌≡◌, ◌+◌, ◌++◌, ◌⊎◌, [],
 ghost use Rattle.std.specs.List.{flat_map};
 ghost use Rattle.midi_wire.specs.Readings.{reading, rest};
 ghost use Rattle.midi_wire.specs.Writings.{written_after, status_after_all};
+ghost use Rattle.byte_io.specs.Marks.{SinkMarks};
 ghost use Rattle.byte_io.specs.Moved.{GaveSome, Took};
 ghost use Rattle.smf_grammar.specs.Chunks.{most_bytes};
 ghost use Rattle.text_forms.specs.Hex.{spaced_hex, hex_line};
-ghost use Rattle.tool_text.specs.Faults.{IsOfStream, IsOutput};
+ghost use Rattle.tool_text.specs.Faults.{blames_sink, IsOfStream, IsOutput};
 ghost use Rattle.tool_text.specs.Gathered.{IsGathered, TookFirst};
 ghost use Rattle.tool_text.specs.Stream.{message_lines, IsRendered, IsRenderedInPart, GaveTooMany};
 ghost use Rattle.tool_text.specs.Wire.{written_line, wire_text, IsCopied};
@@ -42,14 +43,12 @@ pub fn wire_text<R: Source, W: Sink>(
         input.old input.new out.old out.new) }
     ensures bounded { GaveSome R.HasLeft (most_bytes + 1) input.old input.new }
 
-    // `Read` comes where a read failed or there were too many bytes, `Write` where the sink failed or is one that may
-    // take no byte, and out of memory is reported only where neither device failed.
+    // `Read` comes where a read failed or there were too many bytes, and out of memory is reported only where the source
+    // did not fail. Only `Write` blames the sink.
     ensures read { IsErrOf result ToolFault.Read → (R.failed input.new ≡ true)
         ⊎ GaveTooMany R.HasLeft input.old input.new }
     ensures unread { IsErrOf result ToolFault.OutOfMemory → R.failed input.new ≡ false }
-    ensures write { IsErrOf result ToolFault.Write
-        → (W.failed out.new ≡ true) ⊎ (W.takes_some out.old ≡ false) }
-    ensures unwritten { IsErrOf result ToolFault.OutOfMemory → W.failed out.new ≡ false }
+    ensures marks { SinkMarks W.failed W.takes_some out.old out.new (blames_sink result) }
     ensures only { IfErr result IsOfStream }
 {
     let mut copier = Copier::new(alloc);
@@ -156,9 +155,7 @@ fn print_written<W: Sink>(alloc: Global, written: &[u8], out: &mut W) -> Result<
     requires { W.failed out.old ≡ false }
     ensures text { OnOk result (Took W.HasTaken out.old (written_line written.now) out.new) }
     ensures short { OnErr result (TookFirst W.HasTaken out.old (written_line written.now) out.new) }
-    ensures write { IsErrOf result ToolFault.Write
-        → (W.failed out.new ≡ true) ⊎ (W.takes_some out.old ≡ false) }
-    ensures unwritten { IsErrOf result ToolFault.OutOfMemory → W.failed out.new ≡ false }
+    ensures marks { SinkMarks W.failed W.takes_some out.old out.new (blames_sink result) }
     ensures only { IfErr result IsOutput }
 {
     let mut text = Vec::new(alloc);
@@ -175,11 +172,7 @@ fn print_spaced<W: Sink>(bytes: &[u8], text: &mut Vec<u8>, out: &mut W) -> Resul
         (text.old.items ++ spaced_hex bytes.now)) }
     ensures short { OnErr result (TookFirst W.HasTaken out.old
         (text.old.items ++ spaced_hex bytes.now) out.new) }
-    ensures unmarked { OnOk result (W.failed out.new ≡ false) }
-    ensures eager { W.takes_some out.new ≡ W.takes_some out.old }
-    ensures write { IsErrOf result ToolFault.Write
-        → (W.failed out.new ≡ true) ⊎ (W.takes_some out.old ≡ false) }
-    ensures unwritten { IsErrOf result ToolFault.OutOfMemory → W.failed out.new ≡ false }
+    ensures marks { SinkMarks W.failed W.takes_some out.old out.new (blames_sink result) }
     ensures only { IfErr result IsOutput }
 {
     for part in bytes.chunks(PART) {

@@ -97,7 +97,8 @@ fn reads_each_form(rt: HostRuntime) -> Result<(), Fail> {
     Ok(())
 }
 
-/// A line that cannot be read, a late one, and one past the end. The line after it is taken, though no line end follows.
+/// A line that cannot be read, a late one, and one past the end. The line after it is taken, though no line end
+/// follows.
 #[test]
 fn skips_hostile_lines(rt: HostRuntime) -> Result<(), Fail> {
     let text = b"0 open x 1 1\nzzz\n1 port 0 in 66\n0 close\n2 connect 128:p0 131:p0\n99 close\n\

@@ -59,8 +59,8 @@ fn assert_writes(
     Ok(())
 }
 
-/// A tool prints a text of bytes in so many reads. Where one of them fails, it prints a first part of the text, and of a
-/// file nothing.
+/// A tool prints a text of bytes in so many reads. Where one of them fails, it prints a first part of the text, and of
+/// a file nothing.
 fn assert_reads(
     rt: &impl Abort,
     alloc: Global,

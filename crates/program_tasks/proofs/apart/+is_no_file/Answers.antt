@@ -1,8 +1,8 @@
-use Rattle.std.proofs.Common.{◌≡◌, true, inl, inr, rules}
+use Rattle.std.proofs.Common.{rules}
 use Rattle.std.specs.Prelude.{string_bytes}
 use Rattle.std.proofs.lemmas.Result.{IfOk-weaker}
 use Rattle.program_tasks.specs.Opened.{path_in}
-use Rattle.program_tasks.proofs.Files.{files_apart, one_file_here, one_file_more}
+use Rattle.program_tasks.proofs.Files.{files_apart, one_file_more}
 use Rattle.program_tasks.proofs.apart.+is_no_file.Goals as goal
 
 pub returns-clause-apart : goal.returns-clause-apart

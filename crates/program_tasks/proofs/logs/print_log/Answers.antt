@@ -1,4 +1,3 @@
-use Rattle.std.proofs.Common.{◌∙◌}
 use Rattle.std.proofs.lemmas.Result.{on_err_weaker, on_ok_weaker}
 use Rattle.memory.proofs.Outcomes.{on_err}
 use Rattle.byte_io.proofs.Moved.{took_more}

@@ -1,7 +1,7 @@
-use Rattle.std.proofs.Common.{◌≡◌, ◌∙◌, map, Some, None, ap, subst, rules}
+use Rattle.std.proofs.Common.{◌≡◌, ◌∙◌, map, Some, ap, subst}
 use Rattle.std.specs.Option.{option_map}
 use Rattle.byte_io.specs.Moved.{Took}
-use Rattle.seq_session.specs.Sessions.{all_logs, listing_after}
+use Rattle.seq_session.specs.Sessions.{all_logs}
 use Rattle.program_tasks.specs.LogsPrinted.{printed_text}
 use Rattle.program_tasks.specs.Opened.{AreOfFiles}
 use Rattle.program_tasks.specs.Printed.{session_text}

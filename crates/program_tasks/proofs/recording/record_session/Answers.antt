@@ -1,7 +1,6 @@
-use Rattle.std.proofs.Common.{◌≡◌, ◌∙◌, ap, inl, inr, subst}
+use Rattle.std.proofs.Common.{◌∙◌, ap, inl, inr, subst}
 use Rattle.std.proofs.lemmas.Result.{on_ok_weaker}
 use Rattle.seq_session.specs.Devices.{AreRead, ReadersTell, clients, reader_blamed}
-use Rattle.seq_session.specs.Sessions.{happens}
 use Rattle.program_tasks.specs.Faults.{IsOfEvents}
 use Rattle.program_tasks.specs.Recorded.{recorded_text, IsFileWritten}
 use Rattle.program_tasks.proofs.Files.{of_files}

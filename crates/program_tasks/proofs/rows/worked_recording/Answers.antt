@@ -1,4 +1,4 @@
-use Rattle.std.proofs.Common.{◌≡◌, ◌∙◌, ap, refl, arith}
+use Rattle.std.proofs.Common.{◌≡◌, ◌∙◌, ap, arith}
 use Rattle.midi_wire.specs.Messages.{begins}
 use Rattle.smf_grammar.specs.Texts.{shortest, file_text}
 use Rattle.tempo_clock.specs.Ticks.{numerator, duration, tempo_or, resolution, tick_at}

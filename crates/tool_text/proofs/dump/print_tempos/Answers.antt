@@ -1,4 +1,4 @@
-use Rattle.std.proofs.Common.{◌∙◌}
+use Rattle.std.proofs.Common.{◌∙◌, refl}
 use Rattle.memory.proofs.Outcomes.{on_err}
 use Rattle.tool_text.specs.Dump.{tempo_line}
 use Rattle.tool_text.proofs.Pieces.{goes-line, stops-line, goes-stops}
@@ -14,6 +14,6 @@ returns-in_err-spill-clause-short g c = on_err c.from_residual-in_err-spill.resu
 pub loop-entry-preserved : goal.loop-entry-preserved
 loop-entry-preserved g c = record {
   goes = goes-line g.W.Sink.HasTaken tempo_line _ _ _ _ _ _ _ _ _ _ c.loop-entry-test.true c.loop-entry.invariant.goes c.in_ok-push_tempo.ensures c.in_ok-spill.ensures.sent;
-  unmarked = c.in_ok-spill.ensures.unmarked;
-  eager = c.spill.ensures.eager ∙ c.loop-entry.invariant.eager;
+  unmarked = c.in_ok-spill.ensures.marks.unmarked refl;
+  eager = c.spill.ensures.marks.eager ∙ c.loop-entry.invariant.eager;
 }

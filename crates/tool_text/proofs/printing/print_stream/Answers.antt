@@ -1,4 +1,4 @@
-use Rattle.std.proofs.Common.{[], inr, arith, rules}
+use Rattle.std.proofs.Common.{◌∙◌, [], inr, refl, arith, rules}
 use Rattle.std.proofs.lemmas.List.{length-take}
 use Rattle.memory.proofs.Outcomes.{on_err}
 use Rattle.tool_text.proofs.Passed.{passed_more, all_passed, stops, stops_within, gave_few, gave_too_many}
@@ -40,8 +40,8 @@ returns-in_err-flush-clause-bounded g c = gave_few g.R.Source.HasLeft g.W.Sink.H
 pub pieces-preserved : goal.pieces-preserved
 pieces-preserved g c = record {
   input_sound = search rules;
-  out_sound = search rules;
-  eager = search rules;
+  out_sound = c.in_ok-flush.ensures.marks.unmarked refl;
+  eager = c.flush.ensures.marks.eager ∙ c.pieces.invariant.eager;
   space = search rules;
   empty = search rules;
   passed =

@@ -1,4 +1,4 @@
-use Rattle.std.proofs.Common.{◌∙◌, arith}
+use Rattle.std.proofs.Common.{◌∙◌, refl, arith}
 use Rattle.std.proofs.lemmas.List.{nil_from_length}
 use Rattle.std.specs.Slice.Iter.{chunks_rest}
 use Rattle.memory.proofs.Outcomes.{on_err}
@@ -21,8 +21,8 @@ loop-part-preserved g c =
       finite = tt;
       size = kept;
       goes = goes-part g.W.Sink.HasTaken _ _ _ _ _ _ _ _ _ _ c.in-Some.ensures.steps.1.0 was.goes c.in_ok-push_spaced.ensures.ok c.in_ok-spill.ensures.sent;
-      unmarked = c.in_ok-spill.ensures.unmarked;
-      eager = c.spill.ensures.eager ∙ was.eager;
+      unmarked = c.in_ok-spill.ensures.marks.unmarked refl;
+      eager = c.spill.ensures.marks.eager ∙ was.eager;
     }
 
 pub returns-clause-sent : goal.returns-clause-sent
