@@ -1,5 +1,5 @@
 -- The lost copies, client by client.
-use Rattle.std.proofs.Common.{◌≡◌, ◌⊎◌, inl, inr, ◌+◌, ◌-◌, ◌<◌, ◌≤◌, ℕ, false, cond, min, List, [], ◌∷◌, length, get_or, None, refl, sym, ap, subst, ◌∙◌, arith}
+use Rattle.std.proofs.Common.{◌≡◌, ◌⊎◌, inl, inr, ◌+◌, ◌-◌, ◌<◌, ◌≤◌, ℕ, false, cond, min, List, [], ◌∷◌, length, None, refl, sym, ap, subst, ◌∙◌, arith}
 use Rattle.std.specs.FinMap.{get}
 use Rattle.std.proofs.lemmas.Bool.{cases_lt, cases_eq, eq-eqb}
 use Rattle.seq_state.specs.declared.log.Delivery.{Delivery}
@@ -8,7 +8,7 @@ use Rattle.seq_clients.proofs.Changing.{get-put_same, get-put_other}
 use Rattle.seq_state.specs.Step.{pool_has_room, pools_after, copies_with_room}
 use Rattle.seq_sending.specs.Rooms.{room_of, for_client, copies_for, with_losses}
 use Rattle.seq_sending.proofs.Rooms.{Pools, firsts, has-room, losses_law}
-use Rattle.std.specs.Prelude.{nat_lt}
+use Rattle.std.specs.Prelude.{nat_lt, slice_index}
 use Rattle.std.proofs.lemmas.List.{length-take}
 use Rattle.std.proofs.lemmas.Bool.Decides.{nat_tests}
 
@@ -20,13 +20,13 @@ module _ (was now after : Pools) (row : ℕ) (n : ℕ) (e : after ≡ with_entry
   pub this-loses : get now (128 + row) ≡ get was (128 + row) → get after (128 + row) ≡ with_losses n (get was (128 + row))
   this-loses same = ap (λ p. get p (128 + row)) e ∙ get-put_same now (128 + row) (with_losses n (get now (128 + row))) ∙ ap (with_losses n) same
 
-  pub lose-more : (counts : List ℕ) → n ≡ get_or counts row 0 → get now (128 + row) ≡ get was (128 + row) →
-      ((r : ℕ) → r < row → get now (128 + r) ≡ with_losses (get_or counts r 0) (get was (128 + r))) →
-      (r : ℕ) → r < row + 1 → get after (128 + r) ≡ with_losses (get_or counts r 0) (get was (128 + r))
+  pub lose-more : (counts : List ℕ) → n ≡ slice_index counts row → get now (128 + row) ≡ get was (128 + row) →
+      ((r : ℕ) → r < row → get now (128 + r) ≡ with_losses (slice_index counts r) (get was (128 + r))) →
+      (r : ℕ) → r < row + 1 → get after (128 + r) ≡ with_losses (slice_index counts r) (get was (128 + r))
   lose-more counts at same before r low = go (cases_eq r row)
     where
-      go : (r ≡ row) ⊎ (r ≡ row → ⊥) → get after (128 + r) ≡ with_losses (get_or counts r 0) (get was (128 + r))
-      go (inl here) = subst (λ k. get after (128 + k) ≡ with_losses (get_or counts k 0) (get was (128 + k))) (sym here) (this-loses same ∙ ap (λ k. with_losses k (get was (128 + row))) at)
+      go : (r ≡ row) ⊎ (r ≡ row → ⊥) → get after (128 + r) ≡ with_losses (slice_index counts r) (get was (128 + r))
+      go (inl here) = subst (λ k. get after (128 + k) ≡ with_losses (slice_index counts k) (get was (128 + k))) (sym here) (this-loses same ∙ ap (λ k. with_losses k (get was (128 + row))) at)
       go (inr apart) =
           let m : r < row = less r row low apart in
           others-stay (128 + r) (λ f. apart (same-row r row f)) ∙ before r m
@@ -39,10 +39,10 @@ module _ (was now after : Pools) (row : ℕ) (n : ℕ) (e : after ≡ with_entry
 
 -- where all rows lost what is beyond their room, and nobody else has a pool
 pub all-lost : (was counted : Pools) (ds : List Delivery) (counts : List ℕ) →
-    ((row : ℕ) → row < 64 → get counted (128 + row) ≡ with_losses (get_or counts row 0) (get was (128 + row))) →
+    ((row : ℕ) → row < 64 → get counted (128 + row) ≡ with_losses (slice_index counts row) (get was (128 + row))) →
     ((c : ℕ) → (c < 128) ⊎ (192 ≤ c) → get counted c ≡ get was c) →
     ((c : ℕ) → (c < 128) ⊎ (192 ≤ c) → get was c ≡ None) →
-    ((row : ℕ) → row < 64 → get_or counts row 0 ≡ copies_for (128 + row) ds) →
+    ((row : ℕ) → row < 64 → slice_index counts row ≡ copies_for (128 + row) ds) →
     (c : ℕ) → get counted c ≡ with_losses (copies_for c ds) (get was c)
 all-lost was counted ds counts lost others nobody number c = go (cases_lt c 128) (cases_lt c 192)
   where
@@ -88,8 +88,8 @@ none-found pools ds h = go (copies_with_room pools ds) refl
 pub rows-none : (was counted : Pools) (ds : List Delivery) (counts : List ℕ) →
     ((c : ℕ) → (c < 128) ⊎ (192 ≤ c) → get counted c ≡ get was c) →
     ((c : ℕ) → (c < 128) ⊎ (192 ≤ c) → get was c ≡ None) →
-    ((row : ℕ) → row < 64 → get_or counts row 0 ≡ copies_for (128 + row) ds) →
-    ((row : ℕ) → row < 64 → (get_or counts row 0 ≡ 0) ⊎ (pool_has_room (get counted (128 + row)) ≡ false)) →
+    ((row : ℕ) → row < 64 → slice_index counts row ≡ copies_for (128 + row) ds) →
+    ((row : ℕ) → row < 64 → (slice_index counts row ≡ 0) ⊎ (pool_has_room (get counted (128 + row)) ≡ false)) →
     copies_with_room counted ds ≡ []
 rows-none was counted ds counts others nobody number rows = none-found counted ds (λ c. go c (cases_lt c 128) (cases_lt c 192))
   where
@@ -105,15 +105,15 @@ rows-none was counted ds counts others nobody number rows = none-found counted d
         let l : row < 64 = omega arith in
         subst (λ k. (copies_for k ds ≡ 0) ⊎ (pool_has_room (get counted k) ≡ false)) e (turn row l (rows row l))
       where
-        turn : (row : ℕ) → row < 64 → (get_or counts row 0 ≡ 0) ⊎ (pool_has_room (get counted (128 + row)) ≡ false) → (copies_for (128 + row) ds ≡ 0) ⊎ (pool_has_room (get counted (128 + row)) ≡ false)
+        turn : (row : ℕ) → row < 64 → (slice_index counts row ≡ 0) ⊎ (pool_has_room (get counted (128 + row)) ≡ false) → (copies_for (128 + row) ds ≡ 0) ⊎ (pool_has_room (get counted (128 + row)) ≡ false)
         turn row l (inl z) = inl (sym (number row l) ∙ z)
         turn row l (inr z) = inr z
 
 -- so the losses may be counted first, by the numbers of the rows
 pub counted-first : (was counted : Pools) (ds : List Delivery) (counts : List ℕ) →
-    ((row : ℕ) → row < 64 → get counted (128 + row) ≡ with_losses (get_or counts row 0) (get was (128 + row))) →
+    ((row : ℕ) → row < 64 → get counted (128 + row) ≡ with_losses (slice_index counts row) (get was (128 + row))) →
     ((c : ℕ) → (c < 128) ⊎ (192 ≤ c) → get counted c ≡ get was c) →
     ((c : ℕ) → (c < 128) ⊎ (192 ≤ c) → get was c ≡ None) →
-    ((row : ℕ) → row < 64 → get_or counts row 0 ≡ copies_for (128 + row) ds) →
+    ((row : ℕ) → row < 64 → slice_index counts row ≡ copies_for (128 + row) ds) →
     (pools_after counted (copies_with_room counted ds) ≡ pools_after was ds) × (copies_with_room counted ds ≡ copies_with_room was ds)
 counted-first was counted ds counts lost others nobody number = losses_law was counted ds (all-lost was counted ds counts lost others nobody number)

@@ -1,8 +1,8 @@
 //! What goes along the subscriptions: the ways from a port, and the copies that a message leaves at their ends.
 //!
 //! `specs/Carrying.antt` says which copies come of a message. Filters one after another are one rule, so that a message
-//! is changed once on a way. Where the ways are too many to walk, the copies are counted by the nodes that they come to,
-//! and those ways alone are walked on which one finds room.
+//! is changed once on a way. Where the ways are too many to walk, the copies are counted by the nodes that they come
+//! to, and those ways alone are walked on which one finds room.
 #![tactic(auto)]
 
 mod barren;

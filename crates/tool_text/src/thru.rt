@@ -50,8 +50,8 @@ pub fn thru_text<R: Source, W: Sink>(
         input.old input.new out.old out.new) }
     ensures bounded { GaveSome R.HasLeft (most_bytes + 1) input.old input.new }
 
-    // `Read` comes where a read failed or there were too many bytes, and out of memory is reported only where the source
-    // did not fail. Only `Write` blames the sink.
+    // `Read` comes where a read failed or there were too many bytes, and out of memory is reported only where the
+    // source did not fail. Only `Write` blames the sink.
     ensures read { IsErrOf result ToolFault.Read → (R.failed input.new ≡ true)
         ⊎ GaveTooMany R.HasLeft input.old input.new }
     ensures unread { IsErrOf result ToolFault.OutOfMemory → R.failed input.new ≡ false }

@@ -1,4 +1,5 @@
-use Rattle.std.proofs.Common.{◌≡◌, inl, inr, ◌+◌, ◌-◌, ◌≤◌, ℕ, get_or, refl, ap, subst, ◌∙◌, arith}
+use Rattle.std.proofs.Common.{◌≡◌, inl, inr, ◌+◌, ◌-◌, ◌≤◌, ℕ, refl, ap, subst, ◌∙◌, arith}
+use Rattle.std.specs.Prelude.{slice_index}
 use Rattle.std.specs.FinMap.{get}
 use Rattle.seq_state.specs.State.{with_entry}
 use Rattle.seq_clients.specs.Roster.{Roster}
@@ -14,7 +15,7 @@ loop-row-preserved c =
     let was = a.clients.now.pools in
     let now = l.clients.pools in
     let after = c.lose_beyond.new.self.pools in
-    let n : ℕ = get_or a.counts.now l.row 0 in
+    let n : ℕ = slice_index a.counts.now l.row in
     let e : after ≡ with_entry now (128 + l.row) (with_losses n (get now (128 + l.row))) =
     ap (λ (r : Roster). r.pools) c.lose_beyond.ensures ∙ ap (λ k. with_entry now k (with_losses n (get now k))) c.client_of.ensures in
     let here : l.row ≤ l.row = omega arith in

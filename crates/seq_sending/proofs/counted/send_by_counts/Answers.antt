@@ -1,4 +1,5 @@
-use Rattle.std.proofs.Common.{◌≡◌, ◌<◌, ◌+◌, ◌++◌, ℕ, List, [], get_or, append-nil, sym, ap, ◌∙◌}
+use Rattle.std.proofs.Common.{◌≡◌, ◌<◌, ◌+◌, ◌++◌, ℕ, List, [], append-nil, sym, ap, ◌∙◌}
+use Rattle.std.specs.Prelude.{slice_index}
 use Rattle.patch_graph.specs.Paths.{hops}
 use Rattle.seq_state.specs.declared.log.Delivery.{Delivery}
 use Rattle.seq_state.specs.Step.{pools_after, copies_with_room}
@@ -17,7 +18,7 @@ returns-clause-pools g c =
     let counted = c.lose_all.new.clients.pools in
     let m : List ℕ = g.M.Carried.bytes a.message.now in
     let ds : List Delivery = copies_onward a.clients.now.clients a.graph.now a.moment hops a.targets.now m in
-    let number : (row : ℕ) → row < 64 → get_or a.counts.now row 0 ≡ copies_for (128 + row) ds =
+    let number : (row : ℕ) → row < 64 → slice_index a.counts.now row ≡ copies_for (128 + row) ds =
     λ row low. c.requires.counted row low ∙ sym (count_law a.clients.now.clients a.graph.now a.moment (128 + row) hops a.targets.now m) in
     on-ok c.walk.result (c.walk.new.clients.pools ≡ pools_after counted (copies_with_room counted (copies_onward c.lose_all.new.clients.clients a.graph.now a.moment hops a.targets.now m)))
     (c.walk.new.clients.pools ≡ pools_after was ds)
@@ -33,7 +34,7 @@ returns-clause-sent g c =
     let counted = c.lose_all.new.clients.pools in
     let m : List ℕ = g.M.Carried.bytes a.message.now in
     let ds : List Delivery = copies_onward a.clients.now.clients a.graph.now a.moment hops a.targets.now m in
-    let number : (row : ℕ) → row < 64 → get_or a.counts.now row 0 ≡ copies_for (128 + row) ds =
+    let number : (row : ℕ) → row < 64 → slice_index a.counts.now row ≡ copies_for (128 + row) ds =
     λ row low. c.requires.counted row low ∙ sym (count_law a.clients.now.clients a.graph.now a.moment (128 + row) hops a.targets.now m) in
     on-ok c.walk.result (c.walk.new.out.items ≡ a.out.now.items ++ copies_with_room counted (copies_onward c.lose_all.new.clients.clients a.graph.now a.moment hops a.targets.now m))
     (c.walk.new.out.items ≡ a.out.now.items ++ copies_with_room was ds)
@@ -49,7 +50,7 @@ returns-then-not-finds_room-clause-pools g c =
     let counted = c.lose_all.new.clients.pools in
     let m : List ℕ = g.M.Carried.bytes a.message.now in
     let ds : List Delivery = copies_onward a.clients.now.clients a.graph.now a.moment hops a.targets.now m in
-    let number : (row : ℕ) → row < 64 → get_or a.counts.now row 0 ≡ copies_for (128 + row) ds =
+    let number : (row : ℕ) → row < 64 → slice_index a.counts.now row ≡ copies_for (128 + row) ds =
     λ row low. c.requires.counted row low ∙ sym (count_law a.clients.now.clients a.graph.now a.moment (128 + row) hops a.targets.now m) in
     let none : copies_with_room counted ds ≡ [] = rows-none was counted ds a.counts.now lose.others c.pools_are_of_clients.ensures number (c.finds_room.ensures c.if-not-finds_room.true) in
     sym (ap (pools_after counted) none) ∙ (counted-first was counted ds a.counts.now lose.lost lose.others c.pools_are_of_clients.ensures number).0
@@ -62,7 +63,7 @@ returns-then-not-finds_room-clause-sent g c =
     let counted = c.lose_all.new.clients.pools in
     let m : List ℕ = g.M.Carried.bytes a.message.now in
     let ds : List Delivery = copies_onward a.clients.now.clients a.graph.now a.moment hops a.targets.now m in
-    let number : (row : ℕ) → row < 64 → get_or a.counts.now row 0 ≡ copies_for (128 + row) ds =
+    let number : (row : ℕ) → row < 64 → slice_index a.counts.now row ≡ copies_for (128 + row) ds =
     λ row low. c.requires.counted row low ∙ sym (count_law a.clients.now.clients a.graph.now a.moment (128 + row) hops a.targets.now m) in
     let none : copies_with_room counted ds ≡ [] = rows-none was counted ds a.counts.now lose.others c.pools_are_of_clients.ensures number (c.finds_room.ensures c.if-not-finds_room.true) in
     sym (append-nil a.out.now.items)

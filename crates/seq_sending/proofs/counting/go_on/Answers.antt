@@ -1,4 +1,4 @@
-use Rattle.std.proofs.Common.{◌≡◌, ◌+◌, ◌*◌, ℕ, List, Some, None, get_or, ap, sym, ◌∙◌, arith}
+use Rattle.std.proofs.Common.{◌≡◌, ◌+◌, ◌*◌, ℕ, List, Some, None, ap, sym, ◌∙◌, arith}
 use Rattle.std.specs.Option.{option_copied}
 use Rattle.std.specs.FinMap
 use Rattle.node_table.specs.Numbers.{first_client}
@@ -7,7 +7,7 @@ use Rattle.seq_state.specs.Effect.{filter_of}
 use Rattle.seq_state.specs.Copies.{filter_at, passed_by}
 use Rattle.seq_sending.specs.Carrying.{let_through}
 use Rattle.seq_sending.proofs.Sent.{let-through}
-use Rattle.std.specs.Prelude.{sum_by}
+use Rattle.std.specs.Prelude.{sum_by, slice_index}
 use Rattle.seq_sending.specs.Counts.{ways_at, ways_behind, ways_in}
 use Rattle.seq_sending.proofs.Reached.{on-ok, ways-on, ways-stopped}
 use Rattle.seq_sending.proofs.counting.go_on.Goals as goal
@@ -33,8 +33,8 @@ returns-in-Some g c row n low =
     sym pass ∙ ap (let_through (option_copied c.match-node.rule)) (sym c.in_ok-message.ensures) ∙ sym c.in-Some.ensures in
     let same : sum_by (ways_at (first_client + row) past new) c.targets-targets.result.now ≡ ways_behind clients a.graph.now (first_client + row) (n + 1) node m =
     ap (sum_by (ways_at (first_client + row) past new)) c.targets-targets.ensures ∙ sym (ways-on clients a.graph.now (first_client + row) n node m new told) in
-    let before : ℕ = get_or a.counts.now row 0 + ways_in g.M.Carried.bytes past a.front.now.entries.items in
-    let after : ℕ = get_or c.reach_all.new.counts row 0 + ways_in g.M.Carried.bytes past c.reach_all.new.front.entries.items in
+    let before : ℕ = slice_index a.counts.now row + ways_in g.M.Carried.bytes past a.front.now.entries.items in
+    let after : ℕ = slice_index c.reach_all.new.counts row + ways_in g.M.Carried.bytes past c.reach_all.new.front.entries.items in
     on-ok c.reach_all.result (after ≡ before + a.entry.now.ways * sum_by (ways_at (first_client + row) past new) c.targets-targets.result.now)
     (after ≡ before + a.entry.now.ways * ways_behind clients a.graph.now (first_client + row) (n + 1) node m)
     (λ e. e ∙ ap (λ k. before + a.entry.now.ways * k) same)
@@ -57,6 +57,6 @@ returns-in-None g c row n low =
     ] in
     let told : passed_by (filter_at clients node.client node.node) m ≡ None =
     sym pass ∙ ap (let_through (option_copied c.match-node.rule)) (sym c.in_ok-message.ensures) ∙ sym c.in-None.ensures in
-    let before : ℕ = get_or a.counts.now row 0 + ways_in g.M.Carried.bytes past a.front.now.entries.items in
+    let before : ℕ = slice_index a.counts.now row + ways_in g.M.Carried.bytes past a.front.now.entries.items in
     let nothing : before ≡ before + a.entry.now.ways * 0 = omega arith in
     nothing ∙ ap (λ k. before + a.entry.now.ways * k) (sym (ways-stopped clients a.graph.now (first_client + row) (n + 1) node m told))

@@ -1,4 +1,5 @@
-use Rattle.std.proofs.Common.{◌+◌, ◌*◌, ℕ, List, get_or, ap, ◌∙◌, arith}
+use Rattle.std.proofs.Common.{◌+◌, ◌*◌, ℕ, List, ap, ◌∙◌, arith}
+use Rattle.std.specs.Prelude.{slice_index}
 use Rattle.std.proofs.lemmas.List.{take_all}
 use Rattle.node_table.specs.Numbers.{first_client}
 use Rattle.node_table.specs.declared.number.Addr.{Addr}
@@ -28,5 +29,5 @@ returns g c row n low =
     let l = c.loop-entry in
     let behind : ℕ → Addr → List ℕ → ℕ = ways_behind a.clients.now.clients a.graph.now (first_client + row) in
     l.invariant.counted row n low
-    ∙ ap (λ es. get_or a.counts.now row 0 + ways_in g.M.Carried.bytes (behind n) a.front.now.entries.items + ways_in g.M.Carried.bytes (behind (n + 1)) es)
+    ∙ ap (λ es. slice_index a.counts.now row + ways_in g.M.Carried.bytes (behind n) a.front.now.entries.items + ways_in g.M.Carried.bytes (behind (n + 1)) es)
     (take_all l.entry-index a.entries.now c.loop-entry-test.false)

@@ -1,8 +1,8 @@
-use Rattle.std.proofs.Common.{◌≡◌, ◌+◌, ◌*◌, ℕ, take, get_or, ap, ◌∙◌, arith}
+use Rattle.std.proofs.Common.{◌≡◌, ◌+◌, ◌*◌, ℕ, take, ap, ◌∙◌, arith}
 use Rattle.std.proofs.lemmas.List.{take_all}
 use Rattle.node_table.specs.Numbers.{first_client}
 use Rattle.node_table.specs.declared.number.Addr.{Addr}
-use Rattle.std.specs.Prelude.{sum_by}
+use Rattle.std.specs.Prelude.{sum_by, slice_index}
 use Rattle.seq_sending.specs.Counts.{ways_at, ways_in}
 use Rattle.seq_sending.proofs.Totals.{sum_by-more, times}
 use Rattle.seq_sending.proofs.counting.reach_all.Goals as goal
@@ -25,5 +25,5 @@ returns g c row past low =
     let a = c.args in
     let l = c.loop-target in
     l.invariant.counted row past low
-    ∙ ap (λ ts. get_or a.counts.now row 0 + ways_in g.M.Carried.bytes past a.front.now.entries.items + a.ways * sum_by (ways_at (first_client + row) past (g.M.Carried.bytes a.message.now)) ts)
+    ∙ ap (λ ts. slice_index a.counts.now row + ways_in g.M.Carried.bytes past a.front.now.entries.items + a.ways * sum_by (ways_at (first_client + row) past (g.M.Carried.bytes a.message.now)) ts)
     (take_all l.target-index a.targets.now c.loop-target-test.false)
