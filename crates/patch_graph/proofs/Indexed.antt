@@ -1,24 +1,20 @@
--- How a graph's index follows its edges.
-use Rattle.std.proofs.Common.{◌≡◌, inl, inr, ℕ, ◌+◌, ◌-◌, ◌<◌, ◌≤◌, Bool, true, false, not, cond, if◌then◌else◌, ◌&&◌, ◌||◌, List, [], ◌∷◌, ◌++◌, map, length, get_or, set, refl, ap, sym, subst, ◌∙◌, arith}
+-- How a graph's lists of neighbours follow its edges.
+use Rattle.std.proofs.Common.{◌≡◌, inl, inr, ℕ, ◌+◌, ◌<◌, ◌≤◌, Bool, true, false, not, cond, ◌&&◌, ◌||◌, List, [], ◌∷◌, ◌++◌, map, length, get_or, set, refl, ap, sym, subst, ◌∙◌, arith}
 use Rattle.std.specs.List.{filter}
-use Rattle.std.specs.Set.{remove_key}
-use Rattle.indexmap.specs.IndexSet.{insert_key}
-use Rattle.patch_graph.specs.contracts.edge.EdgePartialEq.TheImpl.{eq-value as edge_value}
-use Rattle.std.proofs.lemmas.Bool.{false≢true, cases_eq}
-use Rattle.std.proofs.lemmas.List.{get_or-set_same, get_or-set_other, get_or_past, length-set, length-append, length-map, map-append, map-set, get_or-map}
+use Rattle.std.proofs.lemmas.Bool.{false≢true, cases_eq, or_cases}
+use Rattle.std.proofs.lemmas.List.{get_or-set_same, get_or-set_other, length-set, length-append, length-map, map-append, map-set, get_or-map}
 use Rattle.std.proofs.Math.Seq.{map-set_same}
 use Rattle.std.proofs.lemmas.List.Elements.{filter-append}
-use Rattle.std.proofs.lemmas.List.Filters.{length-filter_both}
 use Rattle.std.proofs.lemmas.List.Folds.{list_any-append}
 use Rattle.node_table.specs.Addresses.{same}
-use Rattle.node_table.specs.Kept.{IsPlace, ReadsAs}
+use Rattle.node_table.specs.Kept.{IsPlace}
 use Rattle.node_table.specs.declared.number.Addr.{Addr}
 use Rattle.patch_graph.specs.declared.edge.Edge.{Edge}
 use Rattle.patch_graph.specs.Edges.{edge, is_edge, has_edge, without_edge, sources_of, most_sources}
 use Rattle.patch_graph.specs.Chains.{is_chain, are_edges, makes_cycle}
-use Rattle.patch_graph.specs.Index.{targets_of, is_distinct, IsGraph, HasPlaces, SameTargets, AreCounts, IsIndexed}
-use Rattle.patch_graph.proofs.Lists.{both_left, both_right, and_both, not_by, not_true, refuted, filter-all, filter-agree, filter-none, filter-outside, list_any-filter, length-filter_filter, filter-mapped}
-use Rattle.patch_graph.proofs.Same.{same-is, same-refl, same-from, same-sym, differ, place-is, is-place, place-below, any_edge}
+use Rattle.patch_graph.specs.Index.{is_distinct, IsGraph, SameLists, HasPlace, IsListed, IsIndexed}
+use Rattle.patch_graph.proofs.Lists.{both_left, both_right, and_both, not_by, not_true, refuted, filter-outside, list_any-filter, length-filter_filter, filter-mapped}
+use Rattle.patch_graph.proofs.Same.{same-is, same-refl, same-from, same-sym, differ, place-is, is-place, place-below}
 use Rattle.patch_graph.proofs.Chained.{acyclic-added, acyclic-fewer}
 
 -- ---- one edge more
@@ -39,20 +35,10 @@ sources_of-here edges s t = sources_of-added edges s t t ∙ ap (λ b. sources_o
 sources_of-elsewhere : (edges : List Edge) (s t a : Addr) → same a t ≡ false → sources_of (edges ++ edge s t ∷ []) a ≡ sources_of edges a
 sources_of-elsewhere edges s t a n = sources_of-added edges s t a ∙ ap (λ b. sources_of edges a + cond b 1 0) n ∙ omega arith
 
-targets_of-added : (edges : List Edge) (s t a : Addr) (b : Bool) → same a s ≡ b → targets_of (edges ++ edge s t ∷ []) a ≡ targets_of edges a ++ cond b (t ∷ []) []
-targets_of-added edges s t a b h =
-    ap (map (λ e. e.target)) (filter-append (λ e. same a e.source) edges (edge s t ∷ []))
-    ∙ map-append (λ e. e.target) (filter (λ e. same a e.source) edges) (filter (λ e. same a e.source) (edge s t ∷ []))
-    ∙ ap (λ ys. targets_of edges a ++ ys) (ap (λ c. map (λ e. e.target) (cond c (edge s t ∷ []) [])) h ∙ one b)
-  where
-    one : (b : Bool) → map (λ e. e.target) (cond b (edge s t ∷ []) []) ≡ cond b (t ∷ []) []
-    one true = refl
-    one false = refl
-
-is_edge-swap : (s t : Addr) (e : Edge) → is_edge e.source e.target (edge s t) ≡ is_edge s t e
+pub is_edge-swap : (s t : Addr) (e : Edge) → is_edge e.source e.target (edge s t) ≡ is_edge s t e
 is_edge-swap s t e = ap (λ b. b && same e.target t) (same-sym e.source s) ∙ ap (λ b. same s e.source && b) (same-sym e.target t)
 
-distinct-added : (edges : List Edge) (s t : Addr) → is_distinct edges ≡ true → has_edge edges s t ≡ false → is_distinct (edges ++ edge s t ∷ []) ≡ true
+pub distinct-added : (edges : List Edge) (s t : Addr) → is_distinct edges ≡ true → has_edge edges s t ≡ false → is_distinct (edges ++ edge s t ∷ []) ≡ true
 distinct-added [] s t d h = refl
 distinct-added (e ∷ es) s t d h =
     step (is_edge s t e) (has_edge es s t) h
@@ -78,41 +64,46 @@ module _ (edges : List Edge) (s t : Addr) (graph : IsGraph edges) (fresh : has_e
   pub graph-added : IsGraph (edges ++ edge s t ∷ [])
   graph-added = record { distinct = distinct-added edges s t graph.distinct fresh; few = few-added; acyclic = acyclic-added edges s t graph.acyclic clear }
 
-pub counts-added : (edges : List Edge) (s t : Addr) (counts : List ℕ) (q u : ℕ) → length counts ≡ 2048 → AreCounts edges counts → IsPlace t q u → AreCounts (edges ++ edge s t ∷ []) (set counts u (get_or counts u 0 + 1))
-counts-added edges s t counts q u long counted to a row place k = elim (cases_eq place u) [
-  | inl e ↦ let here : a ≡ t = place-is a t row q u (subst (IsPlace a row) e k) to in
-      ap (λ n. get_or (set counts u (get_or counts u 0 + 1)) n 0) e
-      ∙ get_or-set_same counts u (get_or counts u 0 + 1) 0 (subst (λ n. u < n) (sym long) (place-below t q u to))
-      ∙ ap (λ n. n + 1) (counted t q u to) ∙ sym (sources_of-here edges s t) ∙ ap (sources_of (edges ++ edge s t ∷ [])) (sym here)
-  | inr n ↦ get_or-set_other counts u place (get_or counts u 0 + 1) 0 n ∙ counted a row place k
-      ∙ sym (sources_of-elsewhere edges s t a (differ a t (λ e. n (is-place a t row q place u k to e))))
-]
+-- what stands at the place of a node
+abbrev pub listed_of : (Edge → Addr) → (Edge → Addr) → List Edge → Addr → List Addr
+listed_of one other edges a = map other (filter (λ e. same a (one e)) edges)
 
-pub indexed-added : (edges : List Edge) (s t : Addr) (targets : List (List Addr)) (counts : List ℕ) (r p q u : ℕ) → IsIndexed edges targets counts → length targets ≡ 2048 → length counts ≡ 2048 → IsPlace s r p → IsPlace t q u →
-    IsIndexed (edges ++ edge s t ∷ []) (set targets p (get_or targets p [] ++ t ∷ [])) (set counts u (get_or counts u 0 + 1))
-indexed-added edges s t targets counts r p q u h long wide at to =
-    record {
-      target_places = λ _. length-set targets p (get_or targets p [] ++ t ∷ []) ∙ long;
-      count_places = λ _. length-set counts u (get_or counts u 0 + 1) ∙ wide;
-      listed = λ a row place k. elim (cases_eq place p) [
-        | inl e ↦ let here : a ≡ s = place-is a s row r p (subst (IsPlace a row) e k) at in
-            ap (λ n. get_or (set targets p (get_or targets p [] ++ t ∷ [])) n []) e
-            ∙ get_or-set_same targets p (get_or targets p [] ++ t ∷ []) [] (subst (λ n. p < n) (sym long) (place-below s r p at))
-            ∙ ap (λ xs. xs ++ t ∷ []) (h.listed s r p at) ∙ ap (λ x. targets_of edges x ++ t ∷ []) (sym here)
-            ∙ sym (targets_of-added edges s t a true (same-from a s here))
-        | inr n ↦ get_or-set_other targets p place (get_or targets p [] ++ t ∷ []) [] n ∙ h.listed a row place k
-            ∙ sym (targets_of-added edges s t a false (differ a s (λ e. n (is-place a s row r place p k at e))) ∙ append_nil (targets_of edges a))
-      ];
-      counted = counts-added edges s t counts q u wide h.counted to;
-    }
-  where
-    append_nil : (xs : List Addr) → xs ++ [] ≡ xs
-    append_nil [] = refl
-    append_nil (x ∷ xs) = ap (λ ys. x ∷ ys) (append_nil xs)
+module _ (one other : Edge → Addr) (edges : List Edge) (g : Edge) where
+  list-added : (a : Addr) (b : Bool) → same a (one g) ≡ b → listed_of one other (edges ++ g ∷ []) a ≡ listed_of one other edges a ++ cond b (other g ∷ []) []
+  list-added a b h =
+      ap (map other) (filter-append (λ e. same a (one e)) edges (g ∷ []))
+      ∙ map-append other (filter (λ e. same a (one e)) edges) (filter (λ e. same a (one e)) (g ∷ []))
+      ∙ ap (λ ys. listed_of one other edges a ++ ys) (ap (λ c. map other (cond c (g ∷ []) [])) h ∙ alone b)
+    where
+      alone : (b : Bool) → map other (cond b (g ∷ []) []) ≡ cond b (other g ∷ []) []
+      alone true = refl
+      alone false = refl
+
+  append_nil : (xs : List Addr) → xs ++ [] ≡ xs
+  append_nil [] = refl
+  append_nil (x ∷ xs) = ap (λ ys. x ∷ ys) (append_nil xs)
+
+  pub listed-added : (lists : List (List Addr)) (r p : ℕ) → IsListed one other edges lists → length lists ≡ 2048 → IsPlace (one g) r p → IsListed one other (edges ++ g ∷ []) (set lists p (get_or lists p [] ++ other g ∷ []))
+  listed-added lists r p h long at =
+      record {
+        list_places = λ _. length-set lists p (get_or lists p [] ++ other g ∷ []) ∙ long;
+        listed = λ a row place k. elim (cases_eq place p) [
+          | inl e ↦ let here : a ≡ one g = place-is a (one g) row r p (subst (IsPlace a row) e k) at in
+              ap (λ n. get_or (set lists p (get_or lists p [] ++ other g ∷ [])) n []) e
+              ∙ get_or-set_same lists p (get_or lists p [] ++ other g ∷ []) [] (subst (λ n. p < n) (sym long) (place-below (one g) r p at))
+              ∙ ap (λ xs. xs ++ other g ∷ []) (h.listed (one g) r p at) ∙ ap (λ x. listed_of one other edges x ++ other g ∷ []) (sym here)
+              ∙ sym (list-added a true (same-from a (one g) here))
+          | inr n ↦ get_or-set_other lists p place (get_or lists p [] ++ other g ∷ []) [] n ∙ h.listed a row place k
+              ∙ sym (list-added a false (differ a (one g) (λ e. n (is_place a row place k e))) ∙ append_nil (listed_of one other edges a))
+        ];
+      }
+    where
+      is_place : (a : Addr) (row place : ℕ) → IsPlace a row place → a ≡ one g → place ≡ p
+      is_place a row place k e = is-place a (one g) row r place p k at e
 
 -- ---- fewer edges
 
-distinct-filter : (q : Edge → Bool) (edges : List Edge) → is_distinct edges ≡ true → is_distinct (filter q edges) ≡ true
+pub distinct-filter : (q : Edge → Bool) (edges : List Edge) → is_distinct edges ≡ true → is_distinct (filter q edges) ≡ true
 distinct-filter q [] d = refl
 distinct-filter q (e ∷ es) d =
     step (q e) (distinct-filter q es (both_right (not (has_edge es e.source e.target)) (is_distinct es) d))
@@ -134,132 +125,172 @@ graph-filter q edges h =
       acyclic = acyclic-fewer edges (filter q edges) (λ a b. list_any-filter (is_edge a b) q edges) h.acyclic;
     }
 
--- the targets that are left
-pub targets_of-filter : (q : Edge → Bool) (edges : List Edge) (a : Addr) → targets_of (filter q edges) a ≡ filter (λ t. q (edge a t)) (targets_of edges a)
-targets_of-filter q edges a = filter-mapped (λ e. e.target) (λ e. same a e.source) q (λ t. q (edge a t)) (λ e h. ap (λ x. q (edge x e.target)) (sym (same-is a e.source h))) edges
-
--- ---- without one edge
-
-pub removed_is : (edges : List Edge) (s t : Addr) → is_distinct edges ≡ true → remove_key (is_edge s t) edges ≡ without_edge edges s t
-removed_is [] s t d = refl
-removed_is (e ∷ es) s t d = step (is_edge s t e) refl (removed_is es s t (both_right (not (has_edge es e.source e.target)) (is_distinct es) d))
-  where
-    step : (b : Bool) → is_edge s t e ≡ b → remove_key (is_edge s t) es ≡ without_edge es s t → cond b es (e ∷ remove_key (is_edge s t) es) ≡ cond (not b) (e ∷ without_edge es s t) (without_edge es s t)
-    step false h more = ap (λ xs. e ∷ xs) more
-    step true h more =
-        let source : s ≡ e.source = same-is s e.source (both_left (same s e.source) (same t e.target) h) in
-        let target : t ≡ e.target = same-is t e.target (both_right (same s e.source) (same t e.target) h) in
-        let none : has_edge es e.source e.target ≡ false = not_true (has_edge es e.source e.target) (both_left (not (has_edge es e.source e.target)) (is_distinct es) d) in
-        sym (filter-none (is_edge s t) es (ap (λ x. has_edge es x t) source ∙ ap (has_edge es e.source) target ∙ none))
-
-one_less : (edges : List Edge) (s t : Addr) → has_edge edges s t ≡ true → sources_of (remove_key (is_edge s t) edges) t + 1 ≡ sources_of edges t
-one_less [] s t h = absurd (false≢true h)
-one_less (e ∷ es) s t h = step (is_edge s t e) refl (λ k. one_less es s t k) h
-  where
-    step : (b : Bool) → is_edge s t e ≡ b → (has_edge es s t ≡ true → sources_of (remove_key (is_edge s t) es) t + 1 ≡ sources_of es t) → (b || has_edge es s t) ≡ true → sources_of (cond b es (e ∷ remove_key (is_edge s t) es)) t + 1 ≡ sources_of (e ∷ es) t
-    step true k more h = let here : same t e.target ≡ true = both_right (same s e.source) (same t e.target) k in grind arith
-    step false k more h = let rest : sources_of (remove_key (is_edge s t) es) t + 1 ≡ sources_of es t = more h in grind arith
-
-pub sources_of-removed : (edges : List Edge) (s t : Addr) → is_distinct edges ≡ true → has_edge edges s t ≡ true → sources_of (without_edge edges s t) t + 1 ≡ sources_of edges t
-sources_of-removed edges s t d h = ap (λ es. sources_of es t + 1) (sym (removed_is edges s t d)) ∙ one_less edges s t h
-
-sources_of-others : (edges : List Edge) (s t a : Addr) → (a ≡ t → ⊥) → sources_of (without_edge edges s t) a ≡ sources_of edges a
-sources_of-others edges s t a n =
-    ap length (filter-outside (λ e. same a e.target) (λ e. not (is_edge s t e)) (λ e h. not_by (is_edge s t e) (λ k. n (same-is a e.target h ∙ sym (same-is t e.target (both_right (same s e.source) (same t e.target) k))))) edges)
-
 -- where an edge is there are places
 some_places : {X : Type 0} (edges : List Edge) (s t : Addr) (xs : List X) → has_edge edges s t ≡ true → 0 < length edges + length xs
 some_places [] s t xs h = absurd (false≢true h)
 some_places (e ∷ es) s t xs h = omega arith
 
-pub indexed-removed : (edges : List Edge) (s t : Addr) (targets : List (List Addr)) (counts : List ℕ) (r p q u : ℕ) → IsIndexed edges targets counts → is_distinct edges ≡ true → has_edge edges s t ≡ true → IsPlace s r p → IsPlace t q u →
-    IsIndexed (without_edge edges s t) (set targets p (filter (λ x. not (same t x)) (get_or targets p []))) (set counts u (get_or counts u 0 - 1))
-indexed-removed edges s t targets counts r p q u h d there at to =
-    let long : length targets ≡ 2048 = h.target_places (some_places edges s t targets there) in
-    let wide : length counts ≡ 2048 = h.count_places (some_places edges s t counts there) in
-    record {
-      target_places = λ _. length-set targets p (filter (λ x. not (same t x)) (get_or targets p [])) ∙ long;
-      count_places = λ _. length-set counts u (get_or counts u 0 - 1) ∙ wide;
-      listed = λ a row place k. elim (cases_eq place p) [
-        | inl e ↦ let here : a ≡ s = place-is a s row r p (subst (IsPlace a row) e k) at in
-            ap (λ n. get_or (set targets p (filter (λ x. not (same t x)) (get_or targets p []))) n []) e
-            ∙ get_or-set_same targets p (filter (λ x. not (same t x)) (get_or targets p [])) [] (subst (λ n. p < n) (sym long) (place-below s r p at))
-            ∙ ap (filter (λ x. not (same t x))) (h.listed s r p at)
-            ∙ filter-agree (λ x. not (same t x)) (λ x. not (is_edge s t (edge s x))) (λ x. ap (λ b. not (b && same t x)) (sym (same-refl s))) (targets_of edges s)
-            ∙ sym (targets_of-filter (λ e. not (is_edge s t e)) edges s)
-            ∙ ap (targets_of (without_edge edges s t)) (sym here)
-        | inr n ↦ get_or-set_other targets p place (filter (λ x. not (same t x)) (get_or targets p [])) [] n ∙ h.listed a row place k
-            ∙ sym (targets_of-filter (λ e. not (is_edge s t e)) edges a
-            ∙ filter-all (λ x. not (is_edge s t (edge a x))) (λ x. ap (λ b. not (b && same t x)) (differ s a (λ e. n (is-place a s row r place p k at (sym e))))) (targets_of edges a))
-      ];
-      counted = λ a row place k. elim (cases_eq place u) [
-        | inl e ↦ let here : a ≡ t = place-is a t row q u (subst (IsPlace a row) e k) to in
-            let less : sources_of (without_edge edges s t) t + 1 ≡ sources_of edges t = sources_of-removed edges s t d there in
-            let minus : sources_of edges t - 1 ≡ sources_of (without_edge edges s t) t = omega arith in
-            ap (λ n. get_or (set counts u (get_or counts u 0 - 1)) n 0) e
-            ∙ get_or-set_same counts u (get_or counts u 0 - 1) 0 (subst (λ n. u < n) (sym wide) (place-below t q u to))
-            ∙ ap (λ n. n - 1) (h.counted t q u to) ∙ minus ∙ ap (sources_of (without_edge edges s t)) (sym here)
-        | inr n ↦ get_or-set_other counts u place (get_or counts u 0 - 1) 0 n ∙ h.counted a row place k
-            ∙ sym (sources_of-others edges s t a (λ e. n (is-place a t row q place u k to e)))
-      ];
-    }
+pub same_edge : (s t : Addr) (e : Edge) → is_edge s t e ≡ true → e ≡ edge s t
+same_edge s t e h =
+    let source : s ≡ e.source = same-is s e.source (both_left (same s e.source) (same t e.target) h) in
+    let target : t ≡ e.target = same-is t e.target (both_right (same s e.source) (same t e.target) h) in
+    λ j. record { source = sym source j; target = sym target j }
 
--- ---- an index of vectors
+-- without the edge g, where the two ends of an edge tell whether it is g
+module _ (one other : Edge → Addr) (edges : List Edge) (g : Edge) (pair : (e : Edge) → is_edge g.source g.target e ≡ (same (one g) (one e) && same (other g) (other e))) where
+  list-elsewhere : (a : Addr) → (a ≡ one g → ⊥) → listed_of one other (without_edge edges g.source g.target) a ≡ listed_of one other edges a
+  list-elsewhere a n =
+      ap (map other) (filter-outside (λ e. same a (one e)) (λ e. not (is_edge g.source g.target e)) (λ e h. not_by (is_edge g.source g.target e) (λ k. n (same-is a (one e) h ∙ sym (same-is (one g) (one e) (both_left (same (one g) (one e)) (same (other g) (other e)) (sym (pair e) ∙ k)))))) edges)
 
-module _ {V : Type 0} (items : V → List Addr) (ts : List V) (counts : List ℕ) (edges : List Edge) where
-  abbrev Kept : Type 0
-  Kept = IsGraph edges × IsIndexed edges (map items ts) counts
+  list-here : listed_of one other (without_edge edges g.source g.target) (one g) ≡ filter (λ x. not (same (other g) x)) (listed_of one other edges (one g))
+  list-here =
+      filter-mapped other (λ e. same (one g) (one e)) (λ e. not (is_edge g.source g.target e)) (λ x. not (same (other g) x)) (λ e h. ap not (pair e) ∙ ap (λ b. not (b && same (other g) (other e))) h) edges
 
+  pub listed-removed : (lists : List (List Addr)) (r p : ℕ) → IsListed one other edges lists → length lists ≡ 2048 → IsPlace (one g) r p → IsListed one other (without_edge edges g.source g.target) (set lists p (filter (λ x. not (same (other g) x)) (get_or lists p [])))
+  listed-removed lists r p h long at =
+      record {
+        list_places = λ _. length-set lists p (filter (λ x. not (same (other g) x)) (get_or lists p [])) ∙ long;
+        listed = λ a row place k. elim (cases_eq place p) [
+          | inl e ↦ let here : a ≡ one g = place-is a (one g) row r p (subst (IsPlace a row) e k) at in
+              ap (λ n. get_or (set lists p (filter (λ x. not (same (other g) x)) (get_or lists p []))) n []) e
+              ∙ get_or-set_same lists p (filter (λ x. not (same (other g) x)) (get_or lists p [])) [] (subst (λ n. p < n) (sym long) (place-below (one g) r p at))
+              ∙ ap (filter (λ x. not (same (other g) x))) (h.listed (one g) r p at)
+              ∙ sym list-here
+              ∙ ap (listed_of one other (without_edge edges g.source g.target)) (sym here)
+          | inr n ↦ get_or-set_other lists p place (filter (λ x. not (same (other g) x)) (get_or lists p [])) [] n ∙ h.listed a row place k
+              ∙ sym (list-elsewhere a (λ e. n (is-place a (one g) row r place p k at e)))
+        ];
+      }
+
+-- ---- tables of vectors
+
+module _ {V : Type 0} (items : V → List Addr) (one other : Edge → Addr) (ts : List V) (edges : List Edge) (h : IsListed one other edges (map items ts)) where
   at_place : (p : ℕ) (d : V) → p < length ts → items (get_or ts p d) ≡ get_or (map items ts) p []
   at_place p d within = sym (get_or-map items ts p d [] within)
 
-  pub listed_is : Kept → (a : Addr) (r p : ℕ) (d : V) → p < length ts → IsPlace a r p → items (get_or ts p d) ≡ targets_of edges a
-  listed_is k a r p d within at = at_place p d within ∙ k.1.listed a r p at
+  -- where an edge is, each node has its place
+  pub long_at : (s t : Addr) → has_edge edges s t ≡ true → length ts ≡ 2048
+  long_at s t there = sym (length-map ts items) ∙ h.list_places (some_places edges s t (map items ts) there)
 
-  -- where there is no place there are no targets
-  pub listed_none : Kept → (a : Addr) (r p : ℕ) → length ts ≤ p → IsPlace a r p → [] ≡ targets_of edges a
-  listed_none k a r p past at = sym (get_or_past (map items ts) p [] (subst (λ n. n ≤ p) (sym (length-map ts items)) past)) ∙ k.1.listed a r p at
+  pub place_at : (s t a : Addr) (r p : ℕ) → has_edge edges s t ≡ true → IsPlace a r p → p < length ts
+  place_at s t a r p there at = subst (λ n. p < n) (sym (long_at s t there)) (place-below a r p at)
 
-  -- where an edge is, its source and its target have their places
-  target_place : Kept → (s t a : Addr) (r p : ℕ) → has_edge edges s t ≡ true → IsPlace a r p → p < length ts
-  target_place k s t a r p there at =
-      subst (λ n. p < n) (sym (sym (length-map ts items) ∙ k.1.target_places (some_places edges s t (map items ts) there))) (place-below a r p at)
+  pub list_is : (a : Addr) (r p : ℕ) (d : V) → p < length ts → IsPlace a r p → items (get_or ts p d) ≡ listed_of one other edges a
+  list_is a r p d within at = at_place p d within ∙ h.listed a r p at
 
-  pub count_place : Kept → (s t a : Addr) (r p : ℕ) → has_edge edges s t ≡ true → IsPlace a r p → p < length counts
-  count_place k s t a r p there at = subst (λ n. p < n) (sym (k.1.count_places (some_places edges s t counts there))) (place-below a r p at)
+  -- the lists get their places
+  pub list-made : (ts' : List V) → length ts' ≡ 2048 → SameLists items ts' ts → IsListed one other edges (map items ts')
+  list-made ts' long same = record { list_places = λ _. length-map ts' items ∙ long; listed = λ a row place k. same place ∙ h.listed a row place k }
 
-  pub disconnected : (es : List Edge) (s t : Addr) (r p q u : ℕ) (d v : V) (n : ℕ) → Kept → es ≡ remove_key (is_edge s t) edges → has_edge edges s t ≡ true → IsPlace s r p → IsPlace t q u → n ≡ get_or counts u 0 →
-      items v ≡ filter (λ x. not (same t x)) (items (get_or ts p d)) → IsGraph es × IsIndexed es (map items (set ts p v)) (set counts u (n - 1))
-  disconnected es s t r p q u d v n k e there at to is left =
-      let gone : without_edge edges s t ≡ es = sym (e ∙ removed_is edges s t k.0.distinct) in
-      let rest : items v ≡ filter (λ x. not (same t x)) (get_or (map items ts) p []) = left ∙ ap (filter (λ x. not (same t x))) (at_place p d (target_place k s t s r p there at)) in
-      let table : set (map items ts) p (filter (λ x. not (same t x)) (get_or (map items ts) p [])) ≡ map items (set ts p v) = ap (set (map items ts) p) (sym rest) ∙ sym (map-set items ts p v) in (
-        subst IsGraph gone (graph-filter (λ e. not (is_edge s t e)) edges k.0),
-        subst (λ x. IsIndexed x (map items (set ts p v)) (set counts u (n - 1))) gone
-            (subst (λ m. IsIndexed (without_edge edges s t) (map items (set ts p v)) (set counts u (m - 1))) (sym is)
-            (subst (λ x. IsIndexed (without_edge edges s t) x (set counts u (get_or counts u 0 - 1))) table (indexed-removed edges s t (map items ts) counts r p q u k.1 k.0.distinct there at to))),
+  -- a vector with more room
+  pub list-reserved : (p : ℕ) (d v : V) → items v ≡ items (get_or ts p d) → IsListed one other edges (map items (set ts p v))
+  list-reserved p d v e = subst (IsListed one other edges) (sym (map-set_same items ts p v d e)) h
+
+  pub list-pushed : (g : Edge) (r p : ℕ) (d v : V) → length ts ≡ 2048 → IsPlace (one g) r p → items v ≡ items (get_or ts p d) ++ other g ∷ [] → IsListed one other (edges ++ g ∷ []) (map items (set ts p v))
+  list-pushed g r p d v long at more =
+      let rest : items v ≡ get_or (map items ts) p [] ++ other g ∷ [] = more ∙ ap (λ xs. xs ++ other g ∷ []) (at_place p d (subst (λ n. p < n) (sym long) (place-below (one g) r p at))) in
+      subst (IsListed one other (edges ++ g ∷ [])) (ap (set (map items ts) p) (sym rest) ∙ sym (map-set items ts p v))
+      (listed-added one other edges g (map items ts) r p h (length-map ts items ∙ long) at)
+
+  pub list-taken : (g : Edge) → ((e : Edge) → is_edge g.source g.target e ≡ (same (one g) (one e) && same (other g) (other e))) → (r p : ℕ) (d v : V) → has_edge edges g.source g.target ≡ true → IsPlace (one g) r p →
+      items v ≡ filter (λ x. not (same (other g) x)) (items (get_or ts p d)) → IsListed one other (without_edge edges g.source g.target) (map items (set ts p v))
+  list-taken g pair r p d v there at left =
+      let rest : items v ≡ filter (λ x. not (same (other g) x)) (get_or (map items ts) p []) = left ∙ ap (filter (λ x. not (same (other g) x))) (at_place p d (place_at g.source g.target (one g) r p there at)) in
+      subst (IsListed one other (without_edge edges g.source g.target)) (ap (set (map items ts) p) (sym rest) ∙ sym (map-set items ts p v))
+      (listed-removed one other edges g pair (map items ts) r p h (length-map ts items ∙ long_at g.source g.target there) at)
+
+-- ---- both tables
+
+abbrev pub onto : Edge → Addr
+onto e = e.target
+
+abbrev pub out_of : Edge → Addr
+out_of e = e.source
+
+pair_onward : (g e : Edge) → is_edge g.source g.target e ≡ (same g.source e.source && same g.target e.target)
+pair_onward g e = refl
+
+pair_back : (g e : Edge) → is_edge g.source g.target e ≡ (same g.target e.target && same g.source e.source)
+pair_back g e = swap (same g.source e.source) (same g.target e.target)
+  where
+    swap : (b c : Bool) → (b && c) ≡ (c && b)
+    swap b c = grind arith
+
+placed-added : (edges : List Edge) (g : Edge) → HasPlace g.source → HasPlace g.target → ((e : Edge) → has_edge edges e.source e.target ≡ true → HasPlace e.source × HasPlace e.target) → (e : Edge) → has_edge (edges ++ g ∷ []) e.source e.target ≡ true → HasPlace e.source × HasPlace e.target
+placed-added edges g from to h e there = elim (or_cases (has_edge edges e.source e.target) (is_edge e.source e.target g || false) (sym (list_any-append (is_edge e.source e.target) edges (g ∷ [])) ∙ there)) [
+  | inl k ↦ h e k
+  | inr k ↦ let is : g ≡ e = same_edge e.source e.target g (last k) in
+      (subst (λ x. HasPlace x.source) is from, subst (λ x. HasPlace x.target) is to)
+]
+  where
+    last : (is_edge e.source e.target g || false) ≡ true → is_edge e.source e.target g ≡ true
+    last k = grind arith
+
+module _ {V : Type 0} (items : V → List Addr) (ts us : List V) (edges : List Edge) where
+  abbrev pub Kept : Type 0
+  Kept = IsGraph edges × IsIndexed edges (map items ts) (map items us)
+
+  pub tables_made : Kept → (ts' us' : List V) → length ts' ≡ 2048 → SameLists items ts' ts → length us' ≡ 2048 → SameLists items us' us → IsGraph edges × IsIndexed edges (map items ts') (map items us')
+  tables_made k ts' us' long same wide alike = (
+    k.0,
+    record {
+      onward = list-made items out_of onto ts edges k.1.onward ts' long same;
+      back = list-made items onto out_of us edges k.1.back us' wide alike;
+      placed = k.1.placed;
+    },
+  )
+
+  pub targets_made : Kept → (ts' : List V) → length ts' ≡ 2048 → SameLists items ts' ts → IsGraph edges × IsIndexed edges (map items ts') (map items us)
+  targets_made k ts' long same = (
+    k.0,
+    record {
+      onward = list-made items out_of onto ts edges k.1.onward ts' long same;
+      back = k.1.back;
+      placed = k.1.placed;
+    },
+  )
+
+  pub room_onward : Kept → (p : ℕ) (d v : V) → items v ≡ items (get_or ts p d) → IsGraph edges × IsIndexed edges (map items (set ts p v)) (map items us)
+  room_onward k p d v e = (k.0, record { onward = list-reserved items out_of onto ts edges k.1.onward p d v e; back = k.1.back; placed = k.1.placed })
+
+  pub room_back : Kept → (p : ℕ) (d v : V) → items v ≡ items (get_or us p d) → IsGraph edges × IsIndexed edges (map items ts) (map items (set us p v))
+  room_back k p d v e = (k.0, record { onward = k.1.onward; back = list-reserved items onto out_of us edges k.1.back p d v e; placed = k.1.placed })
+
+  -- the same sources under another name
+  pub sources_are : Kept → (us' : List V) → us' ≡ us → IsGraph edges × IsIndexed edges (map items ts) (map items us')
+  sources_are k us' e = subst (λ xs. IsGraph edges × IsIndexed edges (map items ts) (map items xs)) (sym e) k
+
+  -- the same edges under another name
+  pub edges_are : Kept → (es : List Edge) → es ≡ edges → IsGraph es × IsIndexed es (map items ts) (map items us)
+  edges_are k es e = subst (λ x. IsGraph x × IsIndexed x (map items ts) (map items us)) (sym e) k
+
+  pub connected : Kept → (es : List Edge) (s t : Addr) (r p q u : ℕ) (d v d' v' : V) → length ts ≡ 2048 → length us ≡ 2048 → es ≡ edges ++ edge s t ∷ [] → has_edge edges s t ≡ false → sources_of edges t < most_sources → makes_cycle edges s t ≡ false → IsPlace s r p → IsPlace t q u →
+      items v ≡ items (get_or ts p d) ++ t ∷ [] → items v' ≡ items (get_or us u d') ++ s ∷ [] → IsGraph es × IsIndexed es (map items (set ts p v)) (map items (set us u v'))
+  connected k es s t r p q u d v d' v' long wide e fresh room clear at to more more' =
+      subst (λ x. IsGraph x × IsIndexed x (map items (set ts p v)) (map items (set us u v'))) (sym e) (
+        graph-added edges s t k.0 fresh room clear,
+        record {
+          onward = list-pushed items out_of onto ts edges k.1.onward (edge s t) r p d v long at more;
+          back = list-pushed items onto out_of us edges k.1.back (edge s t) q u d' v' wide to more';
+          placed = placed-added edges (edge s t) (r, p, at) (q, u, to) k.1.placed;
+        },
       )
 
-  pub some_source : Kept → (s t : Addr) (q u : ℕ) → IsPlace t q u → has_edge edges s t ≡ true → 1 ≤ get_or counts u 0
-  some_source k s t q u to there =
-      let less : sources_of (without_edge edges s t) t + 1 ≡ sources_of edges t = sources_of-removed edges s t k.0.distinct there in
-      let is : get_or counts u 0 ≡ sources_of edges t = k.1.counted t q u to in
-      omega arith
-
-  pub connected : (es : List Edge) (s t : Addr) (r p q u : ℕ) (d v : V) (n : ℕ) → Kept → length ts ≡ 2048 → length counts ≡ 2048 → es ≡ edges ++ edge s t ∷ [] → has_edge edges s t ≡ false → sources_of edges t < most_sources → makes_cycle edges s t ≡ false → IsPlace s r p → IsPlace t q u → n ≡ get_or counts u 0 →
-      items v ≡ items (get_or ts p d) ++ t ∷ [] → IsGraph es × IsIndexed es (map items (set ts p v)) (set counts u (n + 1))
-  connected es s t r p q u d v n k long wide e fresh room clear at to is more =
-      let rest : items v ≡ get_or (map items ts) p [] ++ t ∷ [] = more ∙ ap (λ xs. xs ++ t ∷ []) (at_place p d (subst (λ n. p < n) (sym long) (place-below s r p at))) in
-      let table : set (map items ts) p (get_or (map items ts) p [] ++ t ∷ []) ≡ map items (set ts p v) = ap (set (map items ts) p) (sym rest) ∙ sym (map-set items ts p v) in (
-        subst IsGraph (sym e) (graph-added edges s t k.0 fresh room clear),
-        subst (λ x. IsIndexed x (map items (set ts p v)) (set counts u (n + 1))) (sym e)
-            (subst (λ m. IsIndexed (edges ++ edge s t ∷ []) (map items (set ts p v)) (set counts u (m + 1))) (sym is)
-            (subst (λ x. IsIndexed (edges ++ edge s t ∷ []) x (set counts u (get_or counts u 0 + 1))) table (indexed-added edges s t (map items ts) counts r p q u k.1 (length-map ts items ∙ long) wide at to))),
+  pub disconnected : Kept → (es : List Edge) (s t : Addr) (r p q u : ℕ) (d v d' v' : V) → es ≡ without_edge edges s t → has_edge edges s t ≡ true → IsPlace s r p → IsPlace t q u →
+      items v ≡ filter (λ x. not (same t x)) (items (get_or ts p d)) → items v' ≡ filter (λ x. not (same s x)) (items (get_or us u d')) → IsGraph es × IsIndexed es (map items (set ts p v)) (map items (set us u v'))
+  disconnected k es s t r p q u d v d' v' e there at to left left' =
+      subst (λ x. IsGraph x × IsIndexed x (map items (set ts p v)) (map items (set us u v'))) (sym e) (
+        graph-filter (λ g. not (is_edge s t g)) edges k.0,
+        record {
+          onward = list-taken items out_of onto ts edges k.1.onward (edge s t) (pair_onward (edge s t)) r p d v there at left;
+          back = list-taken items onto out_of us edges k.1.back (edge s t) (pair_back (edge s t)) q u d' v' there to left';
+          placed = λ g h. k.1.placed g (list_any-filter (is_edge g.source g.target) (λ x. not (is_edge s t x)) edges h);
+        },
       )
 
-  -- a vector that has the same items in the place of one
-  pub same_items : (p : ℕ) (d v : V) → items v ≡ items (get_or ts p d) → map items (set ts p v) ≡ map items ts
-  same_items p d v e = map-set_same items ts p v d e
+  -- where an edge is, each node has its place
+  pub target_within : Kept → (s t a : Addr) (r p : ℕ) → has_edge edges s t ≡ true → IsPlace a r p → p < length ts
+  target_within k s t a r p there at = place_at items out_of onto ts edges k.1.onward s t a r p there at
 
 -- ---- no edges
 
@@ -271,71 +302,12 @@ pub empty_graph : (edges : List Edge) → edges ≡ [] → IsGraph edges
 unfolding most_sources
 empty_graph edges e = subst IsGraph (sym e) (record { distinct = refl; few = λ a. omega arith; acyclic = λ a r. no_chain a a r.0 r.1 r.2 })
 
+no_list : (one other : Edge → Addr) → IsListed one other [] []
+no_list one other = record { list_places = λ h. absurd (omega arith); listed = λ a row place k. refl }
+
 no_index : IsIndexed [] [] []
-no_index = record { target_places = λ h. absurd (omega arith); count_places = λ h. absurd (omega arith); listed = λ a row place k. refl; counted = λ a row place k. refl }
+no_index = record { onward = no_list out_of onto; back = no_list onto out_of; placed = λ e h. absurd (false≢true h) }
 
-pub empty_index : {V : Type 0} (items : V → List Addr) (edges : List Edge) (ts : List V) (counts : List ℕ) → edges ≡ [] → ts ≡ [] → counts ≡ [] → IsIndexed edges (map items ts) counts
-empty_index items edges ts counts e t c =
-    subst (λ es. IsIndexed es (map items ts) counts) (sym e) (subst (λ vs. IsIndexed [] (map items vs) counts) (sym t) (subst (IsIndexed [] []) (sym c) no_index))
-
--- the same tables under other names
-pub index_is : {V : Type 0} (items : V → List Addr) (edges : List Edge) (ts us : List V) (ns ms : List ℕ) → ts ≡ us → ns ≡ ms → IsIndexed edges (map items ts) ns → IsIndexed edges (map items us) ms
-index_is items edges ts us ns ms e f h = subst (λ xs. IsIndexed edges (map items xs) ms) e (subst (IsIndexed edges (map items ts)) f h)
-
--- ---- the tables get their places
-
-module _ {V : Type 0} (items : V → List Addr) (edges : List Edge) (ts : List V) (counts : List ℕ) (kept : IsGraph edges × IsIndexed edges (map items ts) counts) where
-  pub targets_made : (ts' : List V) → length ts' ≡ 2048 → SameTargets items ts' ts → IsGraph edges × IsIndexed edges (map items ts') counts
-  targets_made ts' long same = (
-    kept.0,
-    record {
-      target_places = λ _. length-map ts' items ∙ long;
-      count_places = kept.1.count_places;
-      listed = λ a row place k. same place ∙ kept.1.listed a row place k;
-      counted = kept.1.counted;
-    },
-  )
-
-  pub made : (ts' : List V) → length ts' ≡ 2048 → SameTargets items ts' ts → (counts' : List ℕ) → length counts' ≡ 2048 → ReadsAs 0 counts' counts → IsGraph edges × IsIndexed edges (map items ts') counts'
-  made ts' long same counts' wide alike =
-      let first : IsGraph edges × IsIndexed edges (map items ts') counts = targets_made ts' long same in (
-        kept.0,
-        record {
-          target_places = first.1.target_places;
-          count_places = λ _. wide;
-          listed = first.1.listed;
-          counted = λ a row place k. alike place ∙ kept.1.counted a row place k;
-        },
-      )
-
--- ---- after a removal
-
-places-fewer : {X : Type 0} (edges es : List Edge) (xs ys : List X) (p : Edge → Bool) → HasPlaces edges xs → es ≡ filter p edges → length ys ≡ length xs → HasPlaces es ys
-places-fewer edges es xs ys p h e l =
-    let is : length es ≡ length (filter p edges) = ap length e in
-    let parts : length (filter p edges) + length (filter (λ x. not (p x)) edges) ≡ length edges = length-filter_both p (λ x. not (p x)) (λ x. refl) edges in
-    λ some. l ∙ h (omega arith)
-
-pub swept_index : {V : Type 0} (items : V → List Addr) (edges es : List Edge) (old ts : List V) (counts counts' : List ℕ) (p : Edge → Bool) → IsIndexed edges (map items old) counts → es ≡ filter p edges →
-    length ts ≡ length old → ((a : Addr) (row place : ℕ) → IsPlace a row place → get_or (map items ts) place [] ≡ filter (λ t. p (edge a t)) (get_or (map items old) place [])) →
-    length counts' ≡ length counts → AreCounts es counts' → IsIndexed es (map items ts) counts'
-swept_index items edges es old ts counts counts' p h e long swept count_long counted =
-    record {
-      target_places = places-fewer edges es (map items old) (map items ts) p h.target_places e (length-map ts items ∙ long ∙ sym (length-map old items));
-      count_places = places-fewer edges es counts counts' p h.count_places e count_long;
-      listed = λ a row place k. swept a row place k ∙ ap (filter (λ t. p (edge a t))) (h.listed a row place k) ∙ sym (targets_of-filter p edges a) ∙ ap (λ x. targets_of x a) (sym e);
-      counted = counted;
-    }
-
--- ---- an edge goes in by steps
-
--- a vector with more room
-pub reserved : {V : Type 0} (items : V → List Addr) (ts : List V) (counts : List ℕ) (edges es : List Edge) (p : ℕ) (d v : V) → IsGraph edges × IsIndexed edges (map items ts) counts → es ≡ edges → items v ≡ items (get_or ts p d) →
-    IsGraph es × IsIndexed es (map items (set ts p v)) counts
-reserved items ts counts edges es p d v k e same = (
-  subst IsGraph (sym e) k.0,
-  subst (λ x. IsIndexed x (map items (set ts p v)) counts) (sym e) (subst (λ t. IsIndexed edges t counts) (sym (same_items items ts counts edges p d v same)) k.1),
-)
-
-pub inserted_is : (edges : List Edge) (s t : Addr) → has_edge edges s t ≡ false → insert_key edge_value.it edges (edge s t) ≡ edges ++ edge s t ∷ []
-inserted_is edges s t fresh = ap (λ b. if b then edges else edges ++ edge s t ∷ []) (any_edge s t edges ∙ fresh)
+pub empty_index : {V : Type 0} (items : V → List Addr) (edges : List Edge) (ts us : List V) → edges ≡ [] → ts ≡ [] → us ≡ [] → IsIndexed edges (map items ts) (map items us)
+empty_index items edges ts us e t c =
+    subst (λ es. IsIndexed es (map items ts) (map items us)) (sym e) (subst (λ vs. IsIndexed [] (map items vs) (map items us)) (sym t) (subst (λ vs. IsIndexed [] [] (map items vs)) (sym c) no_index))

@@ -2,9 +2,10 @@ pub mod Lists
 pub mod Same
 pub mod Chained
 pub mod Indexed
+pub mod ByAge
 pub mod Marks
-pub mod Swept
 pub mod Searched
+pub mod Removed
 pub mod Coming
 pub mod Walked
 pub mod Ended

@@ -1,12 +1,11 @@
 -- Filters of lists.
-use Rattle.std.proofs.Common.{◌≡◌, ℕ, zero, suc, take, ◌≤◌, Bool, true, false, not, cond, ◌&&◌, List, [], ◌∷◌, ◌++◌, map, length, refl, sym, ap, ◌∙◌, arith}
+use Rattle.std.proofs.Common.{◌≡◌, ℕ, ◌≤◌, Bool, true, false, not, cond, ◌&&◌, List, [], ◌∷◌, ◌++◌, map, length, refl, sym, ap, ◌∙◌, arith}
 use Rattle.std.proofs.Common.{Option, None, Some, Bor, get_or, ltb}
 use Rattle.std.specs.Prelude.{is_some, IfSome, if◌then◌else◌}
 use Rattle.std.specs.Option.{option_copied}
 use Rattle.std.specs.List.{filter, list_any, list_all, flat_map, slice_get}
 use Rattle.std.proofs.lemmas.List.Elements.{filter-append}
 use Rattle.std.proofs.lemmas.Bool.{false≢true}
-use Rattle.std.proofs.Math.Seq.{take-append_seam}
 use Rattle.std.proofs.lemmas.Bool.Decides.{nat_tests}
 use Rattle.std.proofs.lemmas.Option.{slice_get_past, slice_get-get_or}
 
@@ -32,15 +31,6 @@ not_true true h = sym h
 not_true false h = refl
 
 module _ {X : Type 0} where
-  pub filter-all : (p : X → Bool) → ((x : X) → p x ≡ true) → (xs : List X) → filter p xs ≡ xs
-  filter-all p h [] = refl
-  filter-all p h (x ∷ xs) = grind (arith, filter-all p h xs, h x)
-
-  -- tests that agree
-  pub filter-agree : (p q : X → Bool) → ((x : X) → p x ≡ q x) → (xs : List X) → filter p xs ≡ filter q xs
-  filter-agree p q h [] = refl
-  filter-agree p q h (x ∷ xs) = grind (arith, filter-agree p q h xs, h x)
-
   -- nothing passes that some test would find
   pub filter-none : (p : X → Bool) (xs : List X) → list_any p xs ≡ false → filter (λ x. not (p x)) xs ≡ xs
   filter-none p [] h = refl
@@ -79,11 +69,6 @@ module _ {X : Type 0} where
   filter-outside p q w [] = refl
   filter-outside p q w (x ∷ xs) = grind (arith, filter-outside p q w xs, w x)
 
-  pub length-filter-take : (p : X → Bool) (xs : List X) (i : ℕ) → length (filter p (take i xs)) ≤ length (filter p xs)
-  length-filter-take p xs zero = omega arith
-  length-filter-take p [] (suc i) = omega arith
-  length-filter-take p (x ∷ xs) (suc i) = grind (arith, length-filter-take p xs i)
-
 pub looked_up : {X : Type 0} (o : Option (Bor X)) (xs : List X) (i : ℕ) → is_some o ≡ ltb i (length xs) → IfSome o (λ x. x.now ≡ get_or xs i x.now) → option_copied o ≡ slice_get xs i
 looked_up None xs i e h = sym (slice_get_past xs i (grind (arith, nat_tests)))
 looked_up (Some x) xs i e h = ap Some h ∙ sym (slice_get-get_or xs i x.now (grind (arith, nat_tests)))
@@ -117,7 +102,3 @@ flat_map-agree f g h (x ∷ xs) = cc (h x, flat_map-agree f g h xs)
 pub flat_map-none : {X Y : Type 0} (f : X → List Y) → ((x : X) → f x ≡ []) → (xs : List X) → flat_map f xs ≡ []
 flat_map-none f h [] = refl
 flat_map-none f h (x ∷ xs) = ap (λ ys. ys ++ flat_map f xs) (h x) ∙ flat_map-none f h xs
-
--- a part that was written over all of a list
-pub written_over : {X : Type 0} (xs ys : List X) (n : ℕ) → length xs ≡ n → take n (xs ++ ys) ≡ xs
-written_over xs ys n e = ap (λ m. take m (xs ++ ys)) (sym e) ∙ take-append_seam xs ys

@@ -1,7 +1,5 @@
 -- Which addresses are one, and their places.
-use Rattle.std.proofs.Common.{◌≡◌, ℕ, ◌+◌, ◌*◌, ◌<◌, Bool, true, false, eqb, ◌&&◌, List, refl, ap, sym, subst, ◌∙◌, arith}
-use Rattle.std.specs.List.{list_any}
-use Rattle.std.specs.Set.{remove_key}
+use Rattle.std.proofs.Common.{◌≡◌, ℕ, ◌+◌, ◌*◌, ◌<◌, Bool, true, false, eqb, ◌&&◌, refl, ap, sym, subst, ◌∙◌, arith}
 use Rattle.std.proofs.lemmas.Bool.Decides.{nat_tests}
 use Rattle.std.proofs.lemmas.Bool.{false≢true, eqb-true}
 use Rattle.node_table.specs.Addresses.{same, same_node}
@@ -12,7 +10,7 @@ use Rattle.node_table.specs.declared.number.Node.TheVariants.{Port, Filter}
 use Rattle.node_table.specs.contracts.number.AddrPartialEq.TheImpl.{eq-value as addr_value}
 use Rattle.patch_graph.specs.declared.edge.Edge.{Edge}
 use Rattle.patch_graph.specs.contracts.edge.EdgePartialEq.TheImpl.{eq-value as edge_value}
-use Rattle.patch_graph.specs.Edges.{edge, is_edge, has_edge}
+use Rattle.patch_graph.specs.Edges.{edge, is_edge}
 use Rattle.patch_graph.proofs.Lists.{both_left, both_right, and_both, refuted}
 
 same_node-is : (m n : Node) → same_node m n ≡ true → m ≡ n
@@ -97,9 +95,3 @@ addr_eq a b = addr_eq-nodes a.client b.client a.node b.node
 
 pub edge_eq : (s t : Addr) (e : Edge) → edge_value.it (edge s t) e ≡ is_edge s t e
 edge_eq s t e = λ j. addr_eq s e.source j && addr_eq t e.target j
-
-pub any_edge : (s t : Addr) (edges : List Edge) → list_any (edge_value.it (edge s t)) edges ≡ has_edge edges s t
-any_edge s t edges = ap (λ (p : Edge → Bool). list_any p edges) (λ j e. edge_eq s t e j)
-
-pub remove_edge : (s t : Addr) (edges : List Edge) → remove_key (edge_value.it (edge s t)) edges ≡ remove_key (is_edge s t) edges
-remove_edge s t edges = ap (λ (p : Edge → Bool). remove_key p edges) (λ j e. edge_eq s t e j)

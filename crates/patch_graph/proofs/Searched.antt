@@ -146,7 +146,7 @@ filters_get (t ∷ ts) xs i l = let h : length xs ≤ length (step xs t) = step_
 
 -- ---- where a found node stands
 
-in_from_get : (xs : List Addr) (i : ℕ) (x : Addr) → slice_get xs i ≡ Some x → In x xs
+pub in_from_get : (xs : List Addr) (i : ℕ) (x : Addr) → slice_get xs i ≡ Some x → In x xs
 in_from_get [] i x h = cc
 in_from_get (y ∷ xs) zero x h = let e : x ≡ y = cc in ap (λ b. b || list_any (same x) xs) (same-from x y e)
 in_from_get (y ∷ xs) (suc i) x h = by (same x y) (in_from_get xs i x h)
@@ -168,7 +168,7 @@ past_end [] i h = omega arith
 past_end (x ∷ xs) zero h = cc
 past_end (x ∷ xs) (suc i) h = let k : length xs ≤ i = past_end xs i h in omega arith
 
-targets-in : (edges : List Edge) (a x : Addr) → list_any (same x) (targets_of edges a) ≡ has_edge edges a x
+pub targets-in : (edges : List Edge) (a x : Addr) → list_any (same x) (targets_of edges a) ≡ has_edge edges a x
 targets-in [] a x = refl
 targets-in (e ∷ es) a x = by (same a e.source) (targets-in es a x)
   where

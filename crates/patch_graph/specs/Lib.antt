@@ -2,8 +2,8 @@ pub mod Edges
 pub mod Paths
 pub mod Chains
 pub mod Index
+pub mod Aged
 pub mod Found
-pub mod Removal
 pub mod Cursor
 pub mod Codes
 pub mod Faults

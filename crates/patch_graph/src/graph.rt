@@ -1,29 +1,30 @@
 //! The graph of subscriptions.
 
-ghost use Rattle.std.specs.Prelude.{◌≡◌, ◌≤◌, ◌<◌, ◌==◌, ◌↔◌, ℕ, true, false, not, List, [], ◌∷◌, ◌++◌, length, map, slice_get, slice_index, slice_index_or, OnOk, OnErr, IsErrOf, IsTrue};
-ghost use Rattle.std.specs.Option.{option_map};
+ghost use Rattle.std.specs.Prelude.{◌≡◌, ◌≤◌, ◌<◌, ◌==◌, ◌↔◌, ℕ, true, false, not, List, [], ◌∷◌, ◌++◌, length, map, slice_index_or, OnOk, OnErr, IfOk, IsErrOf, IsTrue};
+ghost use Rattle.std.specs.Bool.{OnTrue, OnFalse};
 ghost use Rattle.std.specs.List.{filter};
-ghost use Rattle.node_table.specs.Kept.{IsTable};
+ghost use Rattle.node_table.specs.Kept.{IsPlace, IsTable};
 ghost use Rattle.node_table.specs.declared.number.Addr.{Addr};
 ghost use Rattle.node_table.specs.Numbers.{places};
 ghost use Rattle.patch_graph.specs.Edges.{edge, has_edge, without_edge, touches, touches_client, sources_of, most_sources};
 ghost use Rattle.patch_graph.specs.Chains.{Reaches, makes_cycle};
 ghost use Rattle.patch_graph.specs.Found.{with_filters};
-ghost use Rattle.patch_graph.specs.Removal.{takes};
-ghost use Rattle.patch_graph.specs.Index.{ends, targets_of, HasPlaces, SameTargets, AreCounts};
+ghost use Rattle.patch_graph.specs.Index.{targets_of, origins_of, LosesOne, SameLists};
 
+use crate::aged::AgedEdges;
 use crate::edge::Edge;
 use crate::fault::EdgeFault;
 use crate::found::Found;
-use crate::removal::Removal;
-use indexmap::IndexSet;
 use memory::OutOfMemory;
-use node_table::{Addr, ClientId, PLACES, make_places, place_of};
+use node_table::{Addr, ClientId, PLACES, addr_at, place_of, row_of};
 use std::alloc::{AllocError, Global};
 use std::marker::Model;
 
 /// How many edges may end at a node.
 pub const MOST_SOURCES: usize = 32;
+
+/// How many nodes a client may have, each with a place of its own.
+const NODES: usize = 32;
 
 /// The subscriptions, oldest first.
 ///
@@ -32,11 +33,11 @@ pub const MOST_SOURCES: usize = 32;
 #[derive(Drop)]
 pub struct PatchGraph {
     alloc: Global,
-    edges: IndexSet<Edge>,
-    // By `place_of`: the targets of a node, oldest first, and how many edges end at it. Both are empty until the first
-    // edge is added.
+    edges: AgedEdges,
+    // By `place_of`: the targets of a node, and its sources, each by the age of the edge, oldest first. Both are empty
+    // until the first edge is added.
     targets: Vec<Vec<Addr>>,
-    counts: Vec<u8>,
+    sources: Vec<Vec<Addr>>,
 }
 
 impl Model for PatchGraph {
@@ -46,33 +47,32 @@ impl Model for PatchGraph {
 
     ghost Value = { List Edge };
 
-    ghost view = { λ g. g.edges.keys };
+    ghost view = { λ g. g.edges };
 
-    ghost invariant = { λ g. IsGraph g.edges.keys
-        × IsIndexed g.edges.keys (map (λ v. v.items) g.targets.items) g.counts.items };
+    ghost invariant = { λ g. IsGraph g.edges
+        × IsIndexed g.edges (map (λ v. v.items) g.targets.items)
+        (map (λ v. v.items) g.sources.items) };
 }
 
-/// Makes the places of a table that has none yet, each with no targets. One that has them stays as it is.
-fn make_targets(alloc: Global, targets: &mut Vec<Vec<Addr>>) -> Result<(), AllocError>
-    requires { IsTable targets.old.items }
-    ensures whole { OnOk result (length targets.new.items ≡ places) }
-    ensures err { OnErr result (targets.new.items ≡ targets.old.items) }
-    ensures same { SameTargets (λ v. v.items) targets.new.items targets.old.items }
+/// Makes the places of a table that has none yet, each with an empty list. One that has them stays as it is.
+fn make_lists(alloc: Global, lists: &mut Vec<Vec<Addr>>) -> Result<(), AllocError>
+    requires { IsTable lists.old.items }
+    ensures whole { OnOk result (length lists.new.items ≡ places) }
+    ensures err { OnErr result (lists.new.items ≡ lists.old.items) }
+    ensures same { SameLists (λ v. v.items) lists.new.items lists.old.items }
 {
-    targets.resize_with(PLACES, || Vec::new(alloc))?;
+    lists.resize_with(PLACES, || Vec::new(alloc))?;
     Ok(())
 }
 
-/// Counts how many edges end at each node, by `place_of`.
-fn count_sources(counts: &mut [u8], edges: &[Edge])
-    requires places { HasPlaces edges.now counts.old }
-    requires few { (a : Addr) → sources_of edges.now a ≤ most_sources }
-    ensures len { length counts.new ≡ length counts.old }
-    ensures counted { AreCounts edges.now counts.new }
+/// What a table has at the place of a node, which is nothing where the table has no places.
+fn list_at<'t>(lists: &'t [Vec<Addr>], node: &Addr) -> &'t [Addr]
+    ensures { (row place : ℕ) × IsPlace node.now row place
+        × (result.now ≡ slice_index_or (map (λ v. v.items) lists.now) place []) }
 {
-    counts.fill(0);
-    for edge in edges {
-        counts[place_of(&edge.target)] += 1;
+    match lists.get(place_of(node)) {
+        Some(list) => list.as_slice(),
+        None => &[],
     }
 }
 
@@ -83,9 +83,9 @@ impl PatchGraph {
     {
         PatchGraph {
             alloc,
-            edges: IndexSet::new(alloc),
+            edges: AgedEdges::new(alloc),
             targets: Vec::new(alloc),
-            counts: Vec::new(alloc),
+            sources: Vec::new(alloc),
         }
     }
 
@@ -117,12 +117,11 @@ impl PatchGraph {
         self.edges.is_empty()
     }
 
-    /// The source and the target of an edge, by its place in the order of age from 0 on.
-    pub fn edge(&self, index: usize) -> Option<(Addr, Addr)>
-        ensures { result ≡ option_map ends (slice_get self.now index) }
+    /// All edges, oldest first.
+    pub fn edges(&self, alloc: Global) -> Result<Vec<Edge>, OutOfMemory>
+        ensures { IfOk result (λ edges. edges.items ≡ self.now) }
     {
-        let edge = self.edges.get_index(index)?;
-        Some((edge.source, edge.target))
+        self.edges.edges(alloc)
     }
 
     /// How many edges end at a node, in constant time.
@@ -130,17 +129,21 @@ impl PatchGraph {
         ensures count { result ≡ sources_of self.now target.now }
         ensures few { result ≤ most_sources }
     {
-        self.counts.get(place_of(target)).copied().unwrap_or(0) as usize
+        list_at(&self.sources, target).len()
+    }
+
+    /// The nodes that are joined to a node, the oldest edge first.
+    fn origins(&self, target: &Addr) -> &[Addr]
+        ensures { result.now ≡ origins_of self.now target.now }
+    {
+        list_at(&self.sources, target)
     }
 
     /// The nodes that a node is joined to, the oldest edge first.
     pub fn targets(&self, source: &Addr) -> &[Addr]
         ensures { result.now ≡ targets_of self.now source.now }
     {
-        match self.targets.get(place_of(source)) {
-            Some(targets) => targets.as_slice(),
-            None => &[],
-        }
+        list_at(&self.targets, source)
     }
 
     /// Removes an edge, and says whether it was there. It takes no memory.
@@ -152,35 +155,69 @@ impl PatchGraph {
             source: *source,
             target: *target,
         };
-        if !self.edges.shift_remove(&edge) {
+        if !self.edges.remove(&edge) {
             return false;
         }
         self.targets[place_of(source)].retain(|other| other != target);
-        self.counts[place_of(target)] -= 1;
+        self.sources[place_of(target)].retain(|other| other != source);
         true
     }
 
-    /// Removes the edges that begin or end at a node, in a pass over all edges. It takes no memory.
+    /// Removes the youngest edge that begins at a node, and says whether there was one.
+    // Not by `disconnect`, which looks at all targets of the node: to remove them one by one would go over each of them
+    // as often as there are others.
+    fn pop_target(&mut self, source: &Addr) -> bool
+        ensures gone { OnTrue result (LosesOne source.now self.old self.new) }
+        ensures none { OnFalse result (targets_of self.old source.now ≡ []) }
+        ensures kept { OnFalse result (self.new ≡ self.old) }
+    {
+        let Some(target) = self.targets(source).last().copied() else {
+            return false;
+        };
+        self.edges.remove(&Edge {
+            source: *source,
+            target,
+        });
+        self.targets[place_of(source)].pop();
+        self.sources[place_of(&target)].retain(|other| other != source);
+        true
+    }
+
+    /// Removes the youngest edge that ends at a node, and says whether there was one.
+    fn pop_source(&mut self, target: &Addr) -> bool
+        ensures gone { OnTrue result (LosesOne target.now self.old self.new) }
+        ensures none { OnFalse result (origins_of self.old target.now ≡ []) }
+        ensures kept { OnFalse result (self.new ≡ self.old) }
+    {
+        let Some(source) = self.origins(target).last().copied() else {
+            return false;
+        };
+        self.disconnect(&source, target)
+    }
+
+    /// Removes the edges that begin or end at a node, and looks at no others but those of its neighbours. It takes no
+    /// memory.
     pub fn remove_node(&mut self, node: &Addr)
         ensures { self.new ≡ filter (λ e. not (touches node.now e)) self.old }
     {
-        self.remove(&Removal::Node(*node));
+        while self.pop_target(node) {}
+        while self.pop_source(node) {}
     }
 
-    /// Removes the edges that begin or end at a node of a client, in a pass over all edges. It takes no memory.
+    /// Removes the edges that begin or end at a node of a client, as `remove_node` does for each of its nodes. It takes
+    /// no memory.
     pub fn remove_client(&mut self, client: ClientId)
         ensures { self.new ≡ filter (λ e. not (touches_client client e)) self.old }
     {
-        self.remove(&Removal::Client(client));
-    }
-
-    fn remove(&mut self, removal: &Removal)
-        ensures { self.new ≡ filter (λ e. not (takes removal.now e)) self.old }
-    {
-        self.edges
-            .retain(|edge| !removal.takes(&edge.source, &edge.target));
-        removal.sweep(&mut self.targets);
-        count_sources(&mut self.counts, self.edges.as_slice());
+        if self.edges.is_empty() {
+            return;
+        }
+        let first = row_of(client) * NODES;
+        for place in first..first + NODES {
+            if let Some(node) = addr_at(place) {
+                self.remove_node(&node);
+            }
+        }
     }
 
     /// Whether a chain of edges leads from one node to the other through filters alone, both of them filters too. It
@@ -259,13 +296,15 @@ impl PatchGraph {
         ensures ok { OnOk result (self.new ≡ self.old ++ edge source target ∷ []) }
         ensures err { OnErr result (self.new ≡ self.old) }
     {
-        make_targets(self.alloc, &mut self.targets)?;
-        make_places(&mut self.counts, 0)?;
-        let place = place_of(&source);
-        self.targets[place].reserve(1)?;
-        self.edges.insert(Edge { source, target })?;
-        self.targets[place].push(target).ok().unwrap();
-        self.counts[place_of(&target)] += 1;
+        make_lists(self.alloc, &mut self.targets)?;
+        make_lists(self.alloc, &mut self.sources)?;
+        let from = place_of(&source);
+        let to = place_of(&target);
+        self.targets[from].reserve(1)?;
+        self.sources[to].reserve(1)?;
+        self.edges.push(&Edge { source, target })?;
+        self.targets[from].push(target).ok().unwrap();
+        self.sources[to].push(source).ok().unwrap();
         Ok(())
     }
 }

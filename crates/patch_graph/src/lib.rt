@@ -1,13 +1,13 @@
 //! The graph of subscriptions: who is joined to whom, in order of age, and the paths that a message takes.
 #![tactic(auto)]
 
+mod aged;
 mod edge;
 mod fault;
 mod found;
 mod graph;
 mod laws;
 mod path;
-mod removal;
 mod route;
 
 pub use edge::Edge;

@@ -1,9 +1,8 @@
 -- The texts of numbers, one after another.
-use Rattle.std.proofs.Common.{◌≡◌, ◌<◌, ℕ, zero, suc, ◌+◌, List, [], ◌∷◌, ◌++◌, length, take, sym, ap, ◌∙◌, add-one, append_assoc, append-nil, arith}
-use Rattle.std.specs.Prelude.{slice_get}
+use Rattle.std.proofs.Common.{◌≡◌, ◌<◌, ℕ, zero, suc, ◌+◌, List, [], ◌∷◌, ◌++◌, length, take, get_or, sym, ap, ◌∙◌, add-one, append_assoc, append-nil, arith}
 use Rattle.std.specs.List.{flat_map}
 use Rattle.patch_graph.specs.declared.edge.Edge.{Edge}
-use Rattle.seq_patchbay.specs.Listing.{texts, edge_line, edge_lines}
+use Rattle.seq_patchbay.specs.Listing.{texts, edge_line}
 
 -- one number more
 pub texts_more : (first n m : ℕ) (f : ℕ → List ℕ) (before now next : List ℕ) → m ≡ first + n → now ≡ before ++ texts first n f → next ≡ now ++ f m → next ≡ before ++ texts first (n + 1) f
@@ -19,13 +18,14 @@ texts_none first f xs = sym (append-nil xs)
 abbrev line : Edge → List ℕ
 line e = edge_line e.source e.target
 
-edges_suc : (es : List Edge) (i : ℕ) → i < length es → flat_map line (take (suc i) es) ≡ flat_map line (take i es) ++ edge_lines (slice_get es i)
-edges_suc [] i l = absurd (omega arith)
-edges_suc (e ∷ es) zero l = append-nil (line e)
-edges_suc (e ∷ es) (suc i) l = ap (λ xs. line e ++ xs) (edges_suc es i (omega arith)) ∙ sym (append_assoc (line e) (flat_map line (take i es)) (edge_lines (slice_get es i)))
+edges_suc : (es : List Edge) (i : ℕ) (d : Edge) → i < length es → flat_map line (take (suc i) es) ≡ flat_map line (take i es) ++ line (get_or es i d)
+edges_suc [] i d l = absurd (omega arith)
+edges_suc (e ∷ es) zero d l = append-nil (line e)
+edges_suc (e ∷ es) (suc i) d l = ap (λ xs. line e ++ xs) (edges_suc es i d (omega arith)) ∙ sym (append_assoc (line e) (flat_map line (take i es)) (line (get_or es i d)))
 
 -- one edge more
-pub edges_more : (es : List Edge) (i : ℕ) (before now next : List ℕ) → i < length es → now ≡ before ++ flat_map (λ e. edge_line e.source e.target) (take i es) → next ≡ now ++ edge_lines (slice_get es i) → next ≡ before ++ flat_map (λ e. edge_line e.source e.target) (take (i + 1) es)
-edges_more es i before now next l h k =
-    k ∙ ap (λ xs. xs ++ edge_lines (slice_get es i)) h ∙ append_assoc before (flat_map line (take i es)) (edge_lines (slice_get es i))
-    ∙ ap (λ xs. before ++ xs) (sym (edges_suc es i l)) ∙ ap (λ n. before ++ flat_map line (take n es)) (sym (add-one i))
+pub edges_more : (es : List Edge) (i : ℕ) (d e : Edge) (before now next : List ℕ) → i < length es → get_or es i d ≡ e → now ≡ before ++ flat_map (λ e. edge_line e.source e.target) (take i es) → next ≡ now ++ edge_line e.source e.target → next ≡ before ++ flat_map (λ e. edge_line e.source e.target) (take (i + 1) es)
+edges_more es i d e before now next l is h k =
+    k ∙ ap (λ xs. xs ++ line e) h ∙ append_assoc before (flat_map line (take i es)) (line e)
+    ∙ ap (λ x. before ++ (flat_map line (take i es) ++ line x)) (sym is)
+    ∙ ap (λ xs. before ++ xs) (sym (edges_suc es i d l)) ∙ ap (λ n. before ++ flat_map line (take n es)) (sym (add-one i))

@@ -76,10 +76,6 @@ abbrev pub queue_lines : ℕ → ℕ → Option Queue → List ℕ
 queue_lines client queue None = []
 queue_lines client queue (Some q) = queue_line client queue q
 
-abbrev pub edge_lines : Option Edge → List ℕ
-edge_lines None = []
-edge_lines (Some e) = edge_line e.source e.target
-
 -- ---- the listing
 
 -- the texts of n numbers from the first on

@@ -1,9 +1,9 @@
 //! The listing.
 
-ghost use Rattle.std.specs.Prelude.{◌≡◌, ◌++◌, OnOk, IfOk, slice_get};
+ghost use Rattle.std.specs.Prelude.{◌≡◌, ◌++◌, OnOk, IfOk};
 ghost use Rattle.std.specs.FinMap as map;
 ghost use Rattle.seq_state.specs.Effect.{port_of, filter_of, queue_of};
-ghost use Rattle.seq_patchbay.specs.Listing.{client_line, port_line, rule_text, channel_text, filter_line, queue_line, edge_line, client_lines, port_lines, filter_lines, queue_lines, edge_lines, client_texts, port_texts, filter_texts, queue_texts, edge_texts, listing};
+ghost use Rattle.seq_patchbay.specs.Listing.{client_line, port_line, rule_text, channel_text, filter_line, queue_line, edge_line, client_lines, port_lines, filter_lines, queue_lines, client_texts, port_texts, filter_texts, queue_texts, edge_texts, listing};
 
 use crate::patchbay::Patchbay;
 use bitflags::Flags;
@@ -12,7 +12,7 @@ use node_table::{
     Addr, Caps, ClientId, FIRST_CLIENT, FilterNo, LAST_CLIENT, MOST_FILTERS, MOST_PORTS,
     MOST_QUEUES, Node, PortNo, QueueAddr, QueueNo,
 };
-use patch_graph::PatchGraph;
+use patch_graph::{Edge, PatchGraph};
 use route_filter::RuleArgs;
 use seq_clients::{Clients, Queue};
 use std::alloc::Global;
@@ -273,24 +273,16 @@ fn list_queue(
 fn list_edges(alloc: Global, graph: &PatchGraph, out: &mut Vec<u8>) -> Result<(), OutOfMemory>
     ensures { OnOk result (out.new.items ≡ out.old.items ++ edge_texts graph.now) }
 {
-    for index in 0..graph.len() {
-        list_edge_at(alloc, graph, index, out)?;
-    }
-    Ok(())
+    let edges = graph.edges(alloc)?;
+    list_each_edge(alloc, edges.as_slice(), out)
 }
 
-/// Adds the line of the subscription with this place in the order of age, if there is one.
-fn list_edge_at(
-    alloc: Global,
-    graph: &PatchGraph,
-    index: usize,
-    out: &mut Vec<u8>,
-) -> Result<(), OutOfMemory>
-    ensures { let e = slice_get graph.now index in
-        OnOk result (out.new.items ≡ out.old.items ++ edge_lines e) }
+/// Adds the lines of subscriptions, one after another.
+fn list_each_edge(alloc: Global, edges: &[Edge], out: &mut Vec<u8>) -> Result<(), OutOfMemory>
+    ensures { OnOk result (out.new.items ≡ out.old.items ++ edge_texts edges.now) }
 {
-    if let Some((source, target)) = graph.edge(index) {
-        list_edge(alloc, &source, &target, out)?;
+    for edge in edges {
+        list_edge(alloc, &edge.source, &edge.target, out)?;
     }
     Ok(())
 }

@@ -5,6 +5,7 @@ use super::numbers::{addr, client, port};
 use memory::OutOfMemory;
 use node_table::{Addr, PortAddr};
 use patch_graph::{EdgeFault, PatchGraph, Path, Routes};
+use std::alloc::Global;
 use std::process::Abort;
 use std::test::Fail;
 
@@ -271,21 +272,37 @@ fn joins_ports(rt: &impl Abort, graph: &mut PatchGraph, of: u8, to: At) -> bool 
     true
 }
 
-fn has(graph: &PatchGraph, count: usize) -> bool {
-    graph.len() == count && graph.is_empty() == (count == 0) && graph.edge(count) == None
+fn has(alloc: Global, graph: &PatchGraph, count: usize) -> Result<bool, OutOfMemory> {
+    let edges = graph.edges(alloc)?;
+    Ok(graph.len() == count && graph.is_empty() == (count == 0) && edges.len() == count)
 }
 
-fn has_at(rt: &impl Abort, graph: &PatchGraph, place: usize, edge: Edge) -> bool {
-    graph.edge(place) == Some((addr(rt, edge.0), addr(rt, edge.1)))
+fn has_at(
+    rt: &impl Abort,
+    alloc: Global,
+    graph: &PatchGraph,
+    place: usize,
+    edge: Edge,
+) -> Result<bool, OutOfMemory> {
+    let edges = graph.edges(alloc)?;
+    Ok(match edges.get(place) {
+        Some(found) => found.source == addr(rt, edge.0) && found.target == addr(rt, edge.1),
+        None => false,
+    })
 }
 
-fn has_edges(rt: &impl Abort, graph: &PatchGraph, edges: &[Edge]) -> bool {
+fn has_edges(
+    rt: &impl Abort,
+    alloc: Global,
+    graph: &PatchGraph,
+    edges: &[Edge],
+) -> Result<bool, OutOfMemory> {
     for (place, edge) in edges.iter().enumerate() {
-        if !has_at(rt, graph, place, *edge) {
-            return false;
+        if !has_at(rt, alloc, graph, place, *edge)? {
+            return Ok(false);
         }
     }
-    has(graph, edges.len())
+    has(alloc, graph, edges.len())
 }
 
 fn are(rt: &impl Abort, nodes: &[Addr], wanted: &[At]) -> bool {
@@ -347,7 +364,12 @@ fn answer(graph: &mut PatchGraph, question: Question, from: &Addr, to: &Addr) ->
 }
 
 /// Whether a call gives what the step says.
-fn holds(rt: &impl Abort, graph: &mut PatchGraph, step: Step) -> Result<bool, OutOfMemory> {
+fn holds(
+    rt: &impl Abort,
+    alloc: Global,
+    graph: &mut PatchGraph,
+    step: Step,
+) -> Result<bool, OutOfMemory> {
     Ok(match step {
         Joins(edges) => joins(rt, graph, edges),
         JoinsPorts(of, to) => joins_ports(rt, graph, of, to),
@@ -363,9 +385,9 @@ fn holds(rt: &impl Abort, graph: &mut PatchGraph, step: Step) -> Result<bool, Ou
             graph.remove_client(client(rt, number));
             true
         }
-        Has(count) => has(graph, count),
-        HasEdges(edges) => has_edges(rt, graph, edges),
-        HasAt(place, edge) => has_at(rt, graph, place, edge),
+        Has(count) => has(alloc, graph, count)?,
+        HasEdges(edges) => has_edges(rt, alloc, graph, edges)?,
+        HasAt(place, edge) => has_at(rt, alloc, graph, place, edge)?,
         Sources(of, count) => graph.sources(&addr(rt, of)) == count,
         Targets(of, nodes) => are(rt, graph.targets(&addr(rt, of)), nodes),
         Ways(from, ways) => goes(rt, graph, &addr(rt, from), ways)?,
@@ -373,9 +395,18 @@ fn holds(rt: &impl Abort, graph: &mut PatchGraph, step: Step) -> Result<bool, Ou
 }
 
 /// Takes the steps of a case, from a new graph on.
-fn assert_case(rt: &impl Abort, graph: &mut PatchGraph, case: &Case) -> Result<(), OutOfMemory> {
+fn assert_case(
+    rt: &impl Abort,
+    alloc: Global,
+    graph: &mut PatchGraph,
+    case: &Case,
+) -> Result<(), OutOfMemory> {
     for (number, step) in case.steps.iter().enumerate() {
-        assert!(rt; holds(rt, graph, *step)?, "{}: step {number}", case.name);
+        assert!(rt;
+            holds(rt, alloc, graph, *step)?,
+            "{}: step {number}",
+            case.name
+        );
     }
     Ok(())
 }
@@ -384,7 +415,7 @@ fn assert_case(rt: &impl Abort, graph: &mut PatchGraph, case: &Case) -> Result<(
 fn graphs_answer_step_by_step(rt: HostRuntime) -> Result<(), Fail> {
     for case in CASES {
         let mut graph = PatchGraph::new(rt.alloc());
-        assert_case(&rt, &mut graph, case)?;
+        assert_case(&rt, rt.alloc(), &mut graph, case)?;
     }
     Ok(())
 }

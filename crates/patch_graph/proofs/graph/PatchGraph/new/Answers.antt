@@ -3,4 +3,4 @@ use Rattle.patch_graph.proofs.graph.PatchGraph.new.Goals as goal
 
 pub invariant_of-result : goal.invariant_of-result
 invariant_of-result c =
-    (empty_graph c.new.result.keys c.new.ensures.empty, empty_index (λ v. v.items) c.new.result.keys _ _ c.new.ensures.empty c.new-2.ensures.items c.new-3.ensures.items)
+    (empty_graph c.new.result c.new.ensures, empty_index (λ v. v.items) c.new.result _ _ c.new.ensures c.new-2.ensures.items c.new-3.ensures.items)

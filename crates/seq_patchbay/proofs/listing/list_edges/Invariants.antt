@@ -1,7 +1,0 @@
-use Rattle.std.proofs.Common.{◌≡◌, ◌++◌, take}
-use Rattle.std.specs.List.{flat_map}
-use Rattle.seq_patchbay.specs.Listing.{edge_line}
-use Rattle.seq_patchbay.proofs.listing.list_edges.Given as goal
-
-abbrev pub invariant-loop-index : goal.invariant-loop-index
-invariant-loop-index l = l.out.items ≡ l.initial.out.items ++ flat_map (λ e. edge_line e.source e.target) (take l.index l.fn.graph)
