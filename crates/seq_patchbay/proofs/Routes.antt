@@ -25,7 +25,7 @@ use Rattle.seq_sending.specs.Ways.{spread_all, AreWays}
 use Rattle.seq_sending.specs.declared.ways.Way.TheVariants.{Straight}
 use Rattle.midi_wire.specs.Messages.{IsMessage}
 use Rattle.node_table.specs.declared.number.PortAddr.{PortAddr}
-use Rattle.seq_sending.proofs.Onward.{flat_map-same, to-nobody}
+use Rattle.seq_sending.proofs.Onward.{flat_map-same}
 
 -- ---- along a path
 
@@ -165,10 +165,3 @@ pub none-come : (clients : FinMap nat_cmp Client) (edges : List Edge) (moment cl
     copies_of_all clients edges moment client port messages ≡ []
 none-come clients edges moment client port [] e = refl
 none-come clients edges moment client port (m ∷ ms) e = absurd (omega arith)
-
--- nor of any, where it has no targets
-pub none-to-nobody : (clients : FinMap nat_cmp Client) (edges : List Edge) (moment : ℕ) (targets : List Addr) (messages : List (List ℕ)) → length targets ≡ 0 →
-    spread_all clients edges moment targets messages ≡ []
-none-to-nobody clients edges moment targets [] e = refl
-none-to-nobody clients edges moment targets (m ∷ ms) e =
-    ap (λ ds. ds ++ spread_all clients edges moment targets ms) (to-nobody clients edges moment hops targets m e) ∙ none-to-nobody clients edges moment targets ms e

@@ -15,7 +15,7 @@ use midi_wire::Message;
 use node_table::{Addr, ClientId, Node, PortNo, QueueAddr};
 use patch_graph::PatchGraph;
 use seq_clients::Clients;
-use seq_sending::{WayTable, deliver, send_each, ways_to};
+use seq_sending::{WayTable, deliver};
 use seq_settle::Desk;
 use seq_state::{Arrival, Delivery};
 use std::alloc::Global;
@@ -26,7 +26,6 @@ use tempo_clock::Due;
 /// The open clients and the subscriptions between their nodes.
 #[derive(Drop)]
 pub struct Patchbay {
-    alloc: Global,
     pub(crate) clients: Clients,
     graph: PatchGraph,
     ways: WayTable,
@@ -34,7 +33,7 @@ pub struct Patchbay {
 
 impl Model for Patchbay {
     ghost use Rattle.seq_patchbay.specs.Network.{Network, coded_network};
-    ghost use Rattle.seq_sending.specs.Ways.{AreWaysKept};
+    ghost use Rattle.seq_sending.specs.Table.{AreWaysKept};
 
     ghost Value = { Network };
 
@@ -52,7 +51,6 @@ impl Patchbay {
         ensures graph { result.graph ≡ [] }
     {
         Patchbay {
-            alloc,
             clients: Clients::new(alloc),
             graph: PatchGraph::new(alloc),
             ways: WayTable::new(alloc),
@@ -159,20 +157,9 @@ impl Patchbay {
             client,
             node: Node::Port(port),
         };
-        let alloc = self.alloc;
-        if let Some(ways) = self.ways.get(&source) {
-            let (clients, graph) = (&mut self.clients, &self.graph);
-            return send_each(alloc, clients, graph, moment, &source, ways, messages, out);
-        }
-        let targets = self.graph.targets(&source);
-        // What reaches nobody takes no memory.
-        if targets.is_empty() {
-            return Ok(());
-        }
-        let ways = ways_to(alloc, &self.clients, &self.graph, targets)?;
         let (clients, graph) = (&mut self.clients, &self.graph);
-        send_each(alloc, clients, graph, moment, &source, &ways, messages, out)?;
-        self.ways.insert(&source, ways)
+        self.ways
+            .send_all(clients, graph, moment, &source, messages, out)
     }
 }
 

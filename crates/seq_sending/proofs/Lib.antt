@@ -3,6 +3,7 @@ pub mod Onward
 pub mod Known
 pub mod Rooms
 pub mod CopyCounts
+pub mod Classes
 pub mod Totals
 pub mod Reached
 pub mod Losing

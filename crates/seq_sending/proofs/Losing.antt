@@ -1,11 +1,17 @@
 -- The lost copies, client by client.
 use Rattle.std.proofs.Common.{◌≡◌, ◌⊎◌, inl, inr, ◌+◌, ◌-◌, ◌<◌, ◌≤◌, ℕ, false, cond, min, List, [], ◌∷◌, length, None, refl, sym, ap, subst, ◌∙◌, arith}
-use Rattle.std.specs.FinMap.{get}
+use Rattle.std.specs.Ordering.{nat_cmp}
+use Rattle.std.specs.FinMap.{FinMap, get}
 use Rattle.std.proofs.lemmas.Bool.{cases_lt, cases_eq, eq-eqb}
+use Rattle.node_table.specs.declared.number.Addr.{Addr}
+use Rattle.patch_graph.specs.Paths.{hops}
+use Rattle.patch_graph.specs.declared.edge.Edge.{Edge}
 use Rattle.seq_state.specs.declared.log.Delivery.{Delivery}
-use Rattle.seq_state.specs.State.{with_entry}
-use Rattle.seq_clients.proofs.Changing.{get-put_same, get-put_other}
+use Rattle.seq_state.specs.State.{Client}
 use Rattle.seq_state.specs.Step.{pool_has_room, pools_after, copies_with_room}
+use Rattle.seq_sending.specs.Carrying.{copies_onward}
+use Rattle.seq_sending.specs.KeptCounts.{AreCounts}
+use Rattle.seq_sending.proofs.CopyCounts.{count_law}
 use Rattle.seq_sending.specs.Rooms.{room_of, for_client, copies_for, with_losses}
 use Rattle.seq_sending.proofs.Rooms.{Pools, firsts, has-room, losses_law}
 use Rattle.std.specs.Prelude.{nat_lt, slice_index}
@@ -13,23 +19,19 @@ use Rattle.std.proofs.lemmas.List.{length-take}
 use Rattle.std.proofs.lemmas.Bool.Decides.{nat_tests}
 
 -- the pool at one row changed
-module _ (was now after : Pools) (row : ℕ) (n : ℕ) (e : after ≡ with_entry now (128 + row) (with_losses n (get now (128 + row)))) where
-  pub others-stay : (c : ℕ) → (c ≡ 128 + row → ⊥) → get after c ≡ get now c
-  others-stay c apart = ap (λ p. get p c) e ∙ get-put_other now (128 + row) (with_losses n (get now (128 + row))) c apart
-
-  pub this-loses : get now (128 + row) ≡ get was (128 + row) → get after (128 + row) ≡ with_losses n (get was (128 + row))
-  this-loses same = ap (λ p. get p (128 + row)) e ∙ get-put_same now (128 + row) (with_losses n (get now (128 + row))) ∙ ap (with_losses n) same
-
+module _ (was now after : Pools) (row : ℕ) (n : ℕ) (here : get after (128 + row) ≡ with_losses n (get now (128 + row))) (others : (c : ℕ) → (c ≡ 128 + row → ⊥) → get after c ≡ get now c) where
   pub lose-more : (counts : List ℕ) → n ≡ slice_index counts row → get now (128 + row) ≡ get was (128 + row) →
       ((r : ℕ) → r < row → get now (128 + r) ≡ with_losses (slice_index counts r) (get was (128 + r))) →
       (r : ℕ) → r < row + 1 → get after (128 + r) ≡ with_losses (slice_index counts r) (get was (128 + r))
   lose-more counts at same before r low = go (cases_eq r row)
     where
       go : (r ≡ row) ⊎ (r ≡ row → ⊥) → get after (128 + r) ≡ with_losses (slice_index counts r) (get was (128 + r))
-      go (inl here) = subst (λ k. get after (128 + k) ≡ with_losses (slice_index counts k) (get was (128 + k))) (sym here) (this-loses same ∙ ap (λ k. with_losses k (get was (128 + row))) at)
+      go (inl e) =
+          subst (λ k. get after (128 + k) ≡ with_losses (slice_index counts k) (get was (128 + k))) (sym e)
+          (here ∙ ap (with_losses n) same ∙ ap (λ k. with_losses k (get was (128 + row))) at)
       go (inr apart) =
           let m : r < row = less r row low apart in
-          others-stay (128 + r) (λ f. apart (same-row r row f)) ∙ before r m
+          others (128 + r) (λ f. apart (same-row r row f)) ∙ before r m
         where
           less : (r row : ℕ) → r < row + 1 → (r ≡ row → ⊥) → r < row
           less r row l a = omega arith
@@ -117,3 +119,19 @@ pub counted-first : (was counted : Pools) (ds : List Delivery) (counts : List �
     ((row : ℕ) → row < 64 → slice_index counts row ≡ copies_for (128 + row) ds) →
     (pools_after counted (copies_with_room counted ds) ≡ pools_after was ds) × (copies_with_room counted ds ≡ copies_with_room was ds)
 counted-first was counted ds counts lost others nobody number = losses_law was counted ds (all-lost was counted ds counts lost others nobody number)
+
+-- where the counts are those of a message
+module _ (clients : FinMap nat_cmp Client) (edges : List Edge) (moment : ℕ) (targets : List Addr) (message counts : List ℕ) (are : AreCounts clients edges targets message counts)
+    (was counted : Pools) (others : (c : ℕ) → (c < 128) ⊎ (192 ≤ c) → get counted c ≡ get was c) (nobody : (c : ℕ) → (c < 128) ⊎ (192 ≤ c) → get was c ≡ None) where
+  abbrev pub all-copies : List Delivery
+  all-copies = copies_onward clients edges moment hops targets message
+
+  number : (row : ℕ) → row < 64 → slice_index counts row ≡ copies_for (128 + row) all-copies
+  number row low = are.each row low ∙ sym (count_law clients edges moment (128 + row) hops targets message)
+
+  pub walk-after-losses : ((row : ℕ) → row < 64 → get counted (128 + row) ≡ with_losses (slice_index counts row) (get was (128 + row))) →
+      (pools_after counted (copies_with_room counted all-copies) ≡ pools_after was all-copies) × (copies_with_room counted all-copies ≡ copies_with_room was all-copies)
+  walk-after-losses lost = counted-first was counted all-copies counts lost others nobody number
+
+  pub nothing-to-walk : ((row : ℕ) → row < 64 → (slice_index counts row ≡ 0) ⊎ (pool_has_room (get counted (128 + row)) ≡ false)) → copies_with_room counted all-copies ≡ []
+  nothing-to-walk rows = rows-none was counted all-copies counts others nobody number rows

@@ -10,6 +10,7 @@ use Rattle.std.proofs.lemmas.Bool.{eqb-true}
 use Rattle.std.proofs.lemmas.List.{take_more}
 use Rattle.std.proofs.lemmas.Result.{on_err_weaker}
 use Rattle.node_table.specs.Addresses.{is_filter}
+use Rattle.node_table.specs.Numbers.{first_client}
 use Rattle.node_table.specs.declared.number.Addr.{Addr}
 use Rattle.node_table.specs.declared.number.Node.{Node}
 use Rattle.node_table.specs.declared.number.Node.TheVariants.{Port, Filter}
@@ -26,9 +27,14 @@ use Rattle.seq_state.proofs.Effects.{get-put}
 use Rattle.seq_state.proofs.Lists.{flat_map-append}
 use Rattle.seq_clients.specs.Roster.{Roster, with_client}
 use Rattle.seq_sending.specs.Carrying.{let_through, of_some, copies_by, copies_to, copies_onward}
-use Rattle.seq_sending.specs.Ways.{copies_on, copies_along, AreWays, AreWaysKept}
+use Rattle.seq_sending.specs.Counts.{ways_for}
+use Rattle.seq_sending.specs.Rooms.{copies_for}
+use Rattle.seq_sending.specs.Table.{AreWaysKept}
+use Rattle.seq_sending.specs.Ways.{copies_on, copies_along, spread_all, AreWays}
+use Rattle.seq_sending.specs.declared.table.WayTable.{WayTable}
 use Rattle.seq_sending.specs.declared.ways.Way.{Way}
 use Rattle.seq_sending.specs.declared.ways.Way.TheVariants.{Straight, Filtered, Parting, Nowhere}
+use Rattle.seq_sending.proofs.CopyCounts.{count_law}
 use Rattle.seq_sending.proofs.Sent.{spread-none, to-filter, to-only, by-port}
 
 -- ---- of what may have been stopped
@@ -142,6 +148,11 @@ module _ (a b : FinMap nat_cmp Client) (same : SameFilters a b) where
   ways-same edges targets ways are moment message p =
       sym (flat_map-same _ _ (on-same edges moment message) ways) ∙ are moment message p ∙ spread-same edges moment hops targets message
 
+  -- and so do the numbers of copies
+  pub number-same : (edges : List Edge) (c n : ℕ) (targets : List Addr) (message : List ℕ) → ways_for a edges c n targets message ≡ ways_for b edges c n targets message
+  number-same edges c n targets message =
+      sym (count_law a edges 0 c n targets message) ∙ ap (copies_for c) (spread-same edges 0 n targets message) ∙ count_law b edges 0 c n targets message
+
 -- ways are kept, where one client has another entry with the same filters
 entry-same : (clients : FinMap nat_cmp Client) (actor : ℕ) (o : Option Client) → filters_of (FinMap.get clients actor) ≡ filters_of o → SameFilters clients (with_entry clients actor o)
 entry-same clients actor o same c = go (eqb c actor) refl ∙ sym (ap filters_of (get-put clients actor o c))
@@ -150,13 +161,24 @@ entry-same clients actor o same c = go (eqb c actor) refl ∙ sym (ap filters_of
     go true e = ap (λ x. filters_of (FinMap.get clients x)) (eqb-true c actor e) ∙ same
     go false e = refl
 
-pub kept-with : (was now : Roster) (edges : List Edge) (table : List (Option (List Way))) (actor : ℕ) (o : Option Client) → now.clients ≡ with_entry was.clients actor o →
+pub kept-with : (was now : Roster) (edges : List Edge) (table : WayTable) (actor : ℕ) (o : Option Client) → now.clients ≡ with_entry was.clients actor o →
     filters_of (FinMap.get was.clients actor) ≡ filters_of o → AreWaysKept was.clients edges table → AreWaysKept now.clients edges table
-kept-with was now edges table actor o is same kept = subst (λ cs. AreWaysKept cs edges table) (sym is) (λ a row place ways at e.
-    ways-same was.clients (with_entry was.clients actor o) (entry-same was.clients actor o same) edges (targets_of edges a) ways (kept a row place ways at e))
+kept-with was now edges table actor o is same kept =
+    let after = with_entry was.clients actor o in
+    let filters = entry-same was.clients actor o same in
+    subst (λ cs. AreWaysKept cs edges table) (sym is) (record {
+      ways = λ place found e. record {
+        before = (kept.ways place found e).before;
+        ways = λ a row at now. ways-same was.clients after filters edges (targets_of edges a) found.ways ((kept.ways place found e).ways a row at now);
+      };
+      counts = λ i k e a place at message its. record {
+        rows = (kept.counts i k e a place at message its).rows;
+        each = λ row low. (kept.counts i k e a place at message its).each row low ∙ number-same was.clients after filters edges (first_client + row) hops (targets_of edges a) message;
+      };
+    })
 
 -- where one client changed, but none of its filters
-kept-changed : (was now : Roster) (edges : List Edge) (table : List (Option (List Way))) (actor : ℕ) (g : Client → Client) → ((c : Client) → c.filters ≡ (g c).filters) →
+kept-changed : (was now : Roster) (edges : List Edge) (table : WayTable) (actor : ℕ) (g : Client → Client) → ((c : Client) → c.filters ≡ (g c).filters) →
     now ≡ with_client was actor (with_change (FinMap.get was.clients actor) g) → AreWaysKept was.clients edges table → AreWaysKept now.clients edges table
 kept-changed was now edges table actor g keeps is =
     kept-with was now edges table actor (with_change (FinMap.get was.clients actor) g) (ap (λ (r : Roster). r.clients) is) (go (FinMap.get was.clients actor))
@@ -166,7 +188,7 @@ kept-changed was now edges table actor g keeps is =
     go (Some c) = keeps c
 
 -- one of its ports
-pub kept-port : (was now : Roster) (edges : List Edge) (table : List (Option (List Way))) (actor n : ℕ) (o : Option PortInfo) →
+pub kept-port : (was now : Roster) (edges : List Edge) (table : WayTable) (actor n : ℕ) (o : Option PortInfo) →
     now ≡ with_client was actor (with_change (FinMap.get was.clients actor) (put_port n o)) → AreWaysKept was.clients edges table → AreWaysKept now.clients edges table
 kept-port was now edges table actor n o = kept-changed was now edges table actor (put_port n o) (go o)
   where
@@ -175,7 +197,7 @@ kept-port was now edges table actor n o = kept-changed was now edges table actor
     go (Some p) c = refl
 
 -- one of its queues
-pub kept-queue : (was now : Roster) (edges : List Edge) (table : List (Option (List Way))) (actor n : ℕ) (o : Option Queue) →
+pub kept-queue : (was now : Roster) (edges : List Edge) (table : WayTable) (actor n : ℕ) (o : Option Queue) →
     now ≡ with_client was actor (with_change (FinMap.get was.clients actor) (put_queue n o)) → AreWaysKept was.clients edges table → AreWaysKept now.clients edges table
 kept-queue was now edges table actor n o = kept-changed was now edges table actor (put_queue n o) (go o)
   where
@@ -193,6 +215,13 @@ where-ok (Ok x) P e ok = ok
 where-ok (Err x) P e ok = cc
 
 -- and where nothing changed after an error
-pub kept-or-same : {T E : Type 0} (r : Result T E) (was now : Roster) (edges : List Edge) (table : List (Option (List Way))) → OnOk r (AreWaysKept now.clients edges table) → OnErr r (now ≡ was) →
+pub kept-or-same : {T E : Type 0} (r : Result T E) (was now : Roster) (edges : List Edge) (table : WayTable) → OnOk r (AreWaysKept now.clients edges table) → OnErr r (now ≡ was) →
     AreWaysKept was.clients edges table → AreWaysKept now.clients edges table
 kept-or-same r was now edges table ok err kept = in-both r _ ok (on_err_weaker r (λ e. subst (λ (x : Roster). AreWaysKept x.clients edges table) (sym e) kept) err)
+
+-- nothing comes of messages that go to nobody
+pub none-to-nobody : (clients : FinMap nat_cmp Client) (edges : List Edge) (moment : ℕ) (targets : List Addr) (messages : List (List ℕ)) → length targets ≡ 0 →
+    spread_all clients edges moment targets messages ≡ []
+none-to-nobody clients edges moment targets [] e = refl
+none-to-nobody clients edges moment targets (m ∷ ms) e =
+    ap (λ ds. ds ++ spread_all clients edges moment targets ms) (to-nobody clients edges moment hops targets m e) ∙ none-to-nobody clients edges moment targets ms e

@@ -1,5 +1,5 @@
 -- A walk that leaves out what comes to nothing.
-use Rattle.std.proofs.Common.{◌≡◌, ◌<◌, ◌+◌, ℕ, zero, suc, true, List, [], ◌∷◌, ◌++◌, length, take, slice_index_or, Some, None, refl, sym, ap, subst, ◌∙◌, append-nil, append_assoc, length-append, arith}
+use Rattle.std.proofs.Common.{◌≡◌, ◌<◌, ◌+◌, ℕ, zero, suc, true, List, [], ◌∷◌, ◌++◌, length, take, slice_index_or, Some, refl, sym, ap, ◌∙◌, append-nil, append_assoc, length-append, arith}
 use Rattle.std.specs.Prelude.{slice_get, nat_lt}
 use borrow.Author.Tests.{ltb-true}
 use Rattle.std.specs.List.{flat_map}
@@ -15,6 +15,7 @@ use Rattle.seq_state.proofs.Lists.{flat_map-append}
 use Rattle.seq_sending.specs.Carrying.{copies_to}
 use Rattle.seq_sending.specs.Barren.{AreBarren}
 use Rattle.seq_sending.specs.declared.barren.Mark.{Mark}
+use Rattle.seq_sending.proofs.Known.{each-more}
 use Rattle.seq_sending.proofs.Rooms.{Pools, cut_law, onward_law}
 
 module _ {M : Type 0} (bytes : M → List ℕ) (clients : FinMap nat_cmp Client) (edges : List Edge) (moment : ℕ) where
@@ -33,18 +34,9 @@ module _ {M : Type 0} (bytes : M → List ℕ) (clients : FinMap nat_cmp Client)
   pub still-barren : (pools now : Pools) (marks : List (Mark M)) (more : List Delivery) → now ≡ pools_after pools more → AreBarren bytes clients edges moment pools marks → AreBarren bytes clients edges moment now marks
   still-barren pools now marks more e are i k at = ap (λ p. copies_with_room p (of_mark k)) e ∙ cut_law pools (of_mark k) more (are i k at)
 
-  some-is : (j k : Mark M) → Some j ≡ Some k → j ≡ k
-  some-is j k e = cc
-
-  none-some : (k : Mark M) → None ≡ Some k → ⊥
-  none-some k e = cc
-
   -- one mark more
   pub one-more : (pools : Pools) (marks : List (Mark M)) (new : Mark M) → AreBarren bytes clients edges moment pools marks → copies_with_room pools (of_mark new) ≡ [] → AreBarren bytes clients edges moment pools (marks ++ new ∷ [])
-  one-more pools [] new are e zero k at = subst (λ j. copies_with_room pools (of_mark j) ≡ []) (some-is new k at) e
-  one-more pools [] new are e (suc i) k at = absurd (none-some k at)
-  one-more pools (m ∷ marks) new are e zero k at = are zero k at
-  one-more pools (m ∷ marks) new are e (suc i) k at = one-more pools marks new (λ j l h. are (suc j) l h) e i k at
+  one-more pools marks new are e = each-more (λ k. copies_with_room pools (of_mark k) ≡ []) marks new are e
 
 -- nothing was delivered where the log is no longer
 pub no-longer : (out out' now : List Delivery) → out' ≡ out ++ now → length out' ≡ length out → now ≡ []

@@ -1,4 +1,4 @@
--- Law: Copies that find no room need not be told one from another: their number is enough.
+-- Law: Copies that find no room need only be counted, and messages of one class have one count.
 use Rattle.std.specs.Prelude.{◌≡◌, ℕ, List, [], ◌++◌, take}
 use Rattle.std.specs.Ordering.{nat_cmp}
 use Rattle.std.specs.FinMap
@@ -11,6 +11,7 @@ use Rattle.seq_state.specs.Step.{pools_after, copies_with_room}
 use Rattle.seq_sending.specs.Carrying.{copies_onward}
 use Rattle.seq_sending.specs.Rooms.{room_of, for_client, copies_for, pool_after, with_losses}
 use Rattle.seq_sending.specs.Counts.{ways_for}
+use Rattle.seq_sending.specs.Classes.{way_class}
 
 -- each client's pool is as if its copies alone were offered to it, the first that find room kept
 -- and the others counted
@@ -58,3 +59,10 @@ CountLaw =
     (message : List ℕ) →
     copies_for c (copies_onward clients edges moment n targets message)
     ≡ ways_for clients edges c n targets message
+
+-- messages of one class go the same ways
+abbrev pub ClassLaw : Type 0
+ClassLaw =
+    (clients : FinMap nat_cmp Client) (edges : List Edge) (c n : ℕ) (targets : List Addr)
+    (message other : List ℕ) → way_class message ≡ way_class other →
+    ways_for clients edges c n targets message ≡ ways_for clients edges c n targets other

@@ -2,5 +2,8 @@ pub mod Carrying
 pub mod Ways
 pub mod Rooms
 pub mod Counts
+pub mod Classes
+pub mod KeptCounts
+pub mod Table
 pub mod Barren
 pub mod Laws

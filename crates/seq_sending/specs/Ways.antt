@@ -1,14 +1,12 @@
 -- Representation: The ways from a port, each with one rule for all the filters along it.
-use Rattle.std.specs.Prelude.{◌≡◌, ℕ, ◌-◌, List, [], Option, Some, None, slice_index_or}
+use Rattle.std.specs.Prelude.{◌≡◌, ℕ, ◌-◌, List, [], Some}
 use Rattle.std.specs.Option.{option_to_list}
 use Rattle.std.specs.List.{flat_map}
 use Rattle.std.specs.Ordering.{nat_cmp}
 use Rattle.std.specs.FinMap.{FinMap}
 use Rattle.midi_wire.specs.Messages.{IsMessage}
-use Rattle.node_table.specs.Kept.{IsPlace}
 use Rattle.node_table.specs.declared.number.Addr.{Addr}
 use Rattle.patch_graph.specs.Cursor.{at_port}
-use Rattle.patch_graph.specs.Index.{targets_of}
 use Rattle.patch_graph.specs.Paths.{hops}
 use Rattle.patch_graph.specs.declared.edge.Edge.{Edge}
 use Rattle.route_filter.specs.Passing.{rule_output}
@@ -53,9 +51,3 @@ AreWays clients edges targets ways =
     (moment : ℕ) (message : List ℕ) → IsMessage message →
     copies_along clients edges moment ways message
     ≡ copies_onward clients edges moment hops targets message
-
--- where a table has ways, they are those of the address whose place it is
-abbrev pub AreWaysKept : FinMap nat_cmp Client → List Edge → List (Option (List Way)) → Type 0
-AreWaysKept clients edges table =
-    (a : Addr) (row place : ℕ) (ways : List Way) → IsPlace a row place →
-    slice_index_or table place None ≡ Some ways → AreWays clients edges (targets_of edges a) ways

@@ -49,7 +49,9 @@ fn place_at(node: &Addr, hops: u8) -> usize {
 
 impl<M> Barren<M> {
     /// No marks. It takes no memory.
-    pub(crate) fn new(alloc: Global) -> Barren<M> {
+    pub(crate) fn new(alloc: Global) -> Barren<M>
+        ensures { result.marks.items ≡ [] }
+    {
         Barren {
             marks: Vec::new(alloc),
             hints: Hints::new(alloc),
@@ -58,13 +60,6 @@ impl<M> Barren<M> {
 }
 
 impl<M: Carried + Drop> Barren<M> {
-    /// Leaves no mark. It keeps its memory.
-    pub(crate) fn clear(&mut self)
-        ensures { self.new.marks.items ≡ [] }
-    {
-        self.marks.clear();
-    }
-
     /// Whether this node is marked with this form and this number of edges.
     pub(crate) fn has(&self, node: &Addr, hops: u8, message: &M) -> bool
         ensures { (clients : map.FinMap nat_cmp Client) (edges : List Edge) (moment : ℕ)

@@ -1,7 +1,7 @@
 //! Copies that find no room need not be told one from another. These functions do nothing: their contracts are the
 //! laws.
 
-ghost use Rattle.seq_sending.specs.Laws.{EachPoolLaw, FirstLaw, LossesLaw, CutLaw, OnwardLaw, CountLaw};
+ghost use Rattle.seq_sending.specs.Laws.{EachPoolLaw, FirstLaw, LossesLaw, CutLaw, OnwardLaw, CountLaw, ClassLaw};
 
 /// What copies do to a pool hangs on those for its client alone: the first that find room wait, and the others are
 /// counted.
@@ -28,4 +28,9 @@ pub fn onward_from_kept()
 /// How many copies are for a client is found by counting.
 pub fn copies_are_counted()
     ensures { CountLaw }
+{}
+
+/// As many copies come of a message for each client as of another of its class.
+pub fn one_class_goes_the_same_ways()
+    ensures { ClassLaw }
 {}

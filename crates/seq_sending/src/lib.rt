@@ -7,19 +7,23 @@
 
 mod barren;
 mod carried;
+mod class;
 mod count_fault;
 mod counted;
 mod counting;
 mod front;
 mod hints;
+mod kept_counts;
 mod laws;
 mod sending;
+mod table;
 mod walking;
 mod ways;
 
 pub use carried::Carried;
 pub use laws::{
-    copies_are_counted, cuts_stay, each_pool_alone, losses_come_first, onward_from_kept,
+    copies_are_counted, cuts_stay, each_pool_alone, losses_come_first,
+    one_class_goes_the_same_ways, onward_from_kept,
 };
-pub use sending::{deliver, send_each};
-pub use ways::{Way, WayTable, Ways, ways_to};
+pub use sending::deliver;
+pub use table::WayTable;

@@ -10,11 +10,13 @@ ghost use Rattle.patch_graph.specs.Paths.{hops};
 ghost use Rattle.seq_state.specs.Copies.{copy};
 ghost use Rattle.seq_state.specs.Step.{pools_after, copies_with_room};
 ghost use Rattle.seq_sending.specs.Carrying.{copies_to, copies_onward};
+ghost use Rattle.seq_sending.specs.KeptCounts.{AreCountsKept};
 ghost use Rattle.seq_sending.specs.Ways.{copies_on, copies_along, spread_all, AreWays};
 
 use crate::carried::Carried;
 use crate::counted::send_all_counted;
-use crate::ways::{Way, Ways};
+use crate::kept_counts::CountTable;
+use crate::ways::{Extent, Way, Ways};
 use memory::OutOfMemory;
 use midi_wire::Message;
 use node_table::{Addr, Node, PortAddr};
@@ -27,7 +29,7 @@ use std::alloc::Global;
 /// Sends messages one after another to the nodes that a port is joined to, by the ways to these.
 ///
 /// `Err` is out of memory, and may leave some copies sent.
-pub fn send_each(
+pub(crate) fn send_each(
     alloc: Global,
     clients: &mut Clients,
     graph: &PatchGraph,
@@ -35,23 +37,28 @@ pub fn send_each(
     source: &Addr,
     ways: &Ways,
     messages: &[Message],
+    kept: &mut CountTable,
     out: &mut Vec<Delivery>,
 ) -> Result<(), OutOfMemory>
-    requires { AreWays clients.old.clients graph.now (targets_of graph.now source.now) ways.now }
+    requires ways { let targets = targets_of graph.now source.now in
+        AreWays clients.old.clients graph.now targets ways.now }
+    requires counts { AreCountsKept clients.old.clients graph.now kept.old.kept.items }
+    ensures counts { AreCountsKept clients.old.clients graph.now kept.new.kept.items }
     ensures clients { clients.new.clients ≡ clients.old.clients }
-    ensures pools { let c = clients.old in
-        let ds = spread_all c.clients graph.now moment (targets_of graph.now source.now) messages.now in
+    ensures pools { let c = clients.old in let targets = targets_of graph.now source.now in
+        let ds = spread_all c.clients graph.now moment targets messages.now in
         OnOk result (clients.new.pools ≡ pools_after c.pools ds) }
-    ensures sent { let c = clients.old in
-        let ds = spread_all c.clients graph.now moment (targets_of graph.now source.now) messages.now in
+    ensures sent { let c = clients.old in let targets = targets_of graph.now source.now in
+        let ds = spread_all c.clients graph.now moment targets messages.now in
         OnOk result (out.new.items ≡ out.old.items ++ copies_with_room c.pools ds) }
 {
     if let Some(end) = ways.straight_end() {
         return send_straight(clients, moment, end, messages, out);
     }
-    if ways.are_many() {
-        let targets = graph.targets(source);
-        return send_all_counted(alloc, clients, graph, moment, targets, messages, out);
+    if ways.extent() != Extent::Few {
+        return send_all_counted(
+            alloc, clients, graph, moment, source, ways, messages, kept, out,
+        );
     }
     send_by_ways(clients, graph, moment, ways.as_slice(), messages, out)
 }
@@ -109,7 +116,7 @@ fn send_straight(
 
 /// Sends a message to the nodes behind a port, by the ways to these: a channel message in its parts.
 #[inline(always)]
-fn send_message(
+pub(crate) fn send_message(
     clients: &mut Clients,
     graph: &PatchGraph,
     moment: u64,
@@ -197,7 +204,7 @@ fn send_by<M: Carried + Drop>(
 /// Sends a message on to nodes, along at most `hops` edges: a copy to each port whose client's pool has room, and what
 /// each filter lets through on to the nodes behind it.
 #[cycle(spread)]
-pub(crate) fn spread<M: Carried + Drop>(
+fn spread<M: Carried + Drop>(
     clients: &mut Clients,
     graph: &PatchGraph,
     moment: u64,

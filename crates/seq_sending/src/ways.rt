@@ -1,30 +1,27 @@
 //! The ways from a port. Filters one after another are one rule, so that a message is changed once on a way.
 
-ghost use Rattle.std.specs.Prelude.{◌≡◌, ◌≢◌, ◌<◌, ℕ, List, [], ◌∷◌, length, None, IfOk, IfSome, IfNone, OnOk};
+ghost use Rattle.std.specs.Prelude.{◌≡◌, ◌≢◌, ℕ, List, [], ◌∷◌, IfOk, IfSome, IfNone};
 ghost use Rattle.std.specs.Ordering.{nat_cmp};
 ghost use Rattle.std.specs.FinMap as map;
 ghost use Rattle.std.specs.Option.{option_and_then, option_copied, option_to_list};
 ghost use Rattle.midi_wire.specs.Messages.{IsMessage};
-ghost use Rattle.node_table.specs.Kept.{ReadsAs};
-ghost use Rattle.patch_graph.specs.Index.{targets_of};
 ghost use Rattle.patch_graph.specs.declared.edge.Edge.{Edge};
 ghost use Rattle.patch_graph.specs.Cursor.{at_port};
 ghost use Rattle.seq_state.specs.Copies.{copy};
 ghost use Rattle.seq_state.specs.State.{Client};
 ghost use Rattle.seq_sending.specs.Carrying.{let_through};
-ghost use Rattle.seq_sending.specs.Ways.{copies_on, IsWay, AreWays, AreWaysKept};
+ghost use Rattle.seq_sending.specs.Ways.{copies_on, IsWay, AreWays};
 
 use memory::OutOfMemory;
-use node_table::{Addr, Node, PortAddr, place_of};
+use node_table::{Addr, Node, PortAddr};
 use patch_graph::{HOPS, PatchGraph};
 use route_filter::Rule;
 use seq_clients::Clients;
-use std::alloc::Global;
 use std::marker::Model;
 
 /// What comes of the messages that go to a node which a port is joined to.
 #[derive(Clone, Copy, Debug)]
-pub enum Way {
+pub(crate) enum Way {
     /// They come to a port as they are.
     Straight(PortAddr),
     /// They come to a port as a rule lets them through.
@@ -35,16 +32,28 @@ pub enum Way {
     Nowhere,
 }
 
-/// How many nodes the ways of a port may come to, each as often as there is a way to it, before the copies of its
-/// messages are counted in place of walked.
+/// How many nodes ways come to, each as often as there is a way to it. Nothing rests on it but speed.
+#[derive(Clone, Copy, Debug, PartialEq, Eq)]
+pub(crate) enum Extent {
+    /// So few that a walk along them costs no more than to look up how many copies come of it.
+    Few,
+    /// More than `MOST_UNCOUNTED`: they are walked where some copy finds room.
+    Many,
+    /// More than `MOST_WALKED`: they are never walked without marks.
+    TooMany,
+}
+
+/// The most nodes to which ways come whose copies are not counted before they are sent.
+const MOST_UNCOUNTED: usize = 128;
+
+/// The most nodes that a walk without marks comes to.
 const MOST_WALKED: usize = 8_192;
 
 /// The ways from a port, in the order of its subscriptions. They are seen as their list.
 #[derive(Drop)]
-pub struct Ways {
+pub(crate) struct Ways {
     ways: Vec<Way>,
-    // Whether they come to more than `MOST_WALKED` nodes. Nothing rests on it but speed.
-    are_many: bool,
+    extent: Extent,
 }
 
 impl Model for Ways {
@@ -59,21 +68,30 @@ impl Model for Ways {
 impl Ways {
     /// The ways as they are kept.
     #[inline(always)]
-    pub fn as_slice(&self) -> &[Way]
+    pub(crate) fn as_slice(&self) -> &[Way]
         ensures { result.now ≡ self.now }
     {
         self.ways.as_slice()
     }
 
-    /// Whether they come to so many nodes that a message costs less where its copies are counted.
+    /// The room of these ways, for others.
+    pub(crate) fn emptied(self) -> Vec<Way>
+        ensures { result.items ≡ [] }
+    {
+        let mut ways = self.ways;
+        ways.clear();
+        ways
+    }
+
+    /// How many nodes they come to.
     #[inline(always)]
-    pub fn are_many(&self) -> bool {
-        self.are_many
+    pub(crate) fn extent(&self) -> Extent {
+        self.extent
     }
 
     /// The port that messages go to by these ways, where that is all that they do.
     #[inline(always)]
-    pub fn straight_end(&self) -> Option<PortAddr>
+    pub(crate) fn straight_end(&self) -> Option<PortAddr>
         ensures some { IfSome result (λ end. self.now ≡ Way.Straight end ∷ []) }
         ensures none { IfNone result ((end : PortAddr) → self.now ≢ Way.Straight end ∷ []) }
     {
@@ -98,6 +116,18 @@ fn nodes_left(graph: &PatchGraph, hops: usize, targets: &[Addr], most: usize) ->
         }
     }
     left
+}
+
+/// How many nodes ways come to from these.
+fn extent_of(graph: &PatchGraph, targets: &[Addr]) -> Extent {
+    let left = nodes_left(graph, HOPS - 1, targets, MOST_WALKED);
+    if left == 0 {
+        Extent::TooMany
+    } else if left < MOST_WALKED - MOST_UNCOUNTED {
+        Extent::Many
+    } else {
+        Extent::Few
+    }
 }
 
 /// The rule of two filters, one after the other. A filter that is not there lets all through.
@@ -150,101 +180,23 @@ fn way_by(rule: Option<Rule>, end: PortAddr) -> Way
     }
 }
 
-/// The ways to the nodes which a port is joined to, in their order.
-pub fn ways_to(
-    alloc: Global,
+/// The ways to the nodes which a port is joined to, in their order, put into the room that is given.
+pub(crate) fn ways_to(
+    room: Vec<Way>,
     clients: &Clients,
     graph: &PatchGraph,
     targets: &[Addr],
 ) -> Result<Ways, OutOfMemory>
+    requires { room.items ≡ [] }
     ensures { IfOk result (λ ways. AreWays clients.now.clients graph.now targets.now ways) }
 {
-    let mut ways = Vec::with_capacity(alloc, targets.len())?;
+    let mut ways = room;
+    ways.reserve(targets.len())?;
     for target in targets {
         ways.push(way_to(clients, graph, target))?;
     }
     Ok(Ways {
         ways,
-        are_many: nodes_left(graph, HOPS - 1, targets, MOST_WALKED) == 0,
+        extent: extent_of(graph, targets),
     })
-}
-
-/// The ways from the ports that have sent, until what they were found by changes.
-#[derive(Drop)]
-pub struct WayTable {
-    // By `place_of`; it ends behind the last that is known.
-    places: Vec<Option<Ways>>,
-}
-
-impl Model for WayTable {
-    ghost use Rattle.std.specs.Prelude.{List, Option};
-    ghost use Rattle.seq_sending.specs.declared.ways.Way.{Way};
-
-    ghost Value = { List (Option (List Way)) };
-
-    ghost view = { λ t. t.places.items };
-}
-
-/// Makes a place in a table, and those before it. `Err` leaves what stands in it.
-fn make_place(places: &mut Vec<Option<Ways>>, place: usize) -> Result<(), OutOfMemory>
-    ensures there { OnOk result (place < length places.new.items) }
-    ensures same { ReadsAs None places.new.items places.old.items }
-{
-    while places.len() <= place {
-        places.push(None)?;
-    }
-    Ok(())
-}
-
-impl WayTable {
-    /// No ways are known. It takes no memory.
-    pub fn new(alloc: Global) -> WayTable
-        ensures { result ≡ [] }
-    {
-        WayTable {
-            places: Vec::new(alloc),
-        }
-    }
-
-    /// The ways from a port, if they are known.
-    #[inline]
-    pub fn get(&self, source: &Addr) -> Option<&Ways>
-        ensures { (clients : map.FinMap nat_cmp Client) (edges : List Edge)
-            → AreWaysKept clients edges self.now
-            → IfSome result (λ ways. AreWays clients edges (targets_of edges source.now) ways.now) }
-    {
-        match self.places.get(place_of(source)) {
-            Some(Some(ways)) => Some(ways),
-            _ => None,
-        }
-    }
-
-    /// The one port to which all that a port sends goes unchanged, if that is known.
-    #[inline(always)]
-    pub fn straight(&self, source: &Addr) -> Option<PortAddr>
-        ensures { (clients : map.FinMap nat_cmp Client) (edges : List Edge)
-            → AreWaysKept clients edges self.now → IfSome result
-            (λ end. AreWays clients edges (targets_of edges source.now) (Way.Straight end ∷ [])) }
-    {
-        self.get(source)?.straight_end()
-    }
-
-    /// Keeps the ways from a port. `Err` leaves all as it was.
-    pub fn insert(&mut self, source: &Addr, ways: Ways) -> Result<(), OutOfMemory>
-        ensures { (clients : map.FinMap nat_cmp Client) (edges : List Edge)
-            → AreWays clients edges (targets_of edges source.now) ways
-            → AreWaysKept clients edges self.old → AreWaysKept clients edges self.new }
-    {
-        let place = place_of(source);
-        make_place(&mut self.places, place)?;
-        self.places[place] = Some(ways);
-        Ok(())
-    }
-
-    /// Forgets all ways. It takes no memory.
-    pub fn clear(&mut self)
-        ensures { self.new ≡ [] }
-    {
-        self.places.clear();
-    }
 }

@@ -1,28 +1,28 @@
-use Rattle.std.proofs.Common.{◌≡◌, ◌++◌, ap, ◌∙◌}
-use Rattle.patch_graph.specs.Paths.{hops}
-use Rattle.seq_state.specs.Step.{pools_after, copies_with_room}
-use Rattle.seq_sending.specs.Carrying.{copies_onward}
-use Rattle.seq_sending.proofs.Reached.{on-ok}
+use Rattle.std.proofs.Common.{sym, subst}
+use Rattle.seq_sending.specs.KeptCounts.{AreCounts}
+use Rattle.seq_sending.proofs.Classes.{class-counts}
 use Rattle.seq_sending.proofs.counted.send_counted.Goals as goal
 
-pub returns-in_ok-message-in-Err-TooMany-clause-pools : goal.returns-in_ok-message-in-Err-TooMany-clause-pools
-unfolding hops
-returns-in_ok-message-in-Err-TooMany-clause-pools g c =
+pub send_known-requires-clause-counts : goal.send_known-requires-clause-counts
+send_known-requires-clause-counts c =
     let a = c.args in
-    let was = a.clients.now in
-    let again = c.in_ok-message-in-Err-TooMany in
-    on-ok c.spread.result (c.spread.new.clients.pools ≡ pools_after was.pools (copies_onward was.clients a.graph.now a.moment 8 a.targets.now (g.M.Carried.bytes again.message)))
-    (c.spread.new.clients.pools ≡ pools_after was.pools (copies_onward was.clients a.graph.now a.moment 8 a.targets.now (g.M.Carried.bytes a.message.now)))
-    (λ e. e ∙ ap (λ m. pools_after was.pools (copies_onward was.clients a.graph.now a.moment 8 a.targets.now m)) again.ensures)
-    c.spread.ensures.pools
+    subst (λ ts. AreCounts a.clients.now.clients a.graph.now ts a.message.now c.in-Some.counts.now) (sym c.targets-targets.ensures)
+    (c.in-Some.ensures a.clients.now.clients a.graph.now c.requires.counts a.message.now (sym c.of-class.ensures))
 
-pub returns-in_ok-message-in-Err-TooMany-clause-sent : goal.returns-in_ok-message-in-Err-TooMany-clause-sent
-unfolding hops
-returns-in_ok-message-in-Err-TooMany-clause-sent g c =
+pub returns-in_err-insert-in-Ok-clause-counts : goal.returns-in_err-insert-in-Ok-clause-counts
+returns-in_err-insert-in-Ok-clause-counts c =
     let a = c.args in
-    let was = a.clients.now in
-    let again = c.in_ok-message-in-Err-TooMany in
-    on-ok c.spread.result (c.spread.new.out.items ≡ a.out.now.items ++ copies_with_room was.pools (copies_onward was.clients a.graph.now a.moment 8 a.targets.now (g.M.Carried.bytes again.message)))
-    (c.spread.new.out.items ≡ a.out.now.items ++ copies_with_room was.pools (copies_onward was.clients a.graph.now a.moment 8 a.targets.now (g.M.Carried.bytes a.message.now)))
-    (λ e. e ∙ ap (λ m. a.out.now.items ++ copies_with_room was.pools (copies_onward was.clients a.graph.now a.moment 8 a.targets.now m)) again.ensures)
-    c.spread.ensures.sent
+    let counts = c.in-Ok.counts in
+    c.in_err-insert-in-Ok.ensures a.clients.now.clients a.graph.now
+    (class-counts a.clients.now.clients a.graph.now _ a.message.now counts _ c.of-class.ensures
+    (subst (λ ts. AreCounts a.clients.now.clients a.graph.now ts a.message.now counts) c.targets-targets.ensures c.in-Ok.ensures))
+    c.requires.counts
+
+pub returns-in_ok-insert-in-Ok-clause-counts : goal.returns-in_ok-insert-in-Ok-clause-counts
+returns-in_ok-insert-in-Ok-clause-counts c =
+    let a = c.args in
+    let counts = c.in-Ok.counts in
+    c.in_ok-insert-in-Ok.ensures a.clients.now.clients a.graph.now
+    (class-counts a.clients.now.clients a.graph.now _ a.message.now counts _ c.of-class.ensures
+    (subst (λ ts. AreCounts a.clients.now.clients a.graph.now ts a.message.now counts) c.targets-targets.ensures c.in-Ok.ensures))
+    c.requires.counts

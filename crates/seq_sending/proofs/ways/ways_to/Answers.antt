@@ -8,7 +8,7 @@ use Rattle.seq_sending.proofs.Onward.{ways-more, ways-all}
 use Rattle.seq_sending.proofs.ways.ways_to.Goals as goal
 
 pub loop-target-init : goal.loop-target-init
-loop-target-init c moment m is = ap (λ ways. copies_along c.args.clients.now.clients c.args.graph.now moment ways m) c.in_ok-ways.ensures.items
+loop-target-init c moment m is = ap (λ ways. copies_along c.args.clients.now.clients c.args.graph.now moment ways m) (c.in_ok-reserve.ensures.items ∙ c.requires)
 
 pub loop-target-preserved : goal.loop-target-preserved
 loop-target-preserved c moment m is =

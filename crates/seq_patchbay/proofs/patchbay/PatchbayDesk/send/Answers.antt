@@ -1,6 +1,6 @@
 use Rattle.std.proofs.Common.{◌≡◌, ◌++◌, ◌∙◌, ap, sym, subst, append-nil}
 use Rattle.seq_patchbay.specs.Network.{Network}
-use Rattle.seq_sending.specs.Ways.{AreWaysKept}
+use Rattle.seq_sending.specs.Table.{AreWaysKept}
 use Rattle.seq_patchbay.proofs.Routes.{straight-copies}
 use Rattle.std.specs.Prelude.{OnOk}
 use Rattle.seq_state.specs.Step.{pools_after, copies_with_room}

@@ -1,6 +1,6 @@
 use Rattle.std.proofs.Common.{None, get_or, refl, ap, ◌∙◌}
 use Rattle.seq_sending.proofs.Known.{none-more}
-use Rattle.seq_sending.proofs.ways.make_place.Goals as goal
+use Rattle.seq_sending.proofs.table.make_place.Goals as goal
 
 pub loop-places-init : goal.loop-places-init
 loop-places-init c i = refl
