@@ -39,6 +39,7 @@ check: build
 	test/refused-calls $(PROGRAM)
 	test/refused-memory
 	test/hostile --program $(PROGRAM)
+	test/random-nets $(PROGRAM)
 
 # Builds, and compares every command that the pages show with what it prints.
 check-docs: build

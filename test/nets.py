@@ -1,11 +1,45 @@
-"""Nets of filters by which strangers make what another sends as dear as they can, for test/hostile and bench/strangers."""
+"""Nets of filters by which strangers make what another sends as dear as they can, for test/hostile and bench/strangers; and what
+test/random-nets needs too."""
+import os
 import random
 
 FILTERS = PORTS = 16
+QUEUES = 8
 SOURCES = 32
 HOPS = 8
 MOST = 2000
 ALL = "65535 1023 0 127 0"
+
+
+def words_of(place, scripts):
+    """The words that name these scripts, which are written."""
+    words = []
+    for client, text in scripts:
+        path = os.path.join(place, str(client))
+        with open(path, "wb") as f:
+            f.write(text)
+        words.append(f"{client}={path}")
+    return words
+
+
+def chains_and_ways(edges, source):
+    """How many chains of subscriptions begin at a node, none longer than a way may be; and how many of them end at a port, and so
+    are ways."""
+    targets = {}
+    for start, target in edges:
+        targets.setdefault(start, []).append(target)
+    reached, chains, ways = {source: 1}, 0, 0
+    for _ in range(HOPS):
+        further = {}
+        for node, count in reached.items():
+            for target in targets.get(node, ()):
+                chains += count
+                if ":p" in target:
+                    ways += count
+                else:
+                    further[target] = further.get(target, 0) + count
+        reached = further
+    return chains, ways
 
 
 def rule_of(chance):
@@ -45,20 +79,7 @@ class Net:
 
     def ways(self):
         """How many copies come of one message."""
-        targets = {}
-        for _, source, target in self.edges():
-            targets.setdefault(source, []).append(target)
-        reached, copies = {self.source: 1}, 0
-        for _ in range(HOPS):
-            further = {}
-            for node, ways in reached.items():
-                for target in targets.get(node, ()):
-                    if ":p" in target:
-                        copies += ways
-                    else:
-                        further[target] = further.get(target, 0) + ways
-            reached = further
-        return copies
+        return chains_and_ways(((source, target) for _, source, target in self.edges()), self.source)[1]
 
     def scripts(self, receipts=()):
         """For each stranger its number and its script. The client with room for one takes what it has at each of the moments."""
