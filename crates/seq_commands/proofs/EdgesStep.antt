@@ -65,16 +65,30 @@ connects-clear files s moment actor source target e = none-at (row_of files s mo
 
 -- ---- subscriptions
 
-pub connect-gives : (old : Sequencer) (turn : Turn) (source target : Addr) (graph : List Edge) → refusal_in old turn (Connect source target) ≡ None → graph ≡ old.patchbay.graph ++ edge source target ∷ [] →
+connects-by : (old : Sequencer) (turn : Turn) (source target : Addr) (graph : List Edge) → refusal_in old turn (Connect source target) ≡ None → graph ≡ old.patchbay.graph ++ edge source target ∷ [] →
     IsStepTakenUnkeyed old (record old { patchbay = record old.patchbay { graph = graph } }) (step_in old turn (Connect source target)) Done []
-connect-gives old turn source target graph e is =
+connects-by old turn source target graph e is =
     kept-gives old (record old.patchbay { graph = graph }) _ Done refl
     (step-connects old.files (state_of old) turn.moment turn.actor source target ∙ unless-none _ (state_of old) (patched (state_of old) (with_edge source target)) e
     ∙ ap (λ x. done (record (state_of old) { edges = x }) Done) (sym is))
 
-pub disconnect-gives : (old : Sequencer) (turn : Turn) (source target : Addr) (graph : List Edge) → refusal_in old turn (Disconnect source target) ≡ None → graph ≡ without_edge old.patchbay.graph source target →
+pub connect-gives : (old : Sequencer) (turn : Turn) (source target : Addr) (patchbay : Network) → refusal_in old turn (Connect source target) ≡ None →
+    patchbay.clients ≡ old.patchbay.clients → patchbay.graph ≡ old.patchbay.graph ++ edge source target ∷ [] →
+    IsStepTakenUnkeyed old (record old { patchbay = patchbay }) (step_in old turn (Connect source target)) Done []
+connect-gives old turn source target patchbay e clients is =
+    subst (λ cs. IsStepTakenUnkeyed old (record old { patchbay = record { clients = cs; graph = patchbay.graph } }) (step_in old turn (Connect source target)) Done []) (sym clients)
+    (connects-by old turn source target patchbay.graph e is)
+
+disconnects-by : (old : Sequencer) (turn : Turn) (source target : Addr) (graph : List Edge) → refusal_in old turn (Disconnect source target) ≡ None → graph ≡ without_edge old.patchbay.graph source target →
     IsStepTakenUnkeyed old (record old { patchbay = record old.patchbay { graph = graph } }) (step_in old turn (Disconnect source target)) Done []
-disconnect-gives old turn source target graph e is =
+disconnects-by old turn source target graph e is =
     kept-gives old (record old.patchbay { graph = graph }) _ Done refl
     (step-parts old.files (state_of old) turn.moment turn.actor source target ∙ unless-none _ (state_of old) (patched (state_of old) (without_edge_of source target)) e
     ∙ ap (λ x. done (record (state_of old) { edges = x }) Done) (sym is))
+
+pub disconnect-gives : (old : Sequencer) (turn : Turn) (source target : Addr) (patchbay : Network) → refusal_in old turn (Disconnect source target) ≡ None →
+    patchbay.clients ≡ old.patchbay.clients → patchbay.graph ≡ without_edge old.patchbay.graph source target →
+    IsStepTakenUnkeyed old (record old { patchbay = patchbay }) (step_in old turn (Disconnect source target)) Done []
+disconnect-gives old turn source target patchbay e clients is =
+    subst (λ cs. IsStepTakenUnkeyed old (record old { patchbay = record { clients = cs; graph = patchbay.graph } }) (step_in old turn (Disconnect source target)) Done []) (sym clients)
+    (disconnects-by old turn source target patchbay.graph e is)

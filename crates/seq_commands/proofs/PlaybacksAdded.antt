@@ -1,6 +1,6 @@
 -- What commands come to that add to what is still to be sent.
 use Rattle.std.proofs.Common.{◌≡◌, ◌≢◌, ◌+◌, ◌≤◌, ◌<◌, ℕ, Bool, true, false, not, cond, eqb, ◌&&◌, ◌||◌, List, [], ◌∷◌, ◌++◌, map, Option, Some, None, refl, sym, ap, subst, ◌∙◌, eq-eqb, arith}
-use Rattle.std.specs.Prelude.{is_some, nat_le, IsSome, OnOk, Result, Ok, Err, unwrap_or}
+use Rattle.std.specs.Prelude.{is_some, nat_le, IsSome, unwrap_or}
 use Rattle.std.specs.List.{filter, list_all}
 use Rattle.std.proofs.lemmas.Bool.{false≢true}
 use Rattle.std.proofs.lemmas.List.Folds.{list_all-map}

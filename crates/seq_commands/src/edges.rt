@@ -21,7 +21,7 @@ impl Sequencer<'_, '_> {
         ensures { let step = step_in self.old turn (Command.Connect source target) in
             OnOk result (IsStepTakenUnkeyed self.old self.new step Reply.Done []) }
     {
-        self.patchbay.graph_mut().add(source, target)
+        self.patchbay.connect(source, target)
     }
 
     /// Ends a subscription. It takes no memory.
@@ -31,6 +31,6 @@ impl Sequencer<'_, '_> {
         ensures { let step = step_in self.old turn (Command.Disconnect source.now target.now) in
             IsStepTakenUnkeyed self.old self.new step Reply.Done [] }
     {
-        self.patchbay.graph_mut().disconnect(source, target);
+        self.patchbay.disconnect(source, target);
     }
 }

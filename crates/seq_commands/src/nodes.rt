@@ -60,8 +60,7 @@ impl Sequencer<'_, '_> {
         let Some(rule) = Rule::new(*rule) else {
             unreachable!()
         };
-        let clients = self.patchbay.clients_mut();
-        clients.create_filter(turn.actor, filter, caps, rule)
+        self.patchbay.create_filter(turn.actor, filter, caps, rule)
     }
 
     /// Gives a filter another rule.
@@ -73,8 +72,7 @@ impl Sequencer<'_, '_> {
         let Some(rule) = Rule::new(*rule) else {
             unreachable!()
         };
-        let clients = self.patchbay.clients_mut();
-        clients.set_filter(turn.actor, filter, rule);
+        self.patchbay.set_filter(turn.actor, filter, rule);
     }
 
     /// Drops a filter with its subscriptions.

@@ -1,6 +1,7 @@
 //! The open clients with the subscriptions between their nodes, what goes along these, and the listing.
 #![tactic(auto)]
 
+mod changing;
 mod keeping;
 mod listing;
 mod patchbay;

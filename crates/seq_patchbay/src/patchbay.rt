@@ -27,8 +27,8 @@ use tempo_clock::Due;
 #[derive(Drop)]
 pub struct Patchbay {
     pub(crate) clients: Clients,
-    graph: PatchGraph,
-    ways: WayTable,
+    pub(crate) graph: PatchGraph,
+    pub(crate) ways: WayTable,
 }
 
 impl Model for Patchbay {

@@ -1,6 +1,8 @@
 pub mod Sent
 pub mod Onward
 pub mod Known
+pub mod Agreeing
+pub mod Keeping
 pub mod Rooms
 pub mod CopyCounts
 pub mod Classes

@@ -1,16 +1,12 @@
 -- What comes of a message on its way from filter to filter, by the rule of all of them.
-use Rattle.std.proofs.Common.{◌≡◌, if◌then◌else◌, ℕ, zero, suc, ◌+◌, ◌-◌, ◌<◌, ◌≤◌, Bool, true, false, eqb, cond, List, [], ◌∷◌, ◌++◌, length, take, slice_index_or, Option, Some, None, refl, sym, ap, subst, ◌∙◌, arith}
-use Rattle.std.specs.Prelude.{Result, Ok, Err, OnOk, OnErr, is_err}
+use Rattle.std.proofs.Common.{◌≡◌, if◌then◌else◌, ℕ, zero, suc, ◌+◌, ◌-◌, ◌<◌, ◌≤◌, List, [], ◌∷◌, ◌++◌, length, take, slice_index_or, Option, Some, None, refl, sym, ap, ◌∙◌, arith}
 use Rattle.std.specs.Option.{option_map, option_and_then, option_to_list}
 use Rattle.std.specs.List.{flat_map}
 use Rattle.std.specs.Ordering.{nat_cmp}
 use Rattle.std.specs.FinMap
 use Rattle.std.specs.FinMap.{FinMap}
-use Rattle.std.proofs.lemmas.Bool.{eqb-true}
 use Rattle.std.proofs.lemmas.List.{take_more}
-use Rattle.std.proofs.lemmas.Result.{on_err_weaker}
 use Rattle.node_table.specs.Addresses.{is_filter}
-use Rattle.node_table.specs.Numbers.{first_client}
 use Rattle.node_table.specs.declared.number.Addr.{Addr}
 use Rattle.node_table.specs.declared.number.Node.{Node}
 use Rattle.node_table.specs.declared.number.Node.TheVariants.{Port, Filter}
@@ -20,18 +16,14 @@ use Rattle.patch_graph.specs.Paths.{hops}
 use Rattle.patch_graph.specs.declared.edge.Edge.{Edge}
 use Rattle.route_filter.specs.declared.rule_args.RuleArgs.{RuleArgs}
 use Rattle.seq_state.specs.declared.log.Delivery.{Delivery}
-use Rattle.seq_state.specs.State.{Client, PortInfo, Queue, filters_of, with_entry}
-use Rattle.seq_state.specs.Effect.{filter_of, with_change, put_port, put_queue}
+use Rattle.seq_state.specs.State.{Client, filters_of}
+use Rattle.seq_state.specs.Effect.{filter_of}
 use Rattle.seq_state.specs.Copies.{filter_at, passed_by, copy}
-use Rattle.seq_state.proofs.Effects.{get-put}
 use Rattle.seq_state.proofs.Lists.{flat_map-append}
-use Rattle.seq_clients.specs.Roster.{Roster, with_client}
 use Rattle.seq_sending.specs.Carrying.{let_through, of_some, copies_by, copies_to, copies_onward}
 use Rattle.seq_sending.specs.Counts.{ways_for}
 use Rattle.seq_sending.specs.Rooms.{copies_for}
-use Rattle.seq_sending.specs.Table.{AreWaysKept}
-use Rattle.seq_sending.specs.Ways.{copies_on, copies_along, spread_all, AreWays}
-use Rattle.seq_sending.specs.declared.table.WayTable.{WayTable}
+use Rattle.seq_sending.specs.Ways.{copies_on, copies_along, spread_all}
 use Rattle.seq_sending.specs.declared.ways.Way.{Way}
 use Rattle.seq_sending.specs.declared.ways.Way.TheVariants.{Straight, Filtered, Parting, Nowhere}
 use Rattle.seq_sending.proofs.CopyCounts.{count_law}
@@ -143,81 +135,10 @@ module _ (a b : FinMap nat_cmp Client) (same : SameFilters a b) where
     on-same message (Parting node) = to-same (λ ts m. copies_onward a edges moment (hops - 1) ts m) (λ ts m. copies_onward b edges moment (hops - 1) ts m) (λ ts m. spread-same (hops - 1) ts m) message node
     on-same message Nowhere = refl
 
-  -- ways stay, where all filters do
-  pub ways-same : (edges : List Edge) (targets : List Addr) (ways : List Way) → AreWays a edges targets ways → AreWays b edges targets ways
-  ways-same edges targets ways are moment message p =
-      sym (flat_map-same _ _ (on-same edges moment message) ways) ∙ are moment message p ∙ spread-same edges moment hops targets message
-
-  -- and so do the numbers of copies
+  -- where all filters do, the numbers of copies stay
   pub number-same : (edges : List Edge) (c n : ℕ) (targets : List Addr) (message : List ℕ) → ways_for a edges c n targets message ≡ ways_for b edges c n targets message
   number-same edges c n targets message =
       sym (count_law a edges 0 c n targets message) ∙ ap (copies_for c) (spread-same edges 0 n targets message) ∙ count_law b edges 0 c n targets message
-
--- ways are kept, where one client has another entry with the same filters
-entry-same : (clients : FinMap nat_cmp Client) (actor : ℕ) (o : Option Client) → filters_of (FinMap.get clients actor) ≡ filters_of o → SameFilters clients (with_entry clients actor o)
-entry-same clients actor o same c = go (eqb c actor) refl ∙ sym (ap filters_of (get-put clients actor o c))
-  where
-    go : (b : Bool) → eqb c actor ≡ b → filters_of (FinMap.get clients c) ≡ filters_of (cond b o (FinMap.get clients c))
-    go true e = ap (λ x. filters_of (FinMap.get clients x)) (eqb-true c actor e) ∙ same
-    go false e = refl
-
-pub kept-with : (was now : Roster) (edges : List Edge) (table : WayTable) (actor : ℕ) (o : Option Client) → now.clients ≡ with_entry was.clients actor o →
-    filters_of (FinMap.get was.clients actor) ≡ filters_of o → AreWaysKept was.clients edges table → AreWaysKept now.clients edges table
-kept-with was now edges table actor o is same kept =
-    let after = with_entry was.clients actor o in
-    let filters = entry-same was.clients actor o same in
-    subst (λ cs. AreWaysKept cs edges table) (sym is) (record {
-      ways = λ place found e. record {
-        before = (kept.ways place found e).before;
-        ways = λ a row at now. ways-same was.clients after filters edges (targets_of edges a) found.ways ((kept.ways place found e).ways a row at now);
-      };
-      counts = λ i k e a place at message its. record {
-        rows = (kept.counts i k e a place at message its).rows;
-        each = λ row low. (kept.counts i k e a place at message its).each row low ∙ number-same was.clients after filters edges (first_client + row) hops (targets_of edges a) message;
-      };
-    })
-
--- where one client changed, but none of its filters
-kept-changed : (was now : Roster) (edges : List Edge) (table : WayTable) (actor : ℕ) (g : Client → Client) → ((c : Client) → c.filters ≡ (g c).filters) →
-    now ≡ with_client was actor (with_change (FinMap.get was.clients actor) g) → AreWaysKept was.clients edges table → AreWaysKept now.clients edges table
-kept-changed was now edges table actor g keeps is =
-    kept-with was now edges table actor (with_change (FinMap.get was.clients actor) g) (ap (λ (r : Roster). r.clients) is) (go (FinMap.get was.clients actor))
-  where
-    go : (c : Option Client) → filters_of c ≡ filters_of (with_change c g)
-    go None = refl
-    go (Some c) = keeps c
-
--- one of its ports
-pub kept-port : (was now : Roster) (edges : List Edge) (table : WayTable) (actor n : ℕ) (o : Option PortInfo) →
-    now ≡ with_client was actor (with_change (FinMap.get was.clients actor) (put_port n o)) → AreWaysKept was.clients edges table → AreWaysKept now.clients edges table
-kept-port was now edges table actor n o = kept-changed was now edges table actor (put_port n o) (go o)
-  where
-    go : (o : Option PortInfo) (c : Client) → c.filters ≡ (put_port n o c).filters
-    go None c = refl
-    go (Some p) c = refl
-
--- one of its queues
-pub kept-queue : (was now : Roster) (edges : List Edge) (table : WayTable) (actor n : ℕ) (o : Option Queue) →
-    now ≡ with_client was actor (with_change (FinMap.get was.clients actor) (put_queue n o)) → AreWaysKept was.clients edges table → AreWaysKept now.clients edges table
-kept-queue was now edges table actor n o = kept-changed was now edges table actor (put_queue n o) (go o)
-  where
-    go : (o : Option Queue) (c : Client) → c.filters ≡ (put_queue n o c).filters
-    go None c = refl
-    go (Some q) c = refl
-
--- what holds after every answer
-pub in-both : {T E : Type 0} (r : Result T E) (P : Type 0) → OnOk r P → OnErr r P → P
-in-both (Ok x) P ok err = ok
-in-both (Err x) P ok err = err
-
-pub where-ok : {T E : Type 0} (r : Result T E) (P : Type 0) → is_err r ≡ false → OnOk r P → P
-where-ok (Ok x) P e ok = ok
-where-ok (Err x) P e ok = cc
-
--- and where nothing changed after an error
-pub kept-or-same : {T E : Type 0} (r : Result T E) (was now : Roster) (edges : List Edge) (table : WayTable) → OnOk r (AreWaysKept now.clients edges table) → OnErr r (now ≡ was) →
-    AreWaysKept was.clients edges table → AreWaysKept now.clients edges table
-kept-or-same r was now edges table ok err kept = in-both r _ ok (on_err_weaker r (λ e. subst (λ (x : Roster). AreWaysKept x.clients edges table) (sym e) kept) err)
 
 -- nothing comes of messages that go to nobody
 pub none-to-nobody : (clients : FinMap nat_cmp Client) (edges : List Edge) (moment : ℕ) (targets : List Addr) (messages : List (List ℕ)) → length targets ≡ 0 →

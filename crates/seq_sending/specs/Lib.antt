@@ -1,5 +1,7 @@
 pub mod Carrying
 pub mod Ways
+pub mod Reach
+pub mod Changes
 pub mod Rooms
 pub mod Counts
 pub mod Classes

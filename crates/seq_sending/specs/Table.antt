@@ -1,32 +1,50 @@
 -- Representation: What a table knows of the ways from ports, and of the copies that come by them.
-use Rattle.std.specs.Prelude.{◌≡◌, ◌≤◌, ℕ, List, Option, Some, None, slice_index_or}
+use Rattle.std.specs.Prelude.{◌≡◌, ◌≤◌, ◌<◌, ℕ, List, Option, Some, None, length, slice_index_or}
 use Rattle.std.specs.Ordering.{nat_cmp}
 use Rattle.std.specs.FinMap.{FinMap}
 use Rattle.node_table.specs.Kept.{IsPlace}
+use Rattle.node_table.specs.Numbers.{most_clients}
 use Rattle.node_table.specs.declared.number.Addr.{Addr}
 use Rattle.patch_graph.specs.Index.{targets_of}
 use Rattle.patch_graph.specs.declared.edge.Edge.{Edge}
 use Rattle.seq_state.specs.State.{Client}
+use Rattle.seq_sending.specs.Changes.{AgreeOn, HangOn, IsCurrent}
 use Rattle.seq_sending.specs.KeptCounts.{AreCountsKept}
 use Rattle.seq_sending.specs.Ways.{AreWays}
+use Rattle.seq_sending.specs.declared.changes.Changes.{Changes}
 use Rattle.seq_sending.specs.declared.table.Found.{Found}
 use Rattle.seq_sending.specs.declared.table.WayTable.{WayTable}
+use Rattle.seq_sending.specs.declared.ways.Way.{Way}
 
--- What stands at a place was found after no more changes than there were. Where it was after as
--- many, it is the ways from the address whose place it is.
-pub record IsFound (clients : FinMap nat_cmp Client) (edges : List Edge) (changes place : ℕ)
-    (found : Found) : Type 0 where
-  pub before : found.at ≤ changes
-  pub ways : (a : Addr) (row : ℕ) → IsPlace a row place → found.at ≡ changes →
-      AreWays clients edges (targets_of edges a) found.ways
+-- the ways from a port, whatever is changed of others than such clients
+abbrev pub AreWaysBy : (ℕ → Type 0) → FinMap nat_cmp Client → List Edge → Addr → List Way → Type 0
+AreWaysBy P clients edges source ways =
+    (others : FinMap nat_cmp Client) (other_edges : List Edge) →
+    AgreeOn P clients others edges other_edges →
+    AreWays others other_edges (targets_of other_edges source) ways
 
-abbrev pub AreFound : FinMap nat_cmp Client → List Edge → ℕ → List (Option Found) → Type 0
+-- What stands at a place was found after no more changes than there were. Where it is current, it
+-- is the ways from the address whose place it is.
+pub record IsFound (clients : FinMap nat_cmp Client) (edges : List Edge) (changes : Changes)
+    (place : ℕ) (found : Found) : Type 0 where
+  pub before : found.at ≤ changes.count
+  pub ways : (a : Addr) (row : ℕ) → IsPlace a row place →
+      IsCurrent changes found.at a.client found.through →
+      AreWaysBy (HangOn a.client found.through) clients edges a found.ways
+
+abbrev pub AreFound : FinMap nat_cmp Client → List Edge → Changes → List (Option Found) → Type 0
 AreFound clients edges changes places =
     (place : ℕ) (found : Found) → slice_index_or places place None ≡ Some found →
     IsFound clients edges changes place found
 
+-- all that stands in a table was found before a change
+abbrev pub AreEarlier : ℕ → List (Option Found) → Type 0
+AreEarlier change places =
+    (place : ℕ) (found : Found) → slice_index_or places place None ≡ Some found → found.at < change
+
 -- what a table knows is so
 pub record AreWaysKept (clients : FinMap nat_cmp Client) (edges : List Edge) (table : WayTable)
     : Type 0 where
+  pub rows : length table.changes.last ≡ most_clients
   pub ways : AreFound clients edges table.changes table.places.items
   pub counts : AreCountsKept clients edges table.counts.kept.items

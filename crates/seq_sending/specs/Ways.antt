@@ -1,5 +1,5 @@
 -- Representation: The ways from a port, each with one rule for all the filters along it.
-use Rattle.std.specs.Prelude.{◌≡◌, ℕ, ◌-◌, List, [], Some}
+use Rattle.std.specs.Prelude.{◌≡◌, ℕ, ◌-◌, List, [], ◌∷◌, Some}
 use Rattle.std.specs.Option.{option_to_list}
 use Rattle.std.specs.List.{flat_map}
 use Rattle.std.specs.Ordering.{nat_cmp}
@@ -44,6 +44,18 @@ IsWay clients edges node way =
     (moment : ℕ) (message : List ℕ) → IsMessage message →
     copies_on clients edges moment message way
     ≡ copies_to clients edges moment (hops - 1) node message
+
+-- where a way parts, it parts at or behind the node that it leads to first
+abbrev pub PartsFrom : Addr → Way → Type 0
+PartsFrom node (Parting from) = from ≡ node
+PartsFrom node way = Unit {0}
+
+-- each of the ways does, of as many nodes
+abbrev pub PartFrom : List Addr → List Way → Type 0
+PartFrom [] [] = Unit {0}
+PartFrom [] (way ∷ ways) = ⊥
+PartFrom (node ∷ nodes) [] = ⊥
+PartFrom (node ∷ nodes) (way ∷ ways) = PartsFrom node way × PartFrom nodes ways
 
 -- the ways to all the nodes that a port is joined to
 abbrev pub AreWays : FinMap nat_cmp Client → List Edge → List Addr → List Way → Type 0

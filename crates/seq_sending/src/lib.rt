@@ -7,6 +7,7 @@
 
 mod barren;
 mod carried;
+mod changes;
 mod class;
 mod count_fault;
 mod counted;
@@ -15,6 +16,7 @@ mod front;
 mod hints;
 mod kept_counts;
 mod laws;
+mod reach;
 mod sending;
 mod table;
 mod walking;

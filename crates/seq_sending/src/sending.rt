@@ -16,7 +16,8 @@ ghost use Rattle.seq_sending.specs.Ways.{copies_on, copies_along, spread_all, Ar
 use crate::carried::Carried;
 use crate::counted::send_all_counted;
 use crate::kept_counts::CountTable;
-use crate::ways::{Extent, Way, Ways};
+use crate::reach::Extent;
+use crate::ways::{Way, Ways};
 use memory::OutOfMemory;
 use midi_wire::Message;
 use node_table::{Addr, Node, PortAddr};

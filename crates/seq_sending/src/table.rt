@@ -1,6 +1,6 @@
 //! What is known of the ways from the ports that have sent.
 
-ghost use Rattle.std.specs.Prelude.{◌≡◌, ◌++◌, ◌<◌, ℕ, List, [], ◌∷◌, length, None, IfSome, OnOk};
+ghost use Rattle.std.specs.Prelude.{◌≡◌, ◌++◌, ◌<◌, ◌≤◌, List, [], ◌∷◌, length, None, IfOk, IfSome, OnOk};
 ghost use Rattle.std.specs.Ordering.{nat_cmp};
 ghost use Rattle.std.specs.FinMap as map;
 ghost use Rattle.node_table.specs.Kept.{ReadsAs};
@@ -8,37 +8,53 @@ ghost use Rattle.patch_graph.specs.Index.{targets_of};
 ghost use Rattle.patch_graph.specs.declared.edge.Edge.{Edge};
 ghost use Rattle.seq_state.specs.State.{Client};
 ghost use Rattle.seq_state.specs.Step.{pools_after, copies_with_room};
-ghost use Rattle.seq_sending.specs.Table.{AreFound, AreWaysKept};
+ghost use Rattle.seq_sending.specs.Changes.{AgreeBut, HangOn};
+ghost use Rattle.seq_sending.specs.Table.{AreFound, AreEarlier, AreWaysBy, AreWaysKept};
 ghost use Rattle.seq_sending.specs.Ways.{AreWays, spread_all};
 ghost use Rattle.seq_sending.specs.declared.ways.Way.{Way};
 
+use crate::changes::{Changes, all_at};
 use crate::kept_counts::CountTable;
+use crate::reach::{Reach, Through, reach_of};
 use crate::sending::send_each;
 use crate::ways::{Way, Ways, ways_to};
 use memory::OutOfMemory;
 use midi_wire::Message;
-use node_table::{Addr, PortAddr, place_of};
+use node_table::{Addr, ClientId, PortAddr, place_of, row_of};
 use patch_graph::PatchGraph;
 use seq_clients::Clients;
 use seq_state::Delivery;
 use std::alloc::Global;
 
-/// The ways from a port, and after how many changes they were found.
+/// The ways from a port, after how many changes they were found, and through whose filters they lead.
 #[derive(Drop)]
 pub(crate) struct Found {
     pub(crate) at: u64,
+    pub(crate) through: Through,
     pub(crate) ways: Ways,
 }
 
-/// The ways from the ports that have sent, and the counts of their messages, until a rule or a subscription changes.
+/// The ways from the ports that have sent, and the counts of their messages.
+///
+/// Ways are known until a rule or a subscription changes of the port's own client, or of one through whose filters they
+/// lead, and counts until any changes.
 #[derive(Drop)]
 pub struct WayTable {
     alloc: Global,
-    // By `place_of`; it ends behind the last port that has sent.
+    // By `place_of`; it ends behind the last port that has sent. Ways that are not current any more stay in their
+    // places, known no more.
     pub(crate) places: Vec<Option<Found>>,
-    // How often a rule or a subscription has changed. Ways that were found before stay in their places, known no more.
-    pub(crate) changes: u64,
+    pub(crate) changes: Changes,
     pub(crate) counts: CountTable,
+}
+
+impl Found {
+    /// Its room, for others.
+    fn emptied(self, alloc: Global) -> (Vec<Way>, Vec<ClientId>)
+        ensures { result.0.items ≡ [] }
+    {
+        (self.ways.emptied(), self.through.emptied(alloc))
+    }
 }
 
 /// Makes a place in a table, and those before it. `Err` leaves what stands in it.
@@ -52,22 +68,24 @@ fn make_place(places: &mut Vec<Option<Found>>, place: usize) -> Result<(), OutOf
     Ok(())
 }
 
-/// The ways from a port, where they were found after as many changes.
+/// The ways from a port, where nothing changed on which they hang.
 #[inline]
-fn known<'t>(places: &'t [Option<Found>], changes: u64, source: &Addr) -> Option<&'t Ways>
+fn known<'t>(places: &'t [Option<Found>], changes: &Changes, source: &Addr) -> Option<&'t Ways>
     ensures { (clients : map.FinMap nat_cmp Client) (edges : List Edge)
-        → AreFound clients edges changes places.now
+        → AreFound clients edges changes.now places.now
         → IfSome result (λ ways. AreWays clients edges (targets_of edges source.now) ways.now) }
 {
     match places.get(place_of(source)) {
-        Some(Some(found)) if found.at == changes => Some(&found.ways),
+        Some(Some(found)) if changes.is_current(found.at, source.client, &found.through) => {
+            Some(&found.ways)
+        }
         _ => None,
     }
 }
 
 /// Takes what stands at a place out of a table: what is known of the others stays.
 fn take(places: &mut Vec<Option<Found>>, place: usize) -> Option<Found>
-    ensures { (clients : map.FinMap nat_cmp Client) (edges : List Edge) (changes : ℕ)
+    ensures { (clients : map.FinMap nat_cmp Client) (edges : List Edge) (changes : Changes)
         → AreFound clients edges changes places.old.items
         → AreFound clients edges changes places.new.items }
 {
@@ -77,22 +95,45 @@ fn take(places: &mut Vec<Option<Found>>, place: usize) -> Option<Found>
     places[place].take()
 }
 
-/// Keeps the ways from a port, found after so many changes. `Err` leaves what is known.
+/// Keeps the ways from a port, as they were found. `Err` leaves what is known.
 fn keep_ways(
     places: &mut Vec<Option<Found>>,
-    changes: u64,
     source: &Addr,
-    ways: Ways,
+    found: Found,
 ) -> Result<(), OutOfMemory>
-    ensures { (clients : map.FinMap nat_cmp Client) (edges : List Edge)
-        → AreWays clients edges (targets_of edges source.now) ways
-        → AreFound clients edges changes places.old.items
+    ensures { (clients : map.FinMap nat_cmp Client) (edges : List Edge) (changes : Changes)
+        → AreWaysBy (HangOn source.now.client found.through) clients edges source.now found.ways
+        → found.at ≤ changes.count → AreFound clients edges changes places.old.items
         → AreFound clients edges changes places.new.items }
 {
     let place = place_of(source);
     make_place(places, place)?;
-    places[place] = Some(Found { at: changes, ways });
+    places[place] = Some(found);
     Ok(())
+}
+
+/// Finds the ways from a port, in the room that is given.
+fn find(
+    room: (Vec<Way>, Vec<ClientId>),
+    clients: &Clients,
+    graph: &PatchGraph,
+    changes: &Changes,
+    source: &Addr,
+) -> Result<Found, OutOfMemory>
+    requires { room.0.items ≡ [] }
+    ensures at { IfOk result (λ found. found.at ≡ changes.now.count) }
+    ensures ways { IfOk result (λ found. AreWaysBy (HangOn source.now.client found.through)
+        clients.now.clients graph.now source.now found.ways) }
+{
+    let targets = graph.targets(source);
+    let (ways, through) = room;
+    let Reach { extent, through } = reach_of(through, graph, targets)?;
+    let ways = ways_to(ways, clients, graph, targets, extent)?;
+    Ok(Found {
+        at: changes.count,
+        through,
+        ways,
+    })
 }
 
 impl WayTable {
@@ -104,7 +145,7 @@ impl WayTable {
         WayTable {
             alloc,
             places: Vec::new(alloc),
-            changes: 0,
+            changes: Changes::new(),
             counts: CountTable::new(alloc),
         }
     }
@@ -116,7 +157,7 @@ impl WayTable {
             → AreWaysKept clients edges self.now → IfSome result
             (λ end. AreWays clients edges (targets_of edges source.now) (Way.Straight end ∷ [])) }
     {
-        known(self.places.as_slice(), self.changes, source)?.straight_end()
+        known(self.places.as_slice(), &self.changes, source)?.straight_end()
     }
 
     /// Sends messages one after another from a port, and keeps the ways by which they go.
@@ -141,39 +182,64 @@ impl WayTable {
             let ds = spread_all c.clients graph.now moment targets messages.now in
             OnOk result (out.new.items ≡ out.old.items ++ copies_with_room c.pools ds) }
     {
-        let (alloc, changes) = (self.alloc, self.changes);
-        let counts = &mut self.counts;
+        let alloc = self.alloc;
+        let (changes, counts) = (&self.changes, &mut self.counts);
         if let Some(ways) = known(self.places.as_slice(), changes, source) {
             return send_each(
                 alloc, clients, graph, moment, source, ways, messages, counts, out,
             );
         }
-        let targets = graph.targets(source);
-        if targets.is_empty() {
+        if graph.targets(source).is_empty() {
             return Ok(());
         }
-        // Ways that are known no more give their room.
+        // What is known no more gives its room.
         let room = match take(&mut self.places, place_of(source)) {
-            Some(found) => found.ways.emptied(),
-            None => Vec::new(alloc),
+            Some(found) => found.emptied(alloc),
+            None => (Vec::new(alloc), Vec::new(alloc)),
         };
-        let ways = ways_to(room, clients, graph, targets)?;
+        let found = find(room, clients, graph, changes, source)?;
+        let ways = &found.ways;
         send_each(
-            alloc, clients, graph, moment, source, &ways, messages, counts, out,
+            alloc, clients, graph, moment, source, ways, messages, counts, out,
         )?;
-        keep_ways(&mut self.places, changes, source, ways)
+        keep_ways(&mut self.places, source, found)
     }
 
-    /// Forgets all, since a rule or a subscription changes. It takes no memory, and keeps what it has.
+    /// Forgets what hangs on a client, since its rules or what leaves its nodes change, and all counts. It takes no
+    /// memory, and keeps what it has.
+    pub fn forget_client(&mut self, client: ClientId)
+        ensures { (clients others : map.FinMap nat_cmp Client) (edges other_edges : List Edge)
+            → AgreeBut client clients others edges other_edges
+            → AreWaysKept clients edges self.old → AreWaysKept others other_edges self.new }
+    {
+        let change = self.next_change();
+        self.changes.last[row_of(client)] = change;
+    }
+
+    /// Forgets all, since rules or subscriptions of anybody change. It takes no memory, and keeps what it has.
     pub fn clear(&mut self)
         ensures { (clients others : map.FinMap nat_cmp Client) (edges other_edges : List Edge)
             → AreWaysKept clients edges self.old → AreWaysKept others other_edges self.new }
     {
+        let change = self.next_change();
+        self.changes.last = all_at(change);
+    }
+
+    /// Counts one change more, and gives its number: all that stands in the table was found before it. No count stays.
+    fn next_change(&mut self) -> u64
+        ensures changes { self.new.changes ≡ record self.old.changes { count = result } }
+        ensures counts { self.new.counts.kept.items ≡ [] }
+        ensures earlier { (clients : map.FinMap nat_cmp Client) (edges : List Edge)
+            → AreFound clients edges self.old.changes self.old.places.items
+            → AreFound clients edges self.old.changes self.new.places.items
+            × AreEarlier result self.new.places.items }
+    {
         self.counts.clear();
-        if self.changes == u64::MAX {
+        if self.changes.count == u64::MAX {
             self.places.clear();
-        } else {
-            self.changes += 1;
+            return u64::MAX;
         }
+        self.changes.count += 1;
+        self.changes.count
     }
 }

@@ -10,8 +10,9 @@ ghost use Rattle.patch_graph.specs.Cursor.{at_port};
 ghost use Rattle.seq_state.specs.Copies.{copy};
 ghost use Rattle.seq_state.specs.State.{Client};
 ghost use Rattle.seq_sending.specs.Carrying.{let_through};
-ghost use Rattle.seq_sending.specs.Ways.{copies_on, IsWay, AreWays};
+ghost use Rattle.seq_sending.specs.Ways.{copies_on, IsWay, AreWays, PartsFrom, PartFrom};
 
+use crate::reach::Extent;
 use memory::OutOfMemory;
 use node_table::{Addr, Node, PortAddr};
 use patch_graph::{HOPS, PatchGraph};
@@ -31,23 +32,6 @@ pub(crate) enum Way {
     /// They come to no port.
     Nowhere,
 }
-
-/// How many nodes ways come to, each as often as there is a way to it. Nothing rests on it but speed.
-#[derive(Clone, Copy, Debug, PartialEq, Eq)]
-pub(crate) enum Extent {
-    /// So few that a walk along them costs no more than to look up how many copies come of it.
-    Few,
-    /// More than `MOST_UNCOUNTED`: they are walked where some copy finds room.
-    Many,
-    /// More than `MOST_WALKED`: they are never walked without marks.
-    TooMany,
-}
-
-/// The most nodes to which ways come whose copies are not counted before they are sent.
-const MOST_UNCOUNTED: usize = 128;
-
-/// The most nodes that a walk without marks comes to.
-const MOST_WALKED: usize = 8_192;
 
 /// The ways from a port, in the order of its subscriptions. They are seen as their list.
 #[derive(Drop)]
@@ -102,34 +86,6 @@ impl Ways {
     }
 }
 
-/// What is left of a number of nodes after those to which ways of at most `hops` subscriptions lead, whatever the
-/// filters let through.
-fn nodes_left(graph: &PatchGraph, hops: usize, targets: &[Addr], most: usize) -> usize {
-    let mut left = most;
-    for target in targets {
-        if left == 0 {
-            return 0;
-        }
-        left -= 1;
-        if hops > 0 && target.is_filter() {
-            left = nodes_left(graph, hops - 1, graph.targets(target), left);
-        }
-    }
-    left
-}
-
-/// How many nodes ways come to from these.
-fn extent_of(graph: &PatchGraph, targets: &[Addr]) -> Extent {
-    let left = nodes_left(graph, HOPS - 1, targets, MOST_WALKED);
-    if left == 0 {
-        Extent::TooMany
-    } else if left < MOST_WALKED - MOST_UNCOUNTED {
-        Extent::Many
-    } else {
-        Extent::Few
-    }
-}
-
 /// The rule of two filters, one after the other. A filter that is not there lets all through.
 fn chained(first: Option<Rule>, next: Option<&Rule>) -> Option<Rule>
     ensures { (m : List ℕ) → IsMessage m → let_through result m
@@ -145,7 +101,8 @@ fn chained(first: Option<Rule>, next: Option<&Rule>) -> Option<Rule>
 
 /// The way to a node which a port is joined to.
 fn way_to<'g>(clients: &Clients, graph: &'g PatchGraph, target: &'g Addr) -> Way
-    ensures { IsWay clients.now.clients graph.now target.now result }
+    ensures way { IsWay clients.now.clients graph.now target.now result }
+    ensures parts { PartsFrom target.now result }
 {
     let (mut hops, mut node, mut rule) = (HOPS - 1, target, None);
     loop {
@@ -170,9 +127,10 @@ fn way_to<'g>(clients: &Clients, graph: &'g PatchGraph, target: &'g Addr) -> Way
 
 /// The way to a port, with the rule of the filters before it if there are any.
 fn way_by(rule: Option<Rule>, end: PortAddr) -> Way
-    ensures { (clients : map.FinMap nat_cmp Client) (edges : List Edge) (moment : ℕ) (m : List ℕ)
-        → copies_on clients edges moment m result
+    ensures copies { (clients : map.FinMap nat_cmp Client) (edges : List Edge) (moment : ℕ)
+        (m : List ℕ) → copies_on clients edges moment m result
         ≡ option_to_list (copy moment (at_port end) (let_through rule m)) }
+    ensures whole { (node : Addr) → PartsFrom node result }
 {
     match rule {
         Some(rule) => Way::Filtered(rule, end),
@@ -186,17 +144,16 @@ pub(crate) fn ways_to(
     clients: &Clients,
     graph: &PatchGraph,
     targets: &[Addr],
+    extent: Extent,
 ) -> Result<Ways, OutOfMemory>
     requires { room.items ≡ [] }
-    ensures { IfOk result (λ ways. AreWays clients.now.clients graph.now targets.now ways) }
+    ensures ways { IfOk result (λ ways. AreWays clients.now.clients graph.now targets.now ways) }
+    ensures parts { IfOk result (λ ways. PartFrom targets.now ways) }
 {
     let mut ways = room;
     ways.reserve(targets.len())?;
     for target in targets {
         ways.push(way_to(clients, graph, target))?;
     }
-    Ok(Ways {
-        ways,
-        extent: extent_of(graph, targets),
-    })
+    Ok(Ways { ways, extent })
 }

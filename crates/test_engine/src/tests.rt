@@ -3,6 +3,7 @@
 mod circles;
 mod clients;
 mod going;
+mod kept_ways;
 mod lines;
 mod logs;
 mod long_runs;

@@ -25,6 +25,8 @@ pub enum Say {
     DeletePort(u8),
     /// A filter that may be joined to and from.
     Filter(u8, RuleArgs),
+    /// A filter, and its new rule.
+    Rule(u8, RuleArgs),
     Connect(At, At),
     Disconnect(At, At),
     Bytes(u8, &'static [u8]),
@@ -56,6 +58,9 @@ pub const ALL: RuleArgs = RuleArgs {
     shift: 0,
     channel: None,
 };
+
+/// The filter that raises notes, so that one tells through how many filters it came.
+pub const RAISES: RuleArgs = RuleArgs { shift: 1, ..ALL };
 
 /// What one client says, each command at its moment, and what it hears of the run.
 #[derive(Clone, Copy)]
@@ -170,6 +175,7 @@ fn command_of(alloc: Global, said: Say) -> Option<Command> {
         Port(port, name, caps) => port_made(alloc, port, name, caps),
         DeletePort(port) => PortNo::new(port).map(|port| Command::DeletePort { port }),
         Filter(filter, rule) => filter_made(filter, rule),
+        Rule(filter, rule) => FilterNo::new(filter).map(|filter| Command::SetFilter { filter, rule }),
         Connect(source, target) => joined(source, target),
         Disconnect(source, target) => parted(source, target),
         Bytes(port, bytes) => bytes_fed(alloc, port, bytes),

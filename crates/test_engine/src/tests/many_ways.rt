@@ -2,22 +2,12 @@
 
 use super::lines::At::{F, P};
 use super::lines::Say::*;
-use super::lines::{Lines, Part};
+use super::lines::{Lines, Part, RAISES};
 use super::logs::{assert_logs, ran_of};
 use seq_engine::*;
 use std::alloc::Global;
 use std::process::Abort;
 use std::test::Fail;
-
-/// Raises notes, so that one tells through how many filters it came.
-const RAISES: RuleArgs = RuleArgs {
-    channels: 65535,
-    kinds: Kinds::ALL,
-    low: 0,
-    high: 127,
-    shift: 1,
-    channel: None,
-};
 
 /// What goes to a net: a note and a clock, the note again, with another velocity each time, and a note that is lower.
 const SENDER: Part = Part {

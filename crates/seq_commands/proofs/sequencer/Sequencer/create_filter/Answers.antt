@@ -1,11 +1,10 @@
-use Rattle.std.specs.Prelude.{is_some}
-use Rattle.std.proofs.Common.{◌≡◌, Some, refl, sym, ap, ◌∙◌, true, false, subst}
+use Rattle.std.proofs.Common.{◌≡◌, Some, sym, ap, ◌∙◌}
 use Rattle.std.proofs.lemmas.Result.{on_ok_weaker}
 use Rattle.std.specs.FinMap.{get}
 use Rattle.seq_state.specs.declared.input.Command.TheVariants.{CreateFilter}
-use Rattle.seq_state.specs.Effect.{with_change, put_filter, new_filter, has_filter}
+use Rattle.seq_state.specs.Effect.{with_change, put_filter, new_filter}
 use Rattle.seq_state.proofs.Done.{creates-filter}
-use Rattle.seq_clients.specs.Roster.{with_client, Roster}
+use Rattle.seq_clients.specs.Roster.{with_client}
 use Rattle.seq_commands.specs.Whole.{clients_of, state_of}
 use Rattle.seq_commands.proofs.ClientsAccepted.{accepted-filter, rule-made, rule-refused}
 use Rattle.seq_commands.proofs.ClientsGiven.{nodes-kept, queues-filter}
@@ -17,10 +16,10 @@ unreachable-requires c =
     (sym c.new.ensures ∙ c.in_default.is)
 
 pub create_filter-requires-clause-open : goal.create_filter-requires-clause-open
-create_filter-requires-clause-open c = subst (λ (r : Roster). is_some (get r.clients c.args.turn.actor) ≡ true) (sym c.clients_mut-clients.ensures.value) ((accepted-filter c.args.self.now.files (state_of c.args.self.now) c.args.turn.moment c.args.turn.actor c.args.filter c.args.caps c.args.rule.now c.requires.accepted).0)
+create_filter-requires-clause-open c = (accepted-filter c.args.self.now.files (state_of c.args.self.now) c.args.turn.moment c.args.turn.actor c.args.filter c.args.caps c.args.rule.now c.requires.accepted).0
 
 pub create_filter-requires-clause-free : goal.create_filter-requires-clause-free
-create_filter-requires-clause-free c = subst (λ (r : Roster). has_filter (get r.clients c.args.turn.actor) c.args.filter ≡ false) (sym c.clients_mut-clients.ensures.value) ((accepted-filter c.args.self.now.files (state_of c.args.self.now) c.args.turn.moment c.args.turn.actor c.args.filter c.args.caps c.args.rule.now c.requires.accepted).2)
+create_filter-requires-clause-free c = (accepted-filter c.args.self.now.files (state_of c.args.self.now) c.args.turn.moment c.args.turn.actor c.args.filter c.args.caps c.args.rule.now c.requires.accepted).2
 
 pub returns : goal.returns
 returns c =
@@ -29,5 +28,5 @@ returns c =
     let same : c.in-Some.rule ≡ c.args.rule.now = rule-made c.args.rule.now c.in-Some.rule (sym c.new.ensures ∙ c.in-Some.is) in
     on_ok_weaker c.create_filter.result (λ e. nodes-kept c.args.self.now c.args.turn (CreateFilter c.args.filter c.args.caps c.args.rule.now) (with_change its (put_filter c.args.filter made)) _ _ c.requires.accepted
     (creates-filter c.args.self.now.files (state_of c.args.self.now) c.args.turn.moment c.args.turn.actor c.args.filter c.args.caps c.args.rule.now)
-    (e ∙ ap (λ (r : Roster). with_client r c.args.turn.actor (with_change (get r.clients c.args.turn.actor) (put_filter c.args.filter (Some (new_filter c.args.caps c.in-Some.rule))))) c.clients_mut-clients.ensures.value
-    ∙ ap (λ x. with_client c.args.self.now.patchbay.clients c.args.turn.actor (with_change its (put_filter c.args.filter (Some (new_filter c.args.caps x))))) same) refl (queues-filter c.args.filter made its)) c.create_filter.ensures.ok
+    (e ∙ ap (λ x. with_client c.args.self.now.patchbay.clients c.args.turn.actor (with_change its (put_filter c.args.filter (Some (new_filter c.args.caps x))))) same)
+    c.create_filter.ensures.graph (queues-filter c.args.filter made its)) c.create_filter.ensures.ok

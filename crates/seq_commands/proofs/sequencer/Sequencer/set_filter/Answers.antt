@@ -1,9 +1,9 @@
-use Rattle.std.proofs.Common.{◌≡◌, refl, sym, ap, ◌∙◌, true, subst}
+use Rattle.std.proofs.Common.{◌≡◌, sym, ap, ◌∙◌}
 use Rattle.std.specs.FinMap.{get}
 use Rattle.seq_state.specs.declared.input.Command.TheVariants.{SetFilter}
-use Rattle.seq_state.specs.Effect.{with_change, put_filter, filter_of, filter_ruled, has_filter}
+use Rattle.seq_state.specs.Effect.{with_change, put_filter, filter_of, filter_ruled}
 use Rattle.seq_state.proofs.Done.{sets-filter}
-use Rattle.seq_clients.specs.Roster.{with_client, Roster}
+use Rattle.seq_clients.specs.Roster.{with_client}
 use Rattle.seq_commands.specs.Whole.{clients_of, state_of}
 use Rattle.seq_commands.proofs.ClientsAccepted.{accepted-rule, rule-made, rule-refused}
 use Rattle.seq_commands.proofs.ClientsGiven.{nodes-kept, queues-filter}
@@ -15,7 +15,7 @@ unreachable-requires c =
     (sym c.new.ensures ∙ c.in_default.is)
 
 pub set_filter-requires : goal.set_filter-requires
-set_filter-requires c = subst (λ (r : Roster). has_filter (get r.clients c.args.turn.actor) c.args.filter ≡ true) (sym c.clients_mut-clients.ensures.value) ((accepted-rule c.args.self.now.files (state_of c.args.self.now) c.args.turn.moment c.args.turn.actor c.args.filter c.args.rule.now c.requires.accepted).1)
+set_filter-requires c = (accepted-rule c.args.self.now.files (state_of c.args.self.now) c.args.turn.moment c.args.turn.actor c.args.filter c.args.rule.now c.requires.accepted).1
 
 pub returns : goal.returns
 returns c =
@@ -24,7 +24,6 @@ returns c =
     let same : c.in-Some.rule ≡ c.args.rule.now = rule-made c.args.rule.now c.in-Some.rule (sym c.new.ensures ∙ c.in-Some.is) in
     nodes-kept c.args.self.now c.args.turn (SetFilter c.args.filter c.args.rule.now) (with_change its (put_filter c.args.filter (filter_ruled c.args.rule.now was))) _ _ c.requires.accepted
     (sets-filter c.args.self.now.files (state_of c.args.self.now) c.args.turn.moment c.args.turn.actor c.args.filter c.args.rule.now)
-    (c.set_filter.ensures
-    ∙ ap (λ (r : Roster). with_client r c.args.turn.actor (with_change (get r.clients c.args.turn.actor) (put_filter c.args.filter (filter_ruled c.in-Some.rule (filter_of (get r.clients c.args.turn.actor) c.args.filter))))) c.clients_mut-clients.ensures.value
-    ∙ ap (λ x. with_client c.args.self.now.patchbay.clients c.args.turn.actor (with_change its (put_filter c.args.filter (filter_ruled x was)))) same) refl
-    (queues-filter c.args.filter (filter_ruled c.args.rule.now was) its)
+    (c.set_filter.ensures.clients
+    ∙ ap (λ x. with_client c.args.self.now.patchbay.clients c.args.turn.actor (with_change its (put_filter c.args.filter (filter_ruled x was)))) same)
+    c.set_filter.ensures.graph (queues-filter c.args.filter (filter_ruled c.args.rule.now was) its)

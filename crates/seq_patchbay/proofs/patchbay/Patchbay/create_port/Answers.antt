@@ -1,7 +1,7 @@
 use Rattle.std.proofs.Common.{Some}
 use Rattle.std.proofs.lemmas.Result.{on_ok_weaker}
 use Rattle.seq_state.specs.Effect.{new_port}
-use Rattle.seq_sending.proofs.Onward.{kept-port, kept-or-same}
+use Rattle.seq_sending.proofs.Keeping.{kept-port, kept-or-same}
 use Rattle.seq_patchbay.proofs.patchbay.Patchbay.create_port.Goals as goal
 
 pub invariant_of-self : goal.invariant_of-self

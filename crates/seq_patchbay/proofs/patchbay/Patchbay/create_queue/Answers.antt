@@ -1,6 +1,6 @@
 use Rattle.std.proofs.Common.{Some}
 use Rattle.seq_state.specs.Effect.{held_queue}
-use Rattle.seq_sending.proofs.Onward.{kept-queue}
+use Rattle.seq_sending.proofs.Keeping.{kept-queue}
 use Rattle.seq_patchbay.proofs.patchbay.Patchbay.create_queue.Goals as goal
 
 pub invariant_of-self : goal.invariant_of-self

@@ -1,5 +1,5 @@
 use Rattle.std.proofs.Common.{None}
-use Rattle.seq_sending.proofs.Onward.{kept-queue}
+use Rattle.seq_sending.proofs.Keeping.{kept-queue}
 use Rattle.seq_patchbay.proofs.patchbay.Patchbay.delete_queue.Goals as goal
 
 pub invariant_of-self : goal.invariant_of-self

@@ -1,5 +1,5 @@
 use Rattle.std.proofs.Common.{sym, ◌∙◌}
-use Rattle.seq_sending.proofs.Onward.{where-ok, kept-port}
+use Rattle.seq_sending.proofs.Keeping.{where-ok, kept-port}
 use Rattle.seq_patchbay.proofs.patchbay.Patchbay.feed.Goals as goal
 
 pub invariant_of-self : goal.invariant_of-self

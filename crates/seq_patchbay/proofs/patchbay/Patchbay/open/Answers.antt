@@ -5,7 +5,7 @@ use Rattle.seq_clients.specs.Roster.{Roster}
 use Rattle.seq_state.specs.State.{filters_of}
 use Rattle.seq_state.specs.Effect.{new_client}
 use Rattle.seq_patchbay.specs.Network.{Network}
-use Rattle.seq_sending.proofs.Onward.{kept-with, kept-or-same}
+use Rattle.seq_sending.proofs.Keeping.{kept-with, kept-or-same}
 use Rattle.seq_patchbay.proofs.patchbay.Patchbay.open.Goals as goal
 
 pub invariant_of-self : goal.invariant_of-self

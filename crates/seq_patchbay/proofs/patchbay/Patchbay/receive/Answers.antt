@@ -2,7 +2,7 @@ use Rattle.std.proofs.Common.{◌≡◌, sym, ap, subst}
 use Rattle.seq_clients.specs.Roster.{Roster}
 use Rattle.seq_sending.specs.Table.{AreWaysKept}
 use Rattle.std.proofs.lemmas.Result.{on_ok_weaker, on_err_weaker}
-use Rattle.seq_sending.proofs.Onward.{in-both}
+use Rattle.seq_sending.proofs.Keeping.{in-both}
 use Rattle.seq_patchbay.proofs.patchbay.Patchbay.receive.Goals as goal
 
 pub invariant_of-self : goal.invariant_of-self

@@ -1,4 +1,4 @@
-use Rattle.seq_sending.proofs.Onward.{kept-queue}
+use Rattle.seq_sending.proofs.Keeping.{kept-queue}
 use Rattle.seq_patchbay.proofs.patchbay.Patchbay.resume.Goals as goal
 
 pub invariant_of-self : goal.invariant_of-self

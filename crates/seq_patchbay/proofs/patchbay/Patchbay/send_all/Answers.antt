@@ -1,7 +1,7 @@
 use Rattle.std.proofs.Common.{◌≡◌, ◌++◌, sym, ap, ◌∙◌, subst, append-nil}
 use Rattle.std.specs.Prelude.{OnOk}
 use Rattle.std.proofs.lemmas.Bool.{eqb-true}
-use Rattle.seq_state.specs.Step.{port_addr, pools_after, copies_with_room}
+use Rattle.seq_state.specs.Step.{pools_after, copies_with_room}
 use Rattle.seq_patchbay.specs.Leaving.{copies_of_all}
 use Rattle.seq_patchbay.specs.Network.{Network}
 use Rattle.seq_sending.specs.Table.{AreWaysKept}

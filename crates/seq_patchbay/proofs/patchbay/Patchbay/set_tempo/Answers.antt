@@ -1,5 +1,5 @@
 use Rattle.std.proofs.lemmas.Result.{on_ok_weaker}
-use Rattle.seq_sending.proofs.Onward.{kept-queue, kept-or-same}
+use Rattle.seq_sending.proofs.Keeping.{kept-queue, kept-or-same}
 use Rattle.seq_patchbay.proofs.patchbay.Patchbay.set_tempo.Goals as goal
 
 pub invariant_of-self : goal.invariant_of-self
