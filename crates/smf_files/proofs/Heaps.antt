@@ -1,13 +1,12 @@
 -- A heap of heads, of which one sinks to its place.
-use Rattle.std.proofs.Common.{◌≡◌, ◌≤◌, ◌<◌, ℕ, zero, suc, ◌+◌, ◌-◌, ◌*◌, ◌/◌, Bool, true, false, List, [], ◌∷◌, ◌++◌, ◌∙◌, inl, inr, length, get_or, set, refl, arith, ap, sym, length-append}
+use Rattle.std.proofs.Common.{◌≡◌, ◌≤◌, ◌<◌, ℕ, zero, suc, ◌+◌, ◌-◌, ◌*◌, ◌/◌, Bool, true, false, List, [], ◌∷◌, ◌++◌, ◌∙◌, inl, inr, length, drop, get_or, set, refl, arith, ap, sym, length-append}
 use Rattle.std.specs.List.{AllByRecursion, SwappedAt}
 use Rattle.std.proofs.lemmas.Bool.{cases_eq}
 use Rattle.std.proofs.lemmas.Bool.Decides.{nat_tests}
 use Rattle.smf_files.specs.declared.heads.TrackHead.{TrackHead}
 use Rattle.std.specs.List.Sorted.{IsPermutation}
-use Rattle.std.proofs.lemmas.List.Sorted.{sum_by-IsPermutation}
-use Rattle.std.proofs.lemmas.List.Sums.{sum_by-set, sum_by-cons, sum_by-append}
-use Rattle.smf_files.specs.Playing.{is_later, IsHeapFrom, IsFirstChild, at_head, count}
+use Rattle.std.proofs.lemmas.List.Sorted.{IsPermutation-trans, IsPermutation-to_front}
+use Rattle.smf_files.specs.Playing.{is_later, IsHeapFrom, IsFirstChild}
 
 never-itself : (a : TrackHead) → is_later a a ≡ false
 never-itself a = grind (arith, nat_tests)
@@ -124,17 +123,13 @@ heap-front hs last heap = λ i k d a b c f.
     in-front (x ∷ hs) last zero d h = refl
     in-front (x ∷ hs) last (suc i) d h = in-front hs last i d (omega arith)
 
--- ---- how often heads stand there
+-- ---- the same heads in another order
 
-pub count-set : (k h d : TrackHead) (hs : List TrackHead) → 0 < length hs → count k (set hs 0 h) + at_head k (get_or hs 0 d) ≡ count k hs + at_head k h
-count-set k h d hs p = sum_by-set (at_head k) hs 0 h d p
+pub with-first : (hs : List TrackHead) (h : TrackHead) → 0 < length hs → set hs 0 h ≡ h ∷ drop 1 hs
+with-first [] h p = absurd (omega arith)
+with-first (x ∷ hs) h p = refl
 
-pub count-moved : (k : TrackHead) (hs hs' : List TrackHead) → IsPermutation hs hs' → count k hs' ≡ count k hs
-count-moved k hs hs' p = sum_by-IsPermutation (at_head k) hs hs' p
-
-pub count-last : (k last : TrackHead) (hs : List TrackHead) → count k (hs ++ last ∷ []) ≡ count k hs + at_head k last
-count-last k last hs =
-    let one : count k (last ∷ []) ≡ at_head k last + count k [] = sum_by-cons (at_head k) last [] in
-    let none : count k [] ≡ 0 = refl in
-    let both : count k (hs ++ last ∷ []) ≡ count k hs + count k (last ∷ []) = sum_by-append (at_head k) hs (last ∷ []) in
-    omega arith
+-- the last in the place of the first
+pub last-first : (hs hs' : List TrackHead) (last : TrackHead) → 0 < length hs → IsPermutation (last ∷ drop 1 hs) hs' → IsPermutation (drop 1 (hs ++ last ∷ [])) hs'
+last-first [] hs' last p moved = absurd (omega arith)
+last-first (x ∷ hs) hs' last p moved = IsPermutation-trans (hs ++ last ∷ []) (last ∷ hs) hs' (IsPermutation-to_front hs last) moved

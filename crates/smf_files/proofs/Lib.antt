@@ -3,7 +3,11 @@ pub mod Chunks
 pub mod Sorting
 pub mod Places
 pub mod Exclusives
+pub mod Suffixes
+pub mod Short
+pub mod Apart
 pub mod Merging
+pub mod Beginning
 pub mod Writing
 pub mod Heaps
 pub mod Divisions

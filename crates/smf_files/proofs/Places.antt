@@ -1,6 +1,6 @@
 -- A track that is played from a place on.
-use Rattle.std.proofs.Common.{◌≡◌, ◌≤◌, ℕ, suc, ◌+◌, ◌*◌, Bool, true, false, List, [], ◌∷◌, ◌++◌, ◌∙◌, length, refl, arith, ap, sym}
-use Rattle.std.specs.Prelude.{Option, Some, None, Result, Ok, Err, if◌then◌else◌, is_ok, is_some, IsTrue, ◌&&◌, ◌||◌}
+use Rattle.std.proofs.Common.{◌≡◌, ◌≤◌, ℕ, suc, ◌+◌, ◌-◌, ◌*◌, Bool, true, false, List, [], ◌∷◌, ◌++◌, ◌∙◌, length, drop, refl, arith, ap, sym, subst}
+use Rattle.std.specs.Prelude.{Option, Some, None, Result, Ok, Err, if◌then◌else◌, is_ok, is_some, IsTrue}
 use Rattle.smf_grammar.specs.declared.event.Event.{Event}
 use Rattle.smf_grammar.specs.declared.fault.PairFault.{PairFault}
 use Rattle.smf_grammar.specs.Pairs.{TrackEvent, Voice, Exclusive, Escape, Meta, Pair, is_end, running_after, pair_at}
@@ -10,15 +10,10 @@ use Rattle.smf_grammar.specs.Contents.{message_of, event_if, events_from}
 use Rattle.smf_grammar.specs.Seen.{IsRunning, is_event_sound}
 use Rattle.smf_grammar.proofs.Whole.{pairs-end, end-pairs}
 use Rattle.smf_grammar.proofs.Sound.{sound-running}
-use Rattle.midi_wire.proofs.MessageTests.{and_both}
 use Rattle.smf_files.specs.Kept.{pairs_or_none}
-use Rattle.smf_files.specs.declared.place.TrackPlace.{TrackPlace}
-use Rattle.smf_files.specs.Playing.{is_over, event_in, running_in, left_in, running_before, is_early, is_fine, to_come, rest_of, is_whole, is_running}
-use Rattle.std.proofs.lemmas.Bool.{le-leb}
-
-pub running-test : (o : Option ℕ) → IsRunning o → IsTrue (is_running o)
-running-test None h = refl
-running-test (Some s) h = h
+use Rattle.smf_files.specs.declared.heads.TrackHead.{TrackHead}
+use Rattle.smf_files.specs.Playing.{first_event, after_first, event_in, left_in, left_of, events_at_head, to_come, rest_of, is_whole, IsAtMessage, IsPlaceIn}
+use Rattle.smf_files.proofs.Suffixes.{IsRest, rest-shorter, rest-by-length}
 
 pub whole-fault : (running : Option ℕ) (left : List ℕ) (f : PairFault) → IsTrue (is_whole running left) → pair_at running left ≡ Err f → ⊥
 unfolding is_whole pairs_from
@@ -85,28 +80,31 @@ pub silent : (tick : ℕ) (m : Option (List ℕ)) (es : List Event) → is_some 
 silent tick None es h = refl
 silent tick (Some message) es h = let bad : ⊥ = cc in absurd bad
 
-pub fine : (a b c d e f : Bool) → a ≡ true → b ≡ true → c ≡ true → d ≡ true → e ≡ true → f ≡ true → (a && (b && (c && (d && (e && f))))) ≡ true
-fine a b c d e f p q r s t u = and_both a (b && (c && (d && (e && f)))) p (and_both b (c && (d && (e && f))) q (and_both c (d && (e && f)) r (and_both d (e && f) s (and_both e f t u))))
+-- the running status after a sound event is one of a channel
+pub sound-status : (e : TrackEvent) → IsTrue (is_event_sound e) → IsRunning (running_after e)
+sound-status e h = sound-running e h
 
-pub sound-status : (e : TrackEvent) → IsTrue (is_event_sound e) → IsTrue (is_running (running_after e))
-sound-status e h = running-test (running_after e) (sound-running e h)
-
--- what a place says of what is still to come
-pub place-comes : (v : TrackPlace) (tick : ℕ) (e : TrackEvent) (running : Option ℕ) (left : List ℕ) → is_over v ≡ false → v.tick ≡ tick → event_in v ≡ e → running_in v ≡ running → left_in v ≡ left →
-    to_come v ≡ event_if tick (message_of e) ++ events_from tick (rest_of running left)
-place-comes v tick e running left there t p q r =
-    ap (λ (b : Bool). if b then [] else (event_if v.tick (message_of (event_in v)) ++ events_from v.tick (rest_of (running_in v) (left_in v)))) there
-    ∙ ap (λ (n : ℕ). event_if n (message_of (event_in v)) ++ events_from n (rest_of (running_in v) (left_in v))) t
-    ∙ ap (λ (x : TrackEvent). event_if tick (message_of x) ++ events_from tick (rest_of (running_in v) (left_in v))) p
-    ∙ ap (λ (o : Option ℕ). event_if tick (message_of e) ++ events_from tick (rest_of o (left_in v))) q
-    ∙ ap (λ (xs : List ℕ). event_if tick (message_of e) ++ events_from tick (rest_of running xs)) r
-
--- and that it is fine
-pub place-fine : (v : TrackPlace) (tick : ℕ) (e : TrackEvent) (running : Option ℕ) (left : List ℕ) → is_over v ≡ false → v.tick ≡ tick → event_in v ≡ e → running_in v ≡ running → left_in v ≡ left →
-    IsTrue (is_running (running_before v)) → IsTrue (is_some (message_of e)) → IsTrue (is_event_sound e) → IsTrue (is_running running) → IsTrue (is_whole running left) → tick + length left * 268435456 ≤ 4503599627370496 → IsTrue (is_fine v)
-place-fine v tick e running left there t p q r before some sound status whole early =
-    ap (λ (b : Bool). b || (is_some (message_of (event_in v)) && (is_event_sound (event_in v) && (is_running (running_before v) && (is_running (running_in v) && (is_whole (running_in v) (left_in v) && is_early v.tick (left_in v))))))) there
-    ∙ fine (is_some (message_of (event_in v))) (is_event_sound (event_in v)) (is_running (running_before v)) (is_running (running_in v)) (is_whole (running_in v) (left_in v)) (is_early v.tick (left_in v))
-    (ap (λ (x : TrackEvent). is_some (message_of x)) p ∙ some) (ap is_event_sound p ∙ sound) before (ap is_running q ∙ status)
-    (ap (λ (o : Option ℕ). is_whole o (left_in v)) q ∙ ap (is_whole running) r ∙ whole)
-    (ap (λ (n : ℕ). is_early n (left_in v)) t ∙ ap (is_early tick) r ∙ le-leb (tick + length left * 268435456) 4503599627370496 early)
+-- the head of a message that stands first in what is left of a track
+pub found : (tick : ℕ) (running : Option ℕ) (left more entry : List ℕ) (p : Pair) (h : TrackHead) → IsRest left entry → pair_at running left ≡ Ok (p, more) →
+    h.tick ≡ tick → h.left ≡ length left → h.running ≡ running → IsTrue (is_some (message_of p.event)) → IsTrue (is_event_sound p.event) → IsRunning running →
+    IsTrue (is_whole (running_after p.event) more) → tick + length more * 268435456 ≤ 4503599627370496 → IsPlaceIn entry h × (to_come entry h ≡ event_if tick (message_of p.event) ++ events_from tick (rest_of (running_after p.event) more))
+found tick running left more entry p h rest e when size status some sound before whole early =
+    let at : left_of entry h ≡ left = ap (λ (n : ℕ). drop (length entry - n) entry) size ∙ rest-by-length left entry rest in
+    let read : pair_at h.running left ≡ Ok (p, more) = ap (λ (o : Option ℕ). pair_at o left) status ∙ e in
+    let event : event_in h left ≡ p.event = ap first_event read in
+    let behind : left_in h left ≡ more = ap after_first read in
+    let short : length left ≤ length entry = rest-shorter left entry rest in (
+      record {
+        within = omega arith;
+        next = subst (λ (xs : List ℕ). IsAtMessage h xs) (sym at) (record {
+          some = ap (λ (x : TrackEvent). is_some (message_of x)) event ∙ some;
+          sound = ap is_event_sound event ∙ sound;
+          status = subst IsRunning (sym status) before;
+          whole = ap (λ (x : TrackEvent). is_whole (running_after x) (left_in h left)) event ∙ ap (is_whole (running_after p.event)) behind ∙ whole;
+          early = subst (λ (xs : List ℕ). h.tick + length xs * 268435456 ≤ 4503599627370496) (sym behind) (omega arith);
+        });
+      },
+      ap (events_at_head h) at
+          ∙ ap (λ (r : Result (Pair × List ℕ) PairFault). event_if h.tick (message_of (first_event r)) ++ events_from h.tick (rest_of (running_after (first_event r)) (after_first r))) read
+          ∙ ap (λ (t : ℕ). event_if t (message_of p.event) ++ events_from t (rest_of (running_after p.event) more)) when,
+    )

@@ -1,19 +1,16 @@
 -- Representation: What a cursor still has to give.
-use Rattle.std.specs.Prelude.{◌≡◌, ◌≤◌, ◌<◌, ℕ, suc, ◌+◌, ◌*◌, Bool, true, false, List, [], ◌∷◌, ◌++◌, length, map, Option, Some, None, Result, Ok, Err, is_ok, is_some, nat_le, nat_lt, ◌==◌, ◌&&◌, ◌||◌, if◌then◌else◌, IsTrue, sum_by, slice_index_or}
-use Rattle.std.specs.List.{flat_map, list_all}
+use Rattle.std.specs.Prelude.{◌≡◌, ◌≤◌, ◌<◌, ℕ, suc, ◌+◌, ◌-◌, ◌*◌, Bool, false, List, [], ◌∷◌, ◌++◌, length, map, drop, Option, Some, None, Result, Ok, Err, is_ok, is_some, nat_lt, ◌==◌, ◌&&◌, ◌||◌, IsTrue, count_by, slice_index_or, All}
+use Rattle.std.specs.List.{flat_map}
 use Rattle.midi_wire.specs.Kinds.{kind_of}
 use Rattle.midi_wire.specs.declared.kind.Kind.TheVariants as Kind
 use Rattle.smf_grammar.specs.declared.event.Event.{Event}
 use Rattle.smf_grammar.specs.declared.fault.PairFault.{PairFault}
-use Rattle.smf_grammar.specs.Pairs.{TrackEvent, Pair, pair_at}
+use Rattle.smf_grammar.specs.Pairs.{TrackEvent, Pair, running_after, pair_at}
 use Rattle.smf_grammar.specs.Pairs as grammar
 use Rattle.smf_grammar.specs.Contents.{in_order, message_of, event_if, events_from}
 use Rattle.smf_grammar.specs.Reading.{pairs_from}
-use Rattle.smf_grammar.specs.Seen.{is_event_sound, is_voice}
+use Rattle.smf_grammar.specs.Seen.{is_event_sound, IsRunning}
 use Rattle.smf_files.specs.Kept.{pairs_or_none, pairs_seen}
-use Rattle.smf_files.specs.declared.place.TrackPlace.{TrackPlace}
-use Rattle.smf_files.specs.declared.place.NextMessage.{NextMessage}
-use Rattle.smf_files.specs.declared.place.NextMessage.TheVariants.{OneData, TwoData, Exclusive, End}
 use Rattle.smf_files.specs.declared.heads.TrackHead.{TrackHead}
 
 -- the pairs of a track from here on, where so much is left of its content
@@ -26,16 +23,6 @@ is_whole running left = is_ok (pairs_from (suc (length left)) running left)
 
 -- ---- where a track stands
 
--- no message is left
-abbrev pub is_end_of_track : NextMessage → Bool
-is_end_of_track (OneData status first) = false
-is_end_of_track (TwoData status first second) = false
-is_end_of_track (Exclusive running) = false
-is_end_of_track End = true
-
-abbrev pub is_over : TrackPlace → Bool
-is_over p = is_end_of_track p.next
-
 -- the event of the pair that stands first, and what is left after it
 abbrev pub first_event : Result (Pair × List ℕ) PairFault → TrackEvent
 first_event (Ok found) = found.0.event
@@ -45,65 +32,49 @@ abbrev pub after_first : Result (Pair × List ℕ) PairFault → List ℕ
 after_first (Ok found) = found.1
 after_first (Err fault) = []
 
--- the next message; an exclusive one is read once more
-abbrev pub event_by : NextMessage → List ℕ → TrackEvent
-event_by (OneData status first) left = grammar.Voice status (first ∷ [])
-event_by (TwoData status first second) left = grammar.Voice status (first ∷ second ∷ [])
-event_by (Exclusive running) left = first_event (pair_at running left)
-event_by End left = grammar.Escape []
-
-abbrev pub event_in : TrackPlace → TrackEvent
-event_in p = event_by p.next p.left.now
+-- the next message of a track, of which so much is left from that message on
+abbrev pub event_in : TrackHead → List ℕ → TrackEvent
+event_in h left = first_event (pair_at h.running left)
 
 -- the running status after it
-abbrev pub running_by : NextMessage → Option ℕ
-running_by (OneData status first) = Some status
-running_by (TwoData status first second) = Some status
-running_by (Exclusive running) = None
-running_by End = None
-
-abbrev pub running_in : TrackPlace → Option ℕ
-running_in p = running_by p.next
+abbrev pub running_in : TrackHead → List ℕ → Option ℕ
+running_in h left = running_after (event_in h left)
 
 -- what is left after it
-abbrev pub left_by : NextMessage → List ℕ → List ℕ
-left_by (OneData status first) left = left
-left_by (TwoData status first second) left = left
-left_by (Exclusive running) left = after_first (pair_at running left)
-left_by End left = left
+abbrev pub left_in : TrackHead → List ℕ → List ℕ
+left_in h left = after_first (pair_at h.running left)
 
-abbrev pub left_in : TrackPlace → List ℕ
-left_in p = left_by p.next p.left.now
+-- the next message, and the events of the pairs after it
+abbrev pub events_at_head : TrackHead → List ℕ → List Event
+events_at_head h left =
+    event_if h.tick (message_of (event_in h left))
+    ++ events_from h.tick (rest_of (running_in h left) (left_in h left))
 
--- the running status with which an exclusive message is read once more
-abbrev pub before_by : NextMessage → Option ℕ
-before_by (OneData status first) = None
-before_by (TwoData status first second) = None
-before_by (Exclusive running) = running
-before_by End = None
+-- what is left of the content of a track from its next message on
+abbrev pub left_of : List ℕ → TrackHead → List ℕ
+left_of content h = drop (length content - h.left) content
 
-abbrev pub running_before : TrackPlace → Option ℕ
-running_before p = before_by p.next
+-- the events of a track with this content that are still to come; none where it is over
+abbrev pub to_come : List ℕ → TrackHead → List Event
+to_come content h = events_at_head h (left_of content h)
 
--- the events of a track that are still to come: the next, and those of the pairs after it
-abbrev pub to_come : TrackPlace → List Event
-to_come v =
-    if is_over v then []
-    else (event_if v.tick (message_of (event_in v))
-    ++ events_from v.tick (rest_of (running_in v) (left_in v)))
+abbrev pub to_come_if : List ℕ → Option TrackHead → List Event
+to_come_if content None = []
+to_come_if content (Some h) = to_come content h
 
--- those of all tracks, in order
-abbrev pub still_to_come : List TrackPlace → List Event
-still_to_come places = in_order (λ e. e.tick) (flat_map to_come places)
+-- the content of the track of a head
+abbrev pub content_of : List (List ℕ) → TrackHead → List ℕ
+content_of contents h = slice_index_or contents h.track []
+
+-- the events of all tracks that have a head, by tick, at one tick by track
+abbrev pub still_to_come : List (List ℕ) → List TrackHead → List Event
+still_to_come contents heads =
+    in_order (λ e. e.tick)
+    (flat_map (λ h. to_come (content_of contents h) h) (in_order (λ h. h.track) heads))
 
 -- all events of tracks with these contents, in order
 abbrev pub all_events : List (List ℕ) → List Event
 all_events contents = in_order (λ e. e.tick) (flat_map (events_from 0) (map pairs_seen contents))
-
--- the running status is one of a channel
-abbrev pub is_running : Option ℕ → Bool
-is_running None = true
-is_running (Some status) = is_voice status
 
 -- more than the greatest delta time: each pair has a byte of its own at least
 abbrev pub most_delta_a_byte : ℕ
@@ -113,29 +84,32 @@ most_delta_a_byte = 268435456
 abbrev pub most_tick : ℕ
 most_tick = 4503599627370496
 
--- the ticks that are still to come stay small
-abbrev pub is_early : ℕ → List ℕ → Bool
-is_early tick left = nat_le (tick + length left * most_delta_a_byte) most_tick
+-- a message stands first in what is left, no fault stands before the end of the track, and its
+-- ticks stay small
+pub record IsAtMessage (h : TrackHead) (left : List ℕ) : Type 0 where
+  pub some : IsTrue (is_some (message_of (event_in h left)))
+  pub sound : IsTrue (is_event_sound (event_in h left))
+  pub status : IsRunning h.running
+  pub whole : IsTrue (is_whole (running_in h left) (left_in h left))
+  pub early : h.tick + length (left_in h left) * most_delta_a_byte ≤ most_tick
 
--- a track is over, or has a next message, the rest of it is whole, and its ticks stay small
-abbrev pub is_fine : TrackPlace → Bool
-is_fine v =
-    is_over v
-    || (is_some (message_of (event_in v)) && (is_event_sound (event_in v)
-    && (is_running (running_before v) && (is_running (running_in v)
-    && (is_whole (running_in v) (left_in v) && is_early v.tick (left_in v))))))
+-- a delta time of one byte stands first, and what follows it begins no exclusive, escape or meta
+-- event
+pub record IsShortDelta (delta : ℕ) (left : List ℕ) : Type 0 where
+  pub long : 1 < length left
+  pub first : slice_index_or left 0 0 ≡ delta
+  pub low : delta < 128
+  pub voice : slice_index_or left 1 0 < 240
 
--- the tick and the number of each track that is not over
-abbrev pub head_if : ℕ → TrackPlace → List TrackHead
-head_if track v = if is_over v then [] else (record { tick = v.tick; track = track } ∷ [])
+-- the place of a head is one of a message in this content
+pub record IsPlaceIn (content : List ℕ) (h : TrackHead) : Type 0 where
+  pub within : h.left ≤ length content
+  pub next : IsAtMessage h (left_of content h)
 
-abbrev pub heads_from : ℕ → List TrackPlace → List TrackHead
-heads_from track [] = []
-heads_from track (v ∷ places) = head_if track v ++ heads_from (suc track) places
-
--- 1 at this head
-abbrev pub at_head : TrackHead → TrackHead → ℕ
-at_head k h = if (h.tick == k.tick) && (h.track == k.track) then 1 else 0
+-- and that content is the one of its track
+pub record IsHead (contents : List (List ℕ)) (h : TrackHead) : Type 0 where
+  pub track : h.track < length contents
+  pub place : IsPlaceIn (content_of contents h) h
 
 -- F0 and its bytes
 abbrev pub IsExclusive : TrackEvent → Type 0
@@ -143,10 +117,6 @@ IsExclusive (grammar.Voice status payload) = ⊥
 IsExclusive (grammar.Exclusive bytes) = Unit {0}
 IsExclusive (grammar.Escape bytes) = ⊥
 IsExclusive (grammar.Meta kind bytes) = ⊥
-
--- how often a head stands in a list
-abbrev pub count : TrackHead → List TrackHead → ℕ
-count k hs = sum_by (at_head k) hs
 
 -- a later tick, or the same one of a later track
 abbrev pub is_later : TrackHead → TrackHead → Bool
@@ -164,10 +134,14 @@ IsFirstChild hs at child =
     (k : ℕ) (d : TrackHead) → at * 2 + 1 ≤ k → k ≤ at * 2 + 2 → k < length hs
     → is_later (slice_index_or hs child d) (slice_index_or hs k d) ≡ false
 
--- the places are fine, and the heads in the heap are theirs
-pub record IsPlaying (places : List TrackPlace) (heads : List TrackHead) : Type 0 where
-  pub places_are : IsTrue (list_all is_fine places)
-  pub heads_are : (k : TrackHead) → count k heads ≡ count k (heads_from 0 places)
+-- no two heads are of one track
+abbrev pub AreApart : List TrackHead → Type 0
+AreApart heads = (track : ℕ) → count_by (λ h. h.track == track) heads ≤ 1
+
+-- the heads are a heap of places in the contents of their tracks
+pub record IsPlaying (contents : List (List ℕ)) (heads : List TrackHead) : Type 0 where
+  pub heads_are : All (IsHead contents) heads
+  pub apart : AreApart heads
   pub order : IsHeapFrom 0 heads
 
 -- the next event is an exclusive message

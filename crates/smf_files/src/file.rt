@@ -1,6 +1,7 @@
 //! A file that was read.
 
 ghost use Rattle.std.specs.Prelude.{◌≡◌, ◌<◌, ◌∷◌, [], ◌++◌, length, true, IfOk, IfErr, OnOk};
+ghost use Rattle.std.specs.Rc.{rc_value};
 ghost use Rattle.tempo_clock.specs.Ticks.{resolution};
 ghost use Rattle.smf_grammar.specs.Files.{IsFile, Fault};
 ghost use Rattle.smf_grammar.specs.Contents.{events_of, entries_of, skipped_of};
@@ -15,6 +16,7 @@ use memory::OutOfMemory;
 use smf_grammar::{ChunkFault, SmfFault, chunk_at, counts_frames, header_at};
 use std::alloc::Global;
 use std::marker::Model;
+use std::rc::Rc;
 use tempo_clock::{TempoEntry, TempoMap};
 
 /// Appends a content.
@@ -28,29 +30,41 @@ fn keep<'b>(contents: &mut Vec<&'b [u8]>, content: &'b [u8]) -> Result<(), SmfFa
     Ok(())
 }
 
+/// Contents that the cursors of a file share with it.
+fn share<'b>(alloc: Global, contents: Vec<&'b [u8]>) -> Result<Rc<Vec<&'b [u8]>>, SmfFault>
+    ensures ok { IfOk result (λ shared. rc_value shared ≡ contents.entry) }
+    ensures err { IfErr result (λ x. x ≡ SmfFault.OutOfMemory) }
+{
+    match Rc::new(alloc, contents) {
+        Ok(shared) => Ok(shared),
+        Err(_) => Err(SmfFault::OutOfMemory),
+    }
+}
+
 /// A Standard MIDI File: what its header says, and where the contents of its tracks stand in the lent bytes.
 #[derive(Drop)]
 pub struct SmfFile<'b> {
     alloc: Global,
     format: u16,
     division: u16,
-    contents: Vec<&'b [u8]>,
+    contents: Rc<Vec<&'b [u8]>>,
     entries: Vec<TempoEntry>,
     skipped: u64,
 }
 
 impl<'b> Model for SmfFile<'b> {
     ghost use Rattle.std.specs.Prelude.{map};
+    ghost use Rattle.std.specs.Rc.{rc_value};
     ghost use Rattle.smf_grammar.specs.Files.{MidiFile};
     ghost use Rattle.smf_files.specs.Kept.{file_seen, IsFileKept};
 
     ghost Value = { MidiFile };
 
-    ghost view = { λ f. file_seen f.format f.division (map (λ c. c.now) f.contents.items) };
+    ghost view = { λ f. file_seen f.format f.division (map (λ c. c.now) (rc_value f.contents).items) };
 
     ghost invariant = { λ f. IsFileKept
-        (file_seen f.format f.division (map (λ c. c.now) f.contents.items))
-        (map (λ c. c.now) f.contents.items) f.entries.items f.skipped };
+        (file_seen f.format f.division (map (λ c. c.now) (rc_value f.contents).items))
+        (map (λ c. c.now) (rc_value f.contents).items) f.entries.items f.skipped };
 }
 
 impl<'b> SmfFile<'b> {
@@ -80,11 +94,12 @@ impl<'b> SmfFile<'b> {
             left = rest;
         }
         let entries = entries_from(alloc, metrical, tempos)?;
+        let shared = share(alloc, contents)?;
         Ok(SmfFile {
             alloc,
             format: header.format,
             division: header.division,
-            contents,
+            contents: shared,
             entries,
             skipped,
         })
@@ -94,7 +109,7 @@ impl<'b> SmfFile<'b> {
     pub fn cursor(&self) -> Result<Cursor<'b>, OutOfMemory>
         ensures { IfOk result (λ c. c ≡ events_of self.now) }
     {
-        play(self.alloc, self.contents.as_slice())
+        play(self.alloc, self.contents.clone()?)
     }
 
     /// 0 for one track, 1 for tracks that play together.

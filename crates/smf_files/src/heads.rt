@@ -1,33 +1,34 @@
 //! The tracks that are not over, as a heap: the one whose next message is the first of all on top.
 
-ghost use Rattle.std.specs.Prelude.{◌≡◌, ◌≤◌, ◌<◌, ◌+◌, ◌*◌, ◌++◌, ℕ, length, vec_len, slice_index_or, OnOk};
+ghost use Rattle.std.specs.Prelude.{◌≡◌, ◌≤◌, ◌<◌, ◌+◌, ◌*◌, ◌∷◌, ◌++◌, length, drop, vec_len, OnOk};
+ghost use Rattle.std.specs.Option.{option_to_list};
 ghost use Rattle.std.specs.List.Sorted.{IsPermutation};
-ghost use Rattle.smf_files.specs.declared.heads.TrackHead.{TrackHead};
-ghost use Rattle.smf_files.specs.Playing.{is_later, IsHeapFrom, IsFirstChild, at_head, count, head_if};
+ghost use Rattle.smf_files.specs.Playing.{is_later, IsHeapFrom, IsFirstChild};
 
-use crate::place::TrackPlace;
 use memory::OutOfMemory;
 
-/// When a track has its next message, and its number.
+/// The place of a track that is not over.
+// 16 bytes: a file may have 65,535 tracks, and each playback of it has such a place for each.
 #[derive(Clone, Copy)]
 pub(crate) struct TrackHead {
+    /// When the next message comes.
     pub tick: u64,
-    pub track: usize,
+    /// How many bytes of the track's content are left, from the delta time of that message on.
+    pub left: u32,
+    pub track: u16,
+    /// The running status before it.
+    pub running: Option<u8>,
 }
 
-/// Adds the head of a track's first message; none where the track is over.
+/// Adds a head, where there is one.
 pub(crate) fn push_head(
     heads: &mut Vec<TrackHead>,
-    track: usize,
-    place: &TrackPlace<'_>,
+    head: Option<TrackHead>,
 ) -> Result<(), OutOfMemory>
-    ensures { OnOk result (heads.new.items ≡ heads.old.items ++ head_if track place.now) }
+    ensures { OnOk result (heads.new.items ≡ heads.old.items ++ option_to_list head) }
 {
-    if !place.is_over() {
-        heads.push(TrackHead {
-            tick: place.tick,
-            track,
-        })?;
+    if let Some(head) = head {
+        heads.push(head)?;
     }
     Ok(())
 }
@@ -76,7 +77,7 @@ fn sink(heads: &mut [TrackHead], from: usize)
 /// Brings heads into the order of a heap.
 fn order(heads: &mut [TrackHead])
     ensures order { IsHeapFrom 0 heads.new }
-    ensures heads { (k : TrackHead) → count k heads.new ≡ count k heads.old }
+    ensures permutation { IsPermutation heads.old heads.new }
 {
     let mut from = heads.len() / 2;
     'up: while from > 0 {
@@ -88,7 +89,7 @@ fn order(heads: &mut [TrackHead])
 /// Makes a heap.
 pub(crate) fn make_heap(heads: &mut Vec<TrackHead>)
     ensures order { IsHeapFrom 0 heads.new.items }
-    ensures heads { (k : TrackHead) → count k heads.new.items ≡ count k heads.old.items }
+    ensures permutation { IsPermutation heads.old.items heads.new.items }
 {
     order(heads.as_mut_slice());
 }
@@ -98,8 +99,7 @@ pub(crate) fn make_heap(heads: &mut Vec<TrackHead>)
 fn replace_top(heads: &mut [TrackHead], head: TrackHead)
     requires { 0 < length heads.old }
     ensures order { IsHeapFrom 0 heads.old → IsHeapFrom 0 heads.new }
-    ensures heads { (k d : TrackHead) → count k heads.new + at_head k (slice_index_or heads.old 0 d)
-        ≡ count k heads.old + at_head k head }
+    ensures permutation { IsPermutation (head ∷ drop 1 heads.old) heads.new }
 {
     heads[0] = head;
     sink(heads, 0);
@@ -109,9 +109,7 @@ fn replace_top(heads: &mut [TrackHead], head: TrackHead)
 fn remove_top(heads: &mut Vec<TrackHead>)
     requires { 0 < vec_len heads.old }
     ensures order { IsHeapFrom 0 heads.old.items → IsHeapFrom 0 heads.new.items }
-    ensures heads { (k d : TrackHead)
-        → count k heads.new.items + at_head k (slice_index_or heads.old.items 0 d)
-        ≡ count k heads.old.items }
+    ensures permutation { IsPermutation (drop 1 heads.old.items) heads.new.items }
 {
     match heads.pop() {
         Some(last) => {
@@ -123,22 +121,15 @@ fn remove_top(heads: &mut Vec<TrackHead>)
     }
 }
 
-/// Puts the head of a track's next message in the place of the first; none where the track is over.
+/// Puts the next head of its track in the place of the first; none where the track is over.
 #[inline(always)]
-pub(crate) fn replace_first(heads: &mut Vec<TrackHead>, track: usize, place: &TrackPlace<'_>)
+pub(crate) fn replace_first(heads: &mut Vec<TrackHead>, next: Option<TrackHead>)
     requires { 0 < vec_len heads.old }
     ensures order { IsHeapFrom 0 heads.old.items → IsHeapFrom 0 heads.new.items }
-    ensures heads { (k d : TrackHead)
-        → count k heads.new.items + at_head k (slice_index_or heads.old.items 0 d)
-        ≡ count k heads.old.items + count k (head_if track place.now) }
+    ensures permutation { IsPermutation (option_to_list next ++ drop 1 heads.old.items) heads.new.items }
 {
-    if place.is_over() {
-        remove_top(heads);
-        return;
+    match next {
+        Some(head) => replace_top(heads.as_mut_slice(), head),
+        None => remove_top(heads),
     }
-    let head = TrackHead {
-        tick: place.tick,
-        track,
-    };
-    replace_top(heads.as_mut_slice(), head);
 }

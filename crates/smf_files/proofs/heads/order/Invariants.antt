@@ -1,12 +1,11 @@
-use Rattle.std.proofs.Common.{◌≡◌}
-use Rattle.smf_files.specs.declared.heads.TrackHead.{TrackHead}
-use Rattle.smf_files.specs.Playing.{IsHeapFrom, count}
+use Rattle.std.specs.List.Sorted.{IsPermutation}
+use Rattle.smf_files.specs.Playing.{IsHeapFrom}
 use Rattle.smf_files.proofs.heads.order.Given as goal
 
 abbrev pub invariant-up : goal.invariant-up
 invariant-up l = record {
   order : IsHeapFrom l.from l.heads;
-  heads : (k : TrackHead) → count k l.heads ≡ count k l.initial.heads;
+  permutation : IsPermutation l.initial.heads l.heads;
 }
 
 abbrev pub decreases-up : goal.decreases-up
