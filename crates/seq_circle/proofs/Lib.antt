@@ -1,0 +1,6 @@
+pub mod Least
+pub mod LineMore
+pub mod Opened
+pub mod Passes
+pub mod Places
+pub mod Shut

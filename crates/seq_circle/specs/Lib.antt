@@ -1,0 +1,4 @@
+pub mod Shut
+pub mod Least
+pub mod Laws
+pub mod Finding
