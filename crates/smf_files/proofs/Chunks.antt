@@ -14,9 +14,9 @@ use Rattle.smf_grammar.specs.Reading.{pairs_of}
 use Rattle.smf_grammar.specs.Contents.{tempos_from, skipped_in, skipped_in_all, entries_of, in_order, last_at_each, default_entry}
 use Rattle.smf_grammar.proofs.Whole.{track-content}
 use Rattle.midi_wire.proofs.MessageTests.{and_both}
+use Rattle.tempo_clock.specs.Ticks.{Tempos}
 use Rattle.smf_files.specs.Taken.{with_tempos, TrackTaken}
-use Rattle.smf_files.specs.Kept.{pairs_or_none, pairs_seen, file_seen, is_track, is_division, are_tempos, IsFileKept}
-use Rattle.smf_files.proofs.Increasing.{kept-in-range}
+use Rattle.smf_files.specs.Kept.{pairs_or_none, pairs_seen, file_seen, is_track, is_division, IsFileKept}
 
 -- the tempos of all tracks, where tempo counts
 abbrev pub all_tempos : Bool → List (List Pair) → List TempoEntry
@@ -157,15 +157,20 @@ entries-kept false metrical f tempos entries is m t e =
     rw (is) (e ∙ ap (λ (k : Bool). if k then last_at_each (default_entry ∷ in_order (λ e. e.tick) tempos) else []) m
     ∙ ap (λ (ts : List TempoEntry). last_at_each (default_entry ∷ in_order (λ e. e.tick) ts)) (t ∙ ap (λ (k : Bool). all_tempos k f.tracks) m))
 
-pub chunks-kept : (metrical : Bool) (after left : List ℕ) (format division : ℕ) (contents : List (List ℕ)) (tempos entries : List TempoEntry) (skipped : ℕ) →
-    ChunksTaken metrical after left contents tempos skipped → metrical ≡ not (is_frame_division division) → length contents < 2 ^ 16 → IsTrue (is_division division) → IsTrue (are_tempos tempos) →
-    entries ≡ (if metrical then last_at_each (default_entry ∷ in_order (λ e. e.tick) tempos) else []) → IsFileKept (file_seen format division contents) contents entries skipped
-chunks-kept metrical after left format division contents tempos entries skipped w m few whole range e = record {
+-- the entries, as they are made of the tempos
+pub chunks-entries : (metrical : Bool) (after left : List ℕ) (format division : ℕ) (contents : List (List ℕ)) (tempos entries : List TempoEntry) (skipped : ℕ) →
+    ChunksTaken metrical after left contents tempos skipped → metrical ≡ not (is_frame_division division) →
+    entries ≡ (if metrical then last_at_each (default_entry ∷ in_order (λ e. e.tick) tempos) else []) → entries ≡ entries_of (file_seen format division contents)
+chunks-entries metrical after left format division contents tempos entries skipped w m e = entries-kept (is_frame_division division) metrical (file_seen format division contents) tempos entries refl m (w.tempos_are ∙ ap (all_tempos metrical) w.tracks) e
+
+pub chunks-kept : (metrical : Bool) (after left : List ℕ) (format division : ℕ) (contents : List (List ℕ)) (tempos : List TempoEntry) (table : Tempos) (skipped : ℕ) →
+    ChunksTaken metrical after left contents tempos skipped → metrical ≡ not (is_frame_division division) → length contents < 2 ^ 16 → IsTrue (is_division division) →
+    table ≡ record { division = division; entries = entries_of (file_seen format division contents) } → IsFileKept (file_seen format division contents) contents table skipped
+chunks-kept metrical after left format division contents tempos table skipped w m few whole e = record {
   tracks = w.whole;
   few = few;
   division = whole;
-  tempos = rw e (kept-in-range metrical tempos range);
-  entries_are = entries-kept (is_frame_division division) metrical (file_seen format division contents) tempos entries refl m (w.tempos_are ∙ ap (all_tempos metrical) w.tracks) e;
+  tempos_are = e;
   skipped_are = w.skipped_are ∙ ap (skipped_in_all metrical) w.tracks ∙ ap (λ (k : Bool). skipped_in_all k (map pairs_seen contents)) m;
 }
 

@@ -119,6 +119,10 @@ entries-made f entries e range metrical =
     same : entries ≡ last_at_each (default_entry ∷ tempos)
     same = e ∙ ap (λ (b : Bool). if b then [] else last_at_each (default_entry ∷ tempos)) metrical
 
+-- and those of another are none
+pub no-entries : (f : MidiFile) (entries : List TempoEntry) → entries ≡ entries_of f → is_frame_division f.division ≡ true → entries ≡ []
+no-entries f entries e frames = e ∙ ap (λ (b : Bool). if b then [] else last_at_each (default_entry ∷ in_order tick_of (flat_map (tempos_from 0) f.tracks))) frames
+
 -- ---- events
 
 none-below : (tick : ℕ) (es : List Event) → NoneBelow (λ e. e.tick) tick es → list_all (λ x. nat_le tick x.tick) es ≡ true

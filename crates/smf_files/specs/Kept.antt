@@ -3,6 +3,7 @@ use Rattle.std.specs.Prelude.{◌≡◌, ◌<◌, ◌^◌, ◌/◌, ◌%◌, ℕ
 use Rattle.std.specs.List.{list_all}
 use Rattle.tempo_clock.specs.declared.entry.TempoEntry.{TempoEntry}
 use Rattle.tempo_clock.specs.Entries.{is_tempo, is_ppq}
+use Rattle.tempo_clock.specs.Ticks.{Tempos}
 use Rattle.smf_grammar.specs.Pairs.{Pair}
 use Rattle.smf_grammar.specs.Chunks.{most_bytes, is_frame_division, is_whole_rate}
 use Rattle.smf_grammar.specs.Files.{MidiFile}
@@ -37,12 +38,11 @@ is_division division =
 abbrev pub are_tempos : List TempoEntry → Bool
 are_tempos entries = list_all (λ e. is_tempo e.tempo) entries
 
--- what is kept beside the contents is what the file says, and a tempo map can be made of it
-pub record IsFileKept (f : MidiFile) (contents : List (List ℕ)) (entries : List TempoEntry)
+-- what is kept beside the contents is what the file says
+pub record IsFileKept (f : MidiFile) (contents : List (List ℕ)) (tempos : Tempos)
     (skipped : ℕ) : Type 0 where
   pub tracks : IsTrue (list_all is_track contents)
   pub few : length contents < 2 ^ 16
   pub division : IsTrue (is_division f.division)
-  pub entries_are : entries ≡ entries_of f
-  pub tempos : IsTrue (are_tempos entries)
+  pub tempos_are : tempos ≡ record { division = f.division; entries = entries_of f }
   pub skipped_are : skipped ≡ skipped_of f

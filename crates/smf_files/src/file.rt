@@ -10,14 +10,14 @@ ghost use Rattle.smf_files.specs.Taken.{Faulty};
 
 use crate::cursor::{Cursor, play};
 use crate::entries::entries_from;
-use crate::playable::map_of;
+use crate::playable::shared_table;
 use crate::track::read_track;
 use memory::OutOfMemory;
 use smf_grammar::{ChunkFault, SmfFault, chunk_at, counts_frames, header_at};
 use std::alloc::Global;
 use std::marker::Model;
 use std::rc::Rc;
-use tempo_clock::{TempoEntry, TempoMap};
+use tempo_clock::{TempoEntry, TempoMap, TempoTable};
 
 /// Appends a content.
 fn keep<'b>(contents: &mut Vec<&'b [u8]>, content: &'b [u8]) -> Result<(), SmfFault>
@@ -48,7 +48,7 @@ pub struct SmfFile<'b> {
     format: u16,
     division: u16,
     contents: Rc<Vec<&'b [u8]>>,
-    entries: Vec<TempoEntry>,
+    tempos: Rc<TempoTable>,
     skipped: u64,
 }
 
@@ -64,7 +64,7 @@ impl<'b> Model for SmfFile<'b> {
 
     ghost invariant = { λ f. IsFileKept
         (file_seen f.format f.division (map (λ c. c.now) (rc_value f.contents).items))
-        (map (λ c. c.now) (rc_value f.contents).items) f.entries.items f.skipped };
+        (map (λ c. c.now) (rc_value f.contents).items) (rc_value f.tempos) f.skipped };
 }
 
 impl<'b> SmfFile<'b> {
@@ -94,13 +94,14 @@ impl<'b> SmfFile<'b> {
             left = rest;
         }
         let entries = entries_from(alloc, metrical, tempos)?;
+        let tempos = shared_table(alloc, header.division, entries)?;
         let shared = share(alloc, contents)?;
         Ok(SmfFile {
             alloc,
             format: header.format,
             division: header.division,
             contents: shared,
-            entries,
+            tempos,
             skipped,
         })
     }
@@ -138,7 +139,7 @@ impl<'b> SmfFile<'b> {
     pub fn tempo_entries(&self) -> &[TempoEntry]
         ensures { result.now ≡ entries_of self.now }
     {
-        self.entries.as_slice()
+        self.tempos.as_ref().entries()
     }
 
     /// How many events are skipped: exclusive events that are no whole message, escapes, and tempo events that set
@@ -149,13 +150,13 @@ impl<'b> SmfFile<'b> {
         self.skipped
     }
 
-    /// The tempo map by which it plays: of its division, with its tempo entries. It fails only where memory is refused,
-    /// and takes none where the division counts frames.
+    /// The tempo map by which it plays: of its division, with its tempo entries, which it shares. It fails only where
+    /// memory is refused, and takes none where the division counts frames.
     pub fn tempo_map(&self) -> Result<TempoMap, OutOfMemory>
         ensures { IfOk result (λ m. m
             ≡ record { division = self.now.division; entries = entries_of self.now }) }
     {
-        map_of(self.alloc, self.division, self.entries.as_slice())
+        TempoMap::of(self.alloc, &self.tempos)
     }
 
     /// Its division has ticks, and the ticks of its events never fall. It does nothing.

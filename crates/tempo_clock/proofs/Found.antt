@@ -145,3 +145,16 @@ first_tick-next m nanos limit e later (Some k) h =
     (λ t before.
     let less : numerator m t ≤ numerator m (tick_at m nanos) = numerator-rises m t (tick_at m nanos) (omega arith) in
     is_above _ _ (omega arith)))
+
+-- ---- two maps that agree
+
+-- where both tell the same of what has come within a limit, the same tick is the last
+pub tick_at-alike : (m n : Tempos) (nanos limit : ℕ) → limit ≡ nanos * resolution m → limit ≡ nanos * resolution n → ((t : ℕ) → numerator m t ≤ limit → numerator m t ≡ numerator n t) → ((t : ℕ) → numerator n t ≤ limit → numerator m t ≡ numerator n t) → tick_at m nanos ≡ tick_at n nanos
+tick_at-alike m n nanos limit e f forth back =
+    let x : numerator m (tick_at m nanos) ≤ nanos * resolution m = tick_at-come m nanos in
+    let y : numerator n (tick_at n nanos) ≤ nanos * resolution n = tick_at-come n nanos in
+    let x' : numerator m (tick_at m nanos) ≡ numerator n (tick_at m nanos) = forth (tick_at m nanos) (omega arith) in
+    let y' : numerator m (tick_at n nanos) ≡ numerator n (tick_at n nanos) = back (tick_at n nanos) (omega arith) in
+    let up : tick_at m nanos ≤ tick_at n nanos = tick_at-last n nanos (tick_at m nanos) (tick_at-fits m nanos) (omega arith) in
+    let down : tick_at n nanos ≤ tick_at m nanos = tick_at-last m nanos (tick_at n nanos) (tick_at-fits n nanos) (omega arith) in
+    omega arith

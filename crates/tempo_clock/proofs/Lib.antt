@@ -7,6 +7,8 @@ pub mod Starts
 pub mod Changes
 pub mod Made
 pub mod Found
+pub mod Parts
+pub mod Changed
 pub mod Moments
 pub mod TickLaws
 pub mod MomentLaws

@@ -1,20 +1,19 @@
 -- What a map keeps is right when it is made, and after a change.
-use Rattle.std.proofs.Common.{◌≡◌, ◌≤◌, ◌<◌, ◌+◌, ◌*◌, ◌-◌, ◌/◌, ◌%◌, ◌^◌, ◌∙◌, ◌⊎◌, ◌&&◌, ◌==◌, inl, inr, ℕ, zero, suc, true, false, cond, leb-true, ltb-true, List, [], ◌∷◌, ◌++◌, length, get_or, take, refl, ap, sym, lit<, arith}
-use Rattle.std.specs.Prelude.{slice_index, nat_lt}
+use Rattle.std.proofs.Common.{◌≡◌, ◌≤◌, ◌<◌, ◌+◌, ◌*◌, ◌-◌, ◌/◌, ◌%◌, ◌^◌, ◌∙◌, ◌&&◌, ◌==◌, inl, inr, ℕ, zero, suc, true, false, cond, leb-true, ltb-true, List, [], ◌∷◌, length, refl, ap, sym, lit<, arith}
+use Rattle.std.specs.Prelude.{nat_lt}
 use Rattle.std.proofs.lemmas.Bool.{eqb-true}
 use Rattle.std.proofs.lemmas.Bool.Decides.{nat_tests}
 use Rattle.std.proofs.lemmas.Nat.{div-mul-add, mod-mul-add, mul-le}
 use Rattle.tempo_clock.specs.declared.entry.TempoEntry.{TempoEntry}
 use Rattle.tempo_clock.specs.Entries.{is_tempo, is_ppq, are_rising_from, are_entries, is_smpte_rate}
-use Rattle.tempo_clock.specs.Ticks.{Tempos, is_smpte, resolution, numerator, with_tempo_from}
-use Rattle.tempo_clock.specs.Kept.{entry_at, AreOrdered, AreStarts, AreBefore, AreStartsKept}
+use Rattle.tempo_clock.specs.Ticks.{Tempos, is_smpte, resolution}
+use Rattle.tempo_clock.specs.Kept.{entry_at, AreOrdered, AreStarts, AreStartsKept}
 use Rattle.tempo_clock.proofs.Comparisons.{order, both, either}
 use Rattle.tempo_clock.proofs.Numerators.{numerator-alike, duration-metrical}
-use Rattle.tempo_clock.proofs.Changes.{numerator-changed}
 
 -- ---- a metrical map
 
-tempo_above : (tempo : ℕ) → is_tempo tempo ≡ true → (0 < tempo) × (tempo < 2 ^ 24)
+pub tempo_above : (tempo : ℕ) → is_tempo tempo ≡ true → (0 < tempo) × (tempo < 2 ^ 24)
 tempo_above tempo e =
     let t = both _ _ e in
     let low : 1 ≤ tempo = leb-true _ _ t.0 in
@@ -117,9 +116,11 @@ kept-new ppq es xs starts p e same s =
       counted_by = resolution_metrical (record { division = ppq; entries = es }) (omega arith);
       some_ticks = omega arith;
       few_ticks = omega arith;
-      metrical = λ _. some_entries es e;
-      smpte = λ h. absurd (omega arith);
-      ordered = ordered es e;
+      sound = record {
+        metrical = λ _. some_entries es e;
+        smpte = λ h. absurd (omega arith);
+        ordered = ordered es e;
+      };
       starting = starts_of_any es ppq starts (omega arith) s;
     })
 
@@ -161,167 +162,10 @@ kept-smpte frames per high division xs starts e p h f d x s =
       counted_by = resolution_smpte (record { division = division; entries = [] }) high per frames d p whole (omega arith);
       some_ticks = omega arith;
       few_ticks = omega arith;
-      metrical = λ h. absurd (omega arith);
-      smpte = λ _. refl;
-      ordered = record { first = refl; rising = λ i j h k. absurd (omega arith); above = λ i h. absurd (omega arith); below = λ i. lit< tt };
+      sound = record {
+        metrical = λ h. absurd (omega arith);
+        smpte = λ _. refl;
+        ordered = record { first = refl; rising = λ i j h k. absurd (omega arith); above = λ i h. absurd (omega arith); below = λ i. lit< tt };
+      };
       starting = record { counted = refl; each = λ i h. absurd (omega arith) };
     })
-
--- ---- a changed map
-
-module _ {X : Type 0} where
-  -- the first items, then one more
-  length-kept : (xs : List X) (k : ℕ) (y : X) → k ≤ length xs → length (take k xs ++ y ∷ []) ≡ k + 1
-  length-kept xs zero y h = omega arith
-  length-kept [] (suc k) y h = absurd (omega arith)
-  length-kept (x ∷ xs) (suc k) y h = let e : length (take k xs ++ y ∷ []) ≡ k + 1 = length-kept xs k y (omega arith) in omega arith
-
-  get_or-kept : (xs : List X) (k i : ℕ) (y d : X) → k ≤ length xs → i < k → get_or (take k xs ++ y ∷ []) i d ≡ get_or xs i d
-  get_or-kept xs zero i y d h less = absurd (omega arith)
-  get_or-kept [] (suc k) i y d h less = absurd (omega arith)
-  get_or-kept (x ∷ xs) (suc k) zero y d h less = refl
-  get_or-kept (x ∷ xs) (suc k) (suc i) y d h less = get_or-kept xs k i y d (omega arith) (omega arith)
-
-  get_or-after : (xs : List X) (k : ℕ) (y d : X) → k ≤ length xs → get_or (take k xs ++ y ∷ []) k d ≡ y
-  get_or-after xs zero y d h = refl
-  get_or-after [] (suc k) y d h = absurd (omega arith)
-  get_or-after (x ∷ xs) (suc k) y d h = get_or-after xs k y d (omega arith)
-
-  get_or-past : (xs : List X) (k i : ℕ) (y d : X) → k ≤ length xs → k < i → get_or (take k xs ++ y ∷ []) i d ≡ d
-  get_or-past xs k zero y d h less = absurd (omega arith)
-  get_or-past xs zero (suc i) y d h less = refl
-  get_or-past [] (suc k) (suc i) y d h less = absurd (omega arith)
-  get_or-past (x ∷ xs) (suc k) (suc i) y d h less = get_or-past xs k i y d (omega arith) (omega arith)
-
-places : (i k : ℕ) → (i < k) ⊎ ((i ≡ k) ⊎ (k < i))
-places i k = grind arith
-
-module _ (es : List TempoEntry) (kept : ℕ) (x : TempoEntry) (o : AreOrdered es) (b : AreBefore es x.tick kept) where
-  was : (i : ℕ) → i < kept → entry_at (take kept es ++ x ∷ []) i ≡ entry_at es i
-  was i h = get_or-kept es kept i x (record { tick = 0; tempo = 0 }) b.within h
-
-  now : (i : ℕ) → i ≡ kept → entry_at (take kept es ++ x ∷ []) i ≡ x
-  now i e = ap (entry_at (take kept es ++ x ∷ [])) e ∙ get_or-after es kept x (record { tick = 0; tempo = 0 }) b.within
-
-  past : (i : ℕ) → kept < i → entry_at (take kept es ++ x ∷ []) i ≡ record { tick = 0; tempo = 0 }
-  past i h = get_or-past es kept i x (record { tick = 0; tempo = 0 }) b.within h
-
-  changed_first : (k : ℕ) → k ≡ kept → 0 < length es → (entry_at (take kept es ++ x ∷ []) 0).tick ≡ 0
-  changed_first zero e some =
-      let at : (entry_at es 0).tick ≡ 0 = o.first in
-      let rest : x.tick ≤ (entry_at es kept).tick = b.rest (omega arith) in
-      let here : (entry_at es kept).tick ≡ (entry_at es 0).tick = ap (λ i. (entry_at es i).tick) (sym e) in
-      let new : (entry_at (take kept es ++ x ∷ []) 0).tick ≡ x.tick = ap (λ (y : TempoEntry). y.tick) (now 0 e) in
-      omega arith
-  changed_first (suc k) e some = ap (λ (y : TempoEntry). y.tick) (was 0 (omega arith)) ∙ o.first
-
-  changed_rising : (i j : ℕ) → i < j → j < length (take kept es ++ x ∷ []) → (entry_at (take kept es ++ x ∷ []) i).tick < (entry_at (take kept es ++ x ∷ []) j).tick
-  changed_rising i j h k =
-      let size : length (take kept es ++ x ∷ []) ≡ kept + 1 = length-kept es kept x b.within in
-      let i_was : (entry_at (take kept es ++ x ∷ []) i).tick ≡ (entry_at es i).tick = ap (λ (y : TempoEntry). y.tick) (was i (omega arith)) in
-      elim (places j kept) [
-        | inl less ↦
-            let j_was : (entry_at (take kept es ++ x ∷ []) j).tick ≡ (entry_at es j).tick = ap (λ (y : TempoEntry). y.tick) (was j less) in
-            let within : kept ≤ length es = b.within in
-            let r : (entry_at es i).tick < (entry_at es j).tick = o.rising i j h (omega arith) in
-            omega arith
-        | inr rest ↦ elim rest [
-          | inl same ↦
-              let j_now : (entry_at (take kept es ++ x ∷ []) j).tick ≡ x.tick = ap (λ (y : TempoEntry). y.tick) (now j same) in
-              let r : (entry_at es i).tick < x.tick = b.each i (omega arith) in
-              omega arith
-          | inr over ↦ absurd (omega arith)
-        ]
-      ]
-
-  changed_above : 0 < x.tempo → (i : ℕ) → i < length (take kept es ++ x ∷ []) → 0 < (entry_at (take kept es ++ x ∷ []) i).tempo
-  changed_above p i h =
-      let size : length (take kept es ++ x ∷ []) ≡ kept + 1 = length-kept es kept x b.within in
-      let within : kept ≤ length es = b.within in
-      elim (places i kept) [
-        | inl less ↦
-            let e : (entry_at (take kept es ++ x ∷ []) i).tempo ≡ (entry_at es i).tempo = ap (λ (y : TempoEntry). y.tempo) (was i less) in
-            let r : 0 < (entry_at es i).tempo = o.above i (omega arith) in
-            omega arith
-        | inr rest ↦ elim rest [
-          | inl same ↦ let e : (entry_at (take kept es ++ x ∷ []) i).tempo ≡ x.tempo = ap (λ (y : TempoEntry). y.tempo) (now i same) in omega arith
-          | inr over ↦ absurd (omega arith)
-        ]
-      ]
-
-  changed_below : x.tempo < 2 ^ 24 → (i : ℕ) → (entry_at (take kept es ++ x ∷ []) i).tempo < 2 ^ 24
-  changed_below p i = elim (places i kept) [
-    | inl less ↦
-        let e : (entry_at (take kept es ++ x ∷ []) i).tempo ≡ (entry_at es i).tempo = ap (λ (y : TempoEntry). y.tempo) (was i less) in
-        let r : (entry_at es i).tempo < 2 ^ 24 = o.below i in
-        omega arith
-    | inr rest ↦ elim rest [
-      | inl same ↦ let e : (entry_at (take kept es ++ x ∷ []) i).tempo ≡ x.tempo = ap (λ (y : TempoEntry). y.tempo) (now i same) in omega arith
-      | inr over ↦ let e : (entry_at (take kept es ++ x ∷ []) i).tempo ≡ 0 = ap (λ (y : TempoEntry). y.tempo) (past i over) in omega arith
-    ]
-  ]
-
--- the kept entries and one more
-ordered_changed : (es : List TempoEntry) (kept : ℕ) (x : TempoEntry) → AreOrdered es → AreBefore es x.tick kept → 0 < length es → 0 < x.tempo → x.tempo < 2 ^ 24 → AreOrdered (take kept es ++ x ∷ [])
-ordered_changed es kept x o b some above below = record {
-  first = changed_first es kept x o b kept refl some;
-  rising = changed_rising es kept x o b;
-  above = changed_above es kept x o b above;
-  below = changed_below es kept x o b below;
-}
-
--- their numerators, and that of the new one
-module _ (m n : Tempos) (starts : List ℕ) (kept from tempo : ℕ) (s : AreStarts m starts) (b : AreBefore m.entries from kept) (e : n.entries ≡ take kept m.entries ++ record { tick = from; tempo = tempo } ∷ []) (alike : (t : ℕ) → t ≤ from → numerator n t ≡ numerator m t) where
-  entry_was : (i : ℕ) → i < kept → (entry_at n.entries i).tick ≡ (entry_at m.entries i).tick
-  entry_was i h = ap (λ xs. (entry_at xs i).tick) e ∙ ap (λ (y : TempoEntry). y.tick) (get_or-kept m.entries kept i (record { tick = from; tempo = tempo }) (record { tick = 0; tempo = 0 }) b.within h)
-
-  entry_now : (i : ℕ) → i ≡ kept → (entry_at n.entries i).tick ≡ from
-  entry_now i same = ap (λ j. (entry_at n.entries j).tick) same ∙ ap (λ xs. (entry_at xs kept).tick) e ∙ ap (λ (y : TempoEntry). y.tick) (get_or-after m.entries kept (record { tick = from; tempo = tempo }) (record { tick = 0; tempo = 0 }) b.within)
-
-  counted_changed : length (take kept starts ++ numerator m from ∷ []) ≡ length n.entries
-  counted_changed =
-      let within : kept ≤ length m.entries = b.within in
-      let counted : length starts ≡ length m.entries = s.counted in
-      length-kept starts kept (numerator m from) (omega arith) ∙ sym (ap length e ∙ length-kept m.entries kept (record { tick = from; tempo = tempo }) b.within)
-
-  each_changed : (i : ℕ) → i < length n.entries → slice_index (take kept starts ++ numerator m from ∷ []) i ≡ numerator n (entry_at n.entries i).tick
-  each_changed i h =
-      let size : length n.entries ≡ kept + 1 = ap length e ∙ length-kept m.entries kept (record { tick = from; tempo = tempo }) b.within in
-      let within : kept ≤ length m.entries = b.within in
-      let counted : length starts ≡ length m.entries = s.counted in
-      elim (places i kept) [
-        | inl less ↦
-            let before : (entry_at m.entries i).tick < from = b.each i less in
-            get_or-kept starts kept i (numerator m from) 0 (omega arith) less ∙ s.each i (omega arith)
-            ∙ sym (ap (numerator n) (entry_was i less) ∙ alike (entry_at m.entries i).tick (omega arith))
-        | inr rest ↦ elim rest [
-          | inl same ↦
-              ap (slice_index (take kept starts ++ numerator m from ∷ [])) same ∙ get_or-after starts kept (numerator m from) 0 (omega arith)
-              ∙ sym (ap (numerator n) (entry_now i same) ∙ alike from (omega arith))
-          | inr over ↦ absurd (omega arith)
-        ]
-      ]
-
--- a map whose entries and numerators are kept up to a tick, and one more put on each
-pub kept-changed : (m : Tempos) (ppq : ℕ) (starts : List ℕ) (kept from tempo start : ℕ) (es : List TempoEntry) (ss : List ℕ) → AreStartsKept m ppq starts → is_tempo tempo ≡ true → m.division < 32768 → AreBefore m.entries from kept → start ≡ numerator m from
-    → es ≡ take kept m.entries ++ record { tick = from; tempo = tempo } ∷ [] → ss ≡ take kept starts ++ start ∷ [] → AreStartsKept (record { division = m.division; entries = es }) ppq ss
-unfolding resolution
-kept-changed m ppq starts kept from tempo start es ss k t d b s e f =
-    let n : Tempos = record { division = m.division; entries = es } in
-    let same : n ≡ with_tempo_from m from tempo = ap (λ xs. record { division = m.division; entries = xs }) (e ∙ ap (λ xs. xs ++ record { tick = from; tempo = tempo } ∷ []) b.all) in
-    let alike : (u : ℕ) → u ≤ from → numerator n u ≡ numerator m u = λ u h. ap (λ x. numerator x u) same ∙ numerator-changed m from tempo u h in
-    let size : length es ≡ kept + 1 = ap length e ∙ length-kept m.entries kept (record { tick = from; tempo = tempo }) b.within in
-    let range = tempo_above tempo t in
-    let stands : AreStarts n (take kept starts ++ numerator m from ∷ []) = record {
-      counted = counted_changed m n starts kept from tempo k.starting b e alike;
-      each = each_changed m n starts kept from tempo k.starting b e alike;
-    } in
-    record {
-      counted_by = k.counted_by;
-      some_ticks = k.some_ticks;
-      few_ticks = k.few_ticks;
-      metrical = λ _. omega arith;
-      smpte = λ h. absurd (omega arith);
-      ordered = rw e (ordered_changed m.entries kept (record { tick = from; tempo = tempo }) k.ordered b (k.metrical d) range.0 range.1);
-      starting = rw (f, s) stands;
-    }

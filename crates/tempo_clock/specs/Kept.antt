@@ -1,5 +1,5 @@
--- Representation: What a tempo map keeps beside its entries, so that ticks are found by binary
--- search.
+-- Representation: What a table of tempos keeps beside its entries, so that ticks are found by
+-- binary search.
 use Rattle.std.specs.Prelude.{◌≡◌, ℕ, ◌-◌, ◌^◌, ◌<◌, ◌≤◌, List, length, take, filter, nat_lt, slice_index, slice_index_or}
 use Rattle.tempo_clock.specs.declared.entry.TempoEntry.{TempoEntry}
 use Rattle.tempo_clock.specs.Ticks.{Tempos, resolution, numerator}
@@ -22,15 +22,25 @@ pub record AreStarts (m : Tempos) (starts : List ℕ) : Type 0 where
   pub each : (i : ℕ) → i < length m.entries
       → slice_index starts i ≡ numerator m (entry_at m.entries i).tick
 
+-- there are entries where the division is metrical, none by frames, and they are in order
+pub record IsSound (m : Tempos) : Type 0 where
+  pub metrical : m.division < 32768 → 0 < length m.entries
+  pub smpte : 32768 ≤ m.division → length m.entries ≡ 0
+  pub ordered : AreOrdered m.entries
+
 -- the ticks per quarter note or second, and the numerators of the entries
 pub record AreStartsKept (m : Tempos) (ppq : ℕ) (starts : List ℕ) : Type 0 where
   pub counted_by : ppq ≡ resolution m
   pub some_ticks : 0 < ppq
   pub few_ticks : ppq < 2 ^ 15
-  pub metrical : m.division < 32768 → 0 < length m.entries
-  pub smpte : 32768 ≤ m.division → length m.entries ≡ 0
-  pub ordered : AreOrdered m.entries
+  pub sound : IsSound m
   pub starting : AreStarts m starts
+
+-- of values that rise, so many are up to a bound
+pub record IsCut (value : ℕ → ℕ) (count bound after : ℕ) : Type 0 where
+  pub within : after ≤ count
+  pub low : 0 < after → value (after - 1) ≤ bound
+  pub high : after < count → bound < value after
 
 -- how many entries have a tick whose value is up to a bound, where the values rise with the tick;
 -- the first has one

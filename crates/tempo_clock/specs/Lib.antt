@@ -2,6 +2,7 @@ pub mod Entries
 pub mod Search
 pub mod Ticks
 pub mod Kept
+pub mod Shared
 pub mod Clocks
 pub mod Laws
 pub mod Worked

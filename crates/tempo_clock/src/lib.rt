@@ -1,12 +1,17 @@
 //! Tempo maps and the clocks of queues, exact to the nanosecond.
 #![tactic(auto)]
 
+mod added;
 mod clock;
 mod due;
 mod entry;
 mod fault;
 mod laws;
+mod range;
+mod search;
+mod segment;
 mod tempo_map;
+mod tempo_table;
 
 pub use clock::QueueClock;
 pub use due::Due;
@@ -17,4 +22,6 @@ pub use laws::{
     ticks_are_found, ticks_come_back, ticks_come_in_order, worked_ticks,
 };
 pub use memory::OutOfMemory;
-pub use tempo_map::{MOST_PPQ, MOST_TEMPO, TempoMap, is_ppq, is_tempo};
+pub use range::{MOST_PPQ, MOST_TEMPO, is_ppq, is_tempo};
+pub use tempo_map::TempoMap;
+pub use tempo_table::TempoTable;

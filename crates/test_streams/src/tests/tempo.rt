@@ -68,10 +68,17 @@ fn assert_copied(
 ) -> Result<(), MapFault>
     requires { map.old.division < 32768 }
 {
-    map.change(96, 500_000)?;
-    assert!(rt; map.entries().len() == 2);
+    let change = TempoEntry {
+        tick: 96,
+        tempo: 500_000,
+    };
+    map.change(change.tick, change.tempo)?;
+    let (shared, own) = map.entries();
+    assert!(rt; shared.len() == 1);
+    assert!(rt; own == [change].as_slice());
     assert!(rt; map.nanos_at(192) == 1_000_000_000);
-    assert!(rt; copy.entries() == entries);
+    let (shared, own) = copy.entries();
+    assert!(rt; shared == entries && own.is_empty());
     Ok(())
 }
 
@@ -93,7 +100,8 @@ fn assert_frames(rt: &impl Abort, map: &TempoMap) {
     assert!(rt; map.tick_at(416_666) == 0);
     assert!(rt; map.ppq() == 2_400);
     assert!(rt; map.division() == 0xE250);
-    assert!(rt; map.entries().len() == 0);
+    let (shared, own) = map.entries();
+    assert!(rt; shared.is_empty() && own.is_empty());
 }
 
 #[test]
@@ -172,7 +180,9 @@ fn assert_run_on(rt: &impl Abort, clock: &QueueClock) {
         tick: e.0,
         tempo: e.1,
     });
-    assert!(rt; clock.map().entries() == &entries[..]);
+    let (shared, own) = clock.map().entries();
+    assert!(rt; shared == &entries[..1]);
+    assert!(rt; own == &entries[1..]);
     assert!(rt; clock.due_moment(Due::Tick(2), 0) == Some(1_562_800));
     assert!(rt; clock.due_moment(Due::Tick(2), 2_000_000) == Some(2_000_000));
     assert!(rt; clock.due_moment(Due::Nanos(50), 0) == Some(400));

@@ -2,7 +2,7 @@ use Rattle.std.proofs.Common.{◌∙◌, sym, subst, ap}
 use Rattle.tempo_clock.specs.Kept.{AreStartsKept}
 use Rattle.tempo_clock.proofs.Numerators.{numerator-zero}
 use Rattle.tempo_clock.proofs.Segments.{segment-smpte, segment-start, segment-covers, segment-start_small}
-use Rattle.tempo_clock.proofs.tempo_map.TempoMap.segment.Goals as goal
+use Rattle.tempo_clock.proofs.tempo_table.TempoTable.segment.Goals as goal
 
 pub returns-then-after-eq0-clause-start : goal.returns-then-after-eq0-clause-start
 returns-then-after-eq0-clause-start c = sym (numerator-zero c.args.self.now)
@@ -10,7 +10,7 @@ returns-then-after-eq0-clause-start c = sym (numerator-zero c.args.self.now)
 pub returns-then-after-eq0-clause-covers : goal.returns-then-after-eq0-clause-covers
 returns-then-after-eq0-clause-covers c =
     let kept : AreStartsKept c.args.self.now c.self.inside.ppq c.self.inside.starts.items = subst (λ m. AreStartsKept m c.self.inside.ppq c.self.inside.starts.items) c.self.view_is c.self.invariant in
-    λ t low high. segment-smpte c.args.self.now _ _ kept (c.requires.some c.if-after-eq0.true) t
+    λ t low high. segment-smpte c.args.self.now kept.sound (c.requires.some c.if-after-eq0.true) t
 
 pub returns-clause-start : goal.returns-clause-start
 returns-clause-start c =

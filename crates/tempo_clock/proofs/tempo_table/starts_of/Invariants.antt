@@ -2,7 +2,7 @@ use Rattle.std.proofs.Common.{ℕ, ◌≡◌, ◌≤◌, ◌<◌, ◌-◌, ◌*�
 use Rattle.std.specs.Prelude.{slice_index}
 use Rattle.tempo_clock.specs.Ticks.{numerator}
 use Rattle.tempo_clock.specs.Kept.{entry_at}
-use Rattle.tempo_clock.proofs.tempo_map.starts_of.Given as goal
+use Rattle.tempo_clock.proofs.tempo_table.starts_of.Given as goal
 
 abbrev pub invariant-loop-entry : goal.invariant-loop-entry
 invariant-loop-entry l = record {

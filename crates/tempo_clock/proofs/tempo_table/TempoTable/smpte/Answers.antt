@@ -1,6 +1,6 @@
 use Rattle.std.proofs.Common.{sym}
 use Rattle.tempo_clock.proofs.Made.{kept-smpte}
-use Rattle.tempo_clock.proofs.tempo_map.TempoMap.smpte.Goals as goal
+use Rattle.tempo_clock.proofs.tempo_table.TempoTable.smpte.Goals as goal
 
 pub invariant_of-result : goal.invariant_of-result
 invariant_of-result c =

@@ -3,7 +3,7 @@ use Rattle.tempo_clock.specs.Ticks.{numerator}
 use Rattle.tempo_clock.specs.Kept.{entry_at}
 use Rattle.tempo_clock.proofs.Numerators.{numerator-zero}
 use Rattle.tempo_clock.proofs.Starts.{starts-next, starts-small, starts-push}
-use Rattle.tempo_clock.proofs.tempo_map.starts_of.Goals as goal
+use Rattle.tempo_clock.proofs.tempo_table.starts_of.Goals as goal
 
 pub loop-entry-init : goal.loop-entry-init
 loop-entry-init c = record {
