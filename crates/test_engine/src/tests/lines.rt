@@ -175,7 +175,10 @@ fn command_of(alloc: Global, said: Say) -> Option<Command> {
         Port(port, name, caps) => port_made(alloc, port, name, caps),
         DeletePort(port) => PortNo::new(port).map(|port| Command::DeletePort { port }),
         Filter(filter, rule) => filter_made(filter, rule),
-        Rule(filter, rule) => FilterNo::new(filter).map(|filter| Command::SetFilter { filter, rule }),
+        Rule(filter, rule) => FilterNo::new(filter).map(|filter| Command::SetFilter {
+            filter,
+            rule,
+        }),
         Connect(source, target) => joined(source, target),
         Disconnect(source, target) => parted(source, target),
         Bytes(port, bytes) => bytes_fed(alloc, port, bytes),
