@@ -23,7 +23,7 @@ _midiseq_word() {
 }
 
 _midiseq() {
-    local word sub previous subcommands='run record thru wire dump'
+    local word sub previous subcommands='run record circle thru wire dump'
     word=$(_midiseq_word)
     sub=${COMP_WORDS[1]}
     previous=${COMP_WORDS[COMP_CWORD - 1]}
@@ -42,13 +42,14 @@ _midiseq() {
             _midiseq_files "$word"
             return
             ;;
-        --until | --port) return ;;
+        --until | --port | --owner) return ;;
     esac
     case $sub in
-        run | record)
+        run | record | circle)
             if [[ $word == -* ]]; then
                 local options='--until --dir --list --help'
                 [[ $sub == record ]] && options='--until --dir --raw --port --out --help'
+                [[ $sub == circle ]] && options='--until --dir --owner --help'
                 mapfile -t COMPREPLY < <(compgen -W "$options" -- "$word")
             elif [[ $word == *=* ]]; then
                 _midiseq_files "${word#*=}"

@@ -1,13 +1,16 @@
--- Definition: What the command line gives the subcommands that run scripts.
+-- Definition: What the command line gives the subcommands that take scripts.
 use Rattle.std.specs.Prelude.{◌≡◌, ◌≢◌, ℕ, Bool, true, false, List, [], Option, Some, None, map, codes, unwrap_or}
 use Rattle.std.specs.Option.{option_map}
 use Rattle.clap.specs.declared.parser.matches.Found.{Found}
 use Rattle.clap.specs.Matches.{first_value, matched_of, one_text, raw_values}
 use Rattle.script_text.specs.Numbers as says
+use Rattle.program_tasks.specs.declared.answer.CircleAnswer.{CircleAnswer}
+use Rattle.program_tasks.specs.declared.ending.Ended.{Ended}
+use Rattle.program_tasks.specs.declared.ending.Ended.TheVariants.{Done, Answered}
 use Rattle.program_tasks.specs.Words.{port_named, scripts_named, scripts_seen}
 use Rattle.program_tasks.specs.declared.recording.Recording.{Recording}
 use Rattle.program_tasks.specs.declared.session.Session.{Session}
-use Rattle.program_tasks.specs.Subcommands.{IsRunPrinted, IsRunRecorded}
+use Rattle.program_tasks.specs.Subcommands.{IsRunPrinted, IsCircleAnswered, IsRunRecorded}
 use Rattle.program_tasks.specs.Tasks.{IsDone}
 use Rattle.program_tasks.specs.declared.choice.Task.{Task}
 use Rattle.program_tasks.specs.Program.{tool_name, IsNamedBy}
@@ -45,6 +48,19 @@ module _ {R W : Type 0} (IsOpened : List ℕ → R → Type 0) (HasLeft : R → 
         listed
         old new before after
 
+  -- The circle round the client of --owner in the session of these words was printed, and the
+  -- answer is that circle's.
+  pub record CirclesAsGiven {N : Type 0} (HasTaken : W → List ℕ → Type 0)
+      (HasTold : N → List ℕ → Type 0) (found : Found)
+      (old new : W) (before after : N) (answer : CircleAnswer) : Type 0 where
+    pub session : Session
+    pub given : IsGiven found session
+    pub owner : ℕ
+    pub client : Some owner ≡ says.client_number (text_of found (codes "owner"))
+    pub printed : IsCircleAnswered IsOpened HasLeft CannotOpen failed HasNames HasTaken HasTold
+        session owner answer
+        old new before after
+
   -- The session of these words was recorded: the port of --port, as --raw says, to the file of
   -- --out.
   pub record RecordsAsGiven {N : Type 0} (IsBegun : List ℕ → W → Type 0)
@@ -73,8 +89,9 @@ pub record ToolDoesAsGiven {R I W : Type 0} (IsOpened : List ℕ → R → Type 
   pub stream : IsNamedBy task.stream (unwrap_or (first_value found (codes "FILE")) (codes "-"))
   pub done : IsDone IsOpened HasLeft HasInput HasTaken task before after old new
 
--- What each subcommand does: run prints, record writes a file, and each other is a tool's.
-pub record DoesAsGiven {R V I W N : Type 0} (IsOpened : List ℕ → R → Type 0)
+-- What each subcommand does that ends without an answer: run prints, record writes a file, and each
+-- other is a tool's.
+pub record DoesSilently {R V I W N : Type 0} (IsOpened : List ℕ → R → Type 0)
     (HasLeft : R → List ℕ → Type 0)
     (CannotOpen : List ℕ → Type 0) (failed : R → Bool) (HasNames : List ℕ → List (List ℕ) → Type 0)
     (IsBegun : List ℕ → V → Type 0) (HasWritten : V → List ℕ → Type 0)
@@ -90,3 +107,26 @@ pub record DoesAsGiven {R V I W N : Type 0} (IsOpened : List ℕ → R → Type 
       found before after
   pub tool : name ≢ codes "run" → name ≢ codes "record" →
       ToolDoesAsGiven IsOpened HasLeft HasInput HasTaken name found asked left old new
+
+-- The program ends with an answer of which this holds.
+abbrev pub IfAnswered : Ended → (CircleAnswer → Type 0) → Type 0
+IfAnswered (Answered answer) P = P answer
+IfAnswered _ P = ⊥
+
+-- What each subcommand does: circle prints and answers, and each other does its work.
+pub record DoesAsGiven {R V I W N : Type 0} (IsOpened : List ℕ → R → Type 0)
+    (HasLeft : R → List ℕ → Type 0)
+    (CannotOpen : List ℕ → Type 0) (failed : R → Bool) (HasNames : List ℕ → List (List ℕ) → Type 0)
+    (IsBegun : List ℕ → V → Type 0) (HasWritten : V → List ℕ → Type 0)
+    (IsStored : List ℕ → V → Type 0)
+    (HasInput : I → List ℕ → Type 0) (HasTaken : W → List ℕ → Type 0)
+    (HasTold : N → List ℕ → Type 0)
+    (name : List ℕ) (found : Found) (asked left : I) (old new : W) (before after : N)
+    (ended : Ended) : Type 0 where
+  pub circled : name ≡ codes "circle" → IfAnswered ended
+      (CirclesAsGiven IsOpened HasLeft CannotOpen failed HasNames HasTaken HasTold found old new
+      before after)
+  pub ends : name ≢ codes "circle" → ended ≡ Done
+  pub does : name ≢ codes "circle" →
+      DoesSilently IsOpened HasLeft CannotOpen failed HasNames IsBegun HasWritten IsStored HasInput
+      HasTaken HasTold name found asked left old new before after

@@ -14,7 +14,7 @@ use Rattle.program_tasks.specs.Tasks.{IsToolFault}
 use Rattle.program_tasks.specs.declared.choice.Task.{Task}
 use Rattle.program_tasks.specs.declared.choice.Tool.{Tool}
 use Rattle.program_tasks.specs.declared.program_fault.ProgramFault.{ProgramFault}
-use Rattle.program_tasks.specs.declared.program_fault.ProgramFault.TheVariants.{NoSubcommand, NotAPort}
+use Rattle.program_tasks.specs.declared.program_fault.ProgramFault.TheVariants.{NoSubcommand, NotAClient, NotAPort}
 use Rattle.program_tasks.specs.Program.{tool_name, IsNamedBy}
 use Rattle.midiseq.specs.Given.{text_of, IsGiven}
 
@@ -31,7 +31,12 @@ abbrev pub IsNotAPort : List ℕ → ProgramFault → Type 0
 IsNotAPort word (NotAPort told) = (told.now ≡ word) × (port_named word ≡ None)
 IsNotAPort word _ = ⊥
 
--- The session of the words was not run, for one of these reasons.
+-- the word is no client's number
+abbrev pub IsNotAClient : List ℕ → ProgramFault → Type 0
+IsNotAClient word (NotAClient told) = (told.now ≡ word) × (says.client_number word ≡ None)
+IsNotAClient word _ = ⊥
+
+-- The session of the words was not run, or no circle of it printed, for one of these reasons.
 pub record IsRunStopped {R : Type 0} (IsOpened : List ℕ → R → Type 0)
     (HasLeft : R → List ℕ → Type 0)
     (CannotOpen CannotList : List ℕ → Type 0) (failed : R → Bool) (stuck : Type 0) (found : Found)
@@ -82,8 +87,8 @@ abbrev pub IsOfNoTool : List ℕ → ProgramFault → Type 0
 IsOfNoTool name NoSubcommand = (t : Tool) → tool_name t ≢ name
 IsOfNoTool name _ = ⊥
 
--- Why each subcommand stops.
-pub record IsStoppedAsGiven {R V I N : Type 0} (IsOpened : List ℕ → R → Type 0)
+-- Why each subcommand stops that ends without an answer.
+pub record IsSilentStopped {R V I N : Type 0} (IsOpened : List ℕ → R → Type 0)
     (HasLeft : R → List ℕ → Type 0)
     (CannotOpen CannotList : List ℕ → Type 0) (failed : R → Bool)
     (HasNames : List ℕ → List (List ℕ) → Type 0)
@@ -107,3 +112,24 @@ pub record IsStoppedAsGiven {R V I N : Type 0} (IsOpened : List ℕ → R → Ty
       IsOfNoTool name fault
       ⊎ IsToolStopped IsOpened CannotOpen HasLeft failed HasInput input_failed stuck name found
       asked left fault
+
+-- Why each subcommand stops.
+pub record IsStoppedAsGiven {R V I N : Type 0} (IsOpened : List ℕ → R → Type 0)
+    (HasLeft : R → List ℕ → Type 0)
+    (CannotOpen CannotList : List ℕ → Type 0) (failed : R → Bool)
+    (HasNames : List ℕ → List (List ℕ) → Type 0)
+    (AreOne : List ℕ → List ℕ → Type 0) (IsBegun : List ℕ → V → Type 0)
+    (writer_failed takes_some : V → Bool)
+    (CannotBegin CannotStore : List ℕ → Type 0) (HasInput : I → List ℕ → Type 0)
+    (input_failed : I → Bool)
+    (stuck : Type 0) (HasTold : N → List ℕ → Type 0) (name : List ℕ) (found : Found)
+    (asked left : I)
+    (before after : N) (fault : ProgramFault) : Type 0 where
+  pub circled : name ≡ codes "circle" →
+      IsOfSessionWords found fault
+      ⊎ (IsNotAClient (text_of found (codes "owner")) fault
+      ⊎ IsRunStopped IsOpened HasLeft CannotOpen CannotList failed stuck found fault)
+  pub does : name ≢ codes "circle" →
+      IsSilentStopped IsOpened HasLeft CannotOpen CannotList failed HasNames AreOne IsBegun
+      writer_failed takes_some CannotBegin CannotStore HasInput input_failed stuck HasTold
+      name found asked left before after fault

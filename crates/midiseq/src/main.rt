@@ -68,8 +68,7 @@ fn program<'a>(
             let Some((name, found)) = matches.subcommand() else {
                 return Err(ProgramFault::NoSubcommand);
             };
-            subcommands::perform(alloc, &store, name, found, &mut input, &mut out, notes)?;
-            Ok(Ended::Done)
+            subcommands::perform(alloc, &store, name, found, &mut input, &mut out, notes)
         }
         Err(error) => shown(rt, &error),
     }

@@ -1,9 +1,9 @@
-//! The subcommands that run scripts.
+//! The subcommands that take scripts.
 
 ghost use Rattle.std.specs.Prelude.{◌≡◌, ◌⊎◌, false, codes, IfOk, IfErr, OnOk};
 ghost use Rattle.clap.specs.Matches.{found_of};
-ghost use Rattle.midiseq.specs.Given.{text_of, IsGiven, RunsAsGiven, RecordsAsGiven};
-ghost use Rattle.midiseq.specs.Refused.{IsOfSessionWords, IsNotAPort, IsRunStopped, IsRecordStopped};
+ghost use Rattle.midiseq.specs.Given.{text_of, IsGiven, RunsAsGiven, CirclesAsGiven, RecordsAsGiven};
+ghost use Rattle.midiseq.specs.Refused.{IsOfSessionWords, IsNotAClient, IsNotAPort, IsRunStopped, IsRecordStopped};
 ghost use Rattle.seq_session.specs.Rising.{AreRising};
 ghost use Rattle.program_tasks.specs.Faults.{IsStuck};
 ghost use Rattle.program_tasks.specs.Sessions.{owners};
@@ -11,10 +11,12 @@ ghost use Rattle.program_tasks.specs.Sessions.{owners};
 use byte_io::Sink;
 use clap::ArgMatches;
 use file_store::FileStore;
-use program_tasks::{Notes, ProgramFault, Recording, Session, port_named};
+use program_tasks::{
+    CircleAnswer, Notes, ProgramFault, Recording, Session, client_named, port_named,
+};
 use std::alloc::Global;
 
-/// The session that the words of `run` and `record` say alike.
+/// The session that the words of `run`, `record` and `circle` say alike.
 fn session_of<'a>(alloc: Global, found: &ArgMatches<'a>) -> Result<Session<'a>, ProgramFault<'a>>
     ensures given { IfOk result (IsGiven (found_of found.now)) }
     ensures rising { IfOk result (λ s. AreRising (owners s.scripts.items)) }
@@ -73,4 +75,29 @@ pub(crate) fn record<'a, S: FileStore, N: Notes>(
         path: found.get_str("out").unwrap_or(""),
     };
     program_tasks::record(alloc, store, &session, &recording, notes)
+}
+
+/// Prints the circle round the client of --owner, and tells whether it is shut.
+pub(crate) fn circle<'a, S: FileStore, W: Sink, N: Notes>(
+    alloc: Global,
+    store: &S,
+    found: &ArgMatches<'a>,
+    out: &mut W,
+    notes: &mut N,
+) -> Result<CircleAnswer, ProgramFault<'a>>
+    requires { W.failed out.old ≡ false }
+    ensures printed { IfOk result (CirclesAsGiven S.IsOpened S.Reader.HasLeft S.CannotOpen
+        S.Reader.failed S.HasNames W.HasTaken N.HasTold (found_of found.now)
+        out.old out.new notes.old notes.new) }
+    ensures fault { IfErr result (λ e. IsOfSessionWords (found_of found.now) e
+        ⊎ (IsNotAClient (text_of (found_of found.now) (codes "owner")) e
+        ⊎ IsRunStopped S.IsOpened S.Reader.HasLeft S.CannotOpen S.CannotList S.Reader.failed
+        (IsStuck W.failed W.takes_some out.old out.new) (found_of found.now) e)) }
+{
+    let session = session_of(alloc, found)?;
+    let word = found.get_str("owner").unwrap_or("");
+    let Some(owner) = client_named(word) else {
+        return Err(ProgramFault::NotAClient(word));
+    };
+    program_tasks::circle(alloc, store, &session, owner, out, notes)
 }

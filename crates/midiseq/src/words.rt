@@ -6,8 +6,8 @@ use std::alloc::{AllocError, Global};
 const VERSION: &str = "0.1.0";
 
 const EXAMPLES: &str = "\
-run and record take a script for each client: a command a line, each with its
-moment in nanoseconds. thru and wire take raw MIDI bytes, as they come from a
+run, record and circle take a script for each client: a command a line, each
+with its moment in nanoseconds. thru and wire take raw MIDI bytes, as they come from a
 cable; dump takes a Standard MIDI File (.mid). FILE may be - for standard
 input. `midiseq` alone does `thru -`: it waits for MIDI bytes on standard input.
 
@@ -26,13 +26,16 @@ Examples:
   midiseq record --until 1000000000 --port 129:0 --out take.mid 128=keys.txt \\
       129=synth.txt
       writes what came to port 0 of client 129 to the file take.mid
+  midiseq circle --until 1000000000 --owner 129 128=keys.txt 129=synth.txt
+      prints who can change what client 129 hears, and last `shut`, or `open`
 
 Status:
   0  done, or help or the version was asked for
   1  a fault, with one line on standard error: a file that cannot be read,
      output that cannot be written, out of memory, a damaged file, a recording
      that no file can hold
-  2  words that midiseq cannot follow";
+  2  words that midiseq cannot follow
+  3  midiseq circle has found the circle open";
 
 const THRU_HELP: &str = "\
 The bytes are a MIDI 1.0 stream as it comes from a cable: status and data
@@ -119,6 +122,36 @@ Example:
   midiseq record --until 1000000000 --port 129:0 --out take.mid 128=keys.txt \\
       129=synth.txt";
 
+const CIRCLE_HELP: &str = "\
+The scripts are read as by `midiseq run`, and nothing is run. The circle of a
+client is the client, all whom its script asks for, all whom theirs ask for,
+and so on. A script asks for a client by a line that joins a node of it to the
+owner's ports or to a member's filters, parts such a pair, or names a queue of
+it. In a circle that is shut, no script of anybody else can change what comes
+to the owner's ports, or when.
+
+The lines, in this order:
+  circle CLIENT
+      the owner
+  member CLIENT because line LINE of CLIENT ..
+      each other member, and the line that asks for it; it ends in
+      `, and has no script` where none of the words has its script
+  apart line LINE of CLIENT ..
+      a line of the owner that joins or parts at a target outside: what is
+      answered to it, others may change
+  open line LINE of CLIENT ..: anyone may join it
+      a line that makes a port of the owner, or a filter of a member, with
+      WRITE 2 and SUBS_WRITE 64
+  shut, or open
+      the answer: status 0 for shut, 3 for open
+
+Example, with the lines of `midiseq run --help`:
+  midiseq circle --until 10 --owner 129 128=keys.txt 129=synth.txt
+      prints `circle 129`, `member 128 because line 3 of 129 connects 128:p0
+      to 129:p0`, `open line 2 of 129 port 0 caps 66: anyone may join it` and
+      `open`, each on a line. With 2 in place of 66 it prints the first two
+      lines and `shut`.";
+
 /// The program's subcommands with their words.
 pub(crate) fn command<'a>(alloc: Global) -> Result<Command<'a>, AllocError> {
     let program = Command::new(alloc, "midiseq")
@@ -127,6 +160,7 @@ pub(crate) fn command<'a>(alloc: Global) -> Result<Command<'a>, AllocError> {
         .after_help(EXAMPLES);
     let program = with(program, run(alloc))?;
     let program = with(program, record(alloc))?;
+    let program = with(program, circle(alloc))?;
     let program = with(program, thru(alloc))?;
     let program = with(program, wire(alloc))?;
     with(program, dump(alloc))
@@ -160,6 +194,16 @@ fn record<'a>(alloc: Global) -> Result<Command<'a>, AllocError> {
         .arg(raw(alloc))?
         .arg(port(alloc))?
         .arg(out(alloc))?
+        .arg(scripts(alloc))
+}
+
+fn circle<'a>(alloc: Global) -> Result<Command<'a>, AllocError> {
+    Command::new(alloc, "circle")
+        .about("Says from scripts alone whether strangers can change what a client hears")
+        .after_help(CIRCLE_HELP)
+        .arg(until(alloc))?
+        .arg(dir(alloc))?
+        .arg(owner(alloc))?
         .arg(scripts(alloc))
 }
 
@@ -197,6 +241,14 @@ fn port<'a>(alloc: Global) -> Arg<'a> {
         .required(true)
         .value_name("CLIENT:N")
         .help("the port whose messages are recorded, as 129:0")
+}
+
+fn owner<'a>(alloc: Global) -> Arg<'a> {
+    Arg::new(alloc, "owner")
+        .long("owner")
+        .required(true)
+        .value_name("CLIENT")
+        .help("the client whose circle it is, 128 to 191")
 }
 
 fn out<'a>(alloc: Global) -> Arg<'a> {

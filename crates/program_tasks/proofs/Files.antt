@@ -1,12 +1,15 @@
 -- What was read of files that were opened by their paths.
-use Rattle.std.proofs.Common.{◌≡◌, ℕ, ◌+◌, ◌<◌, Bool, List, [], ◌∷◌, ◌++◌, ◌∙◌, length, map, take, get_or, Option, refl, sym, ap, inl, inr}
+use Rattle.std.proofs.Common.{◌≡◌, ℕ, ◌+◌, ◌<◌, Bool, List, [], ◌∷◌, ◌++◌, ◌∙◌, length, map, take, get_or, Option, refl, sym, ap, append_assoc, inl, inr}
 use Rattle.std.proofs.lemmas.List.{map_more, take_more}
 use Rattle.seq_session.specs.declared.source.Script.{Script}
 use Rattle.seq_session.specs.declared.source.ScriptSource.{ScriptSource}
+use Rattle.script_text.specs.declared.script.TheConstants.{MOST_SCRIPT}
 use Rattle.seq_session.specs.Devices.{AreRead}
+use Rattle.seq_session.specs.Sessions.{script_clients}
+use Rattle.program_tasks.specs.Sessions.{owners}
 use Rattle.program_tasks.specs.declared.words.ScriptWord.{ScriptWord}
 use Rattle.program_tasks.specs.Apart.{AreFilesApart, IsOneFile}
-use Rattle.program_tasks.specs.Opened.{AreOfFiles, AreSourcesOf, IsContent, AreContents, path_in}
+use Rattle.program_tasks.specs.Opened.{IsOfFile, AreOfFiles, ReadsScripts, AreSourcesOf, IsContent, AreContents, path_in}
 
 -- ---- scripts
 
@@ -28,6 +31,22 @@ module _ {R : Type 0} (IsOpened : List ℕ → R → Type 0) (HasLeft : R → Li
     record { before = x.reader; after = n.reader; opened = o.1; gave = r.0.text },
     of_files words sources rests scripts o.2 r.1,
   )
+
+  -- the first script is read, and then the others
+  pub reads_next : (words more : List ScriptWord) (w : ScriptWord) (s : Script) (before mid after : List Script) → words ≡ w ∷ more → mid ≡ before ++ s ∷ [] →
+      s.client ≡ w.client → IsOfFile IsOpened HasLeft (MOST_SCRIPT + 1) w.path.now s.text → ReadsScripts IsOpened HasLeft more mid after → ReadsScripts IsOpened HasLeft words before after
+  reads_next words more w s before mid after e m client text r = record {
+    scripts = s ∷ r.scripts;
+    added = r.added ∙ ap (λ xs. xs ++ r.scripts) m ∙ append_assoc before (s ∷ []) r.scripts;
+    read = rw e (client, text, r.read);
+  }
+
+  -- whose scripts they are
+  pub clients_of_files : (words : List ScriptWord) (scripts : List Script) → AreOfFiles IsOpened HasLeft words scripts → owners words ≡ script_clients scripts
+  clients_of_files [] [] o = refl
+  clients_of_files [] (s ∷ scripts) o = absurd o
+  clients_of_files (w ∷ words) [] o = absurd o
+  clients_of_files (w ∷ words) (s ∷ scripts) o = ap (λ c. c ∷ owners words) (sym o.0) ∙ ap (λ cs. s.client ∷ cs) (clients_of_files words scripts o.2)
 
 -- one more source
 pub sources_more : {R : Type 0} (IsOpened : List ℕ → R → Type 0) (words : List ScriptWord) (sources : List (ScriptSource R)) (w : ScriptWord) (x : ScriptSource R) →

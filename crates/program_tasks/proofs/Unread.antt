@@ -1,6 +1,7 @@
 -- Why scripts could not be read, from what each step tells.
 use Rattle.std.proofs.Common.{◌≡◌, ◌⊎◌, ◌<◌, ℕ, zero, suc, Bool, List, [], ◌∷◌, ◌∙◌, length, drop, get_or, Some, Result, Ok, Err, eq-eqb, inl, inr, sym, ap, subst, arith}
 use Rattle.std.specs.Prelude.{IfErr, IsErrAnd}
+use Rattle.std.proofs.lemmas.Result.{IfErr-weaker}
 use Rattle.seq_session.specs.declared.fault.SessionFault.{SessionFault}
 use Rattle.seq_session.specs.declared.fault.SessionFault.TheVariants as session
 use Rattle.seq_session.specs.declared.source.Script.{Script}
@@ -12,7 +13,7 @@ use Rattle.program_tasks.specs.Words.{scripts_seen, seen_script}
 use Rattle.program_tasks.specs.declared.program_fault.ProgramFault.{ProgramFault}
 use Rattle.program_tasks.specs.declared.program_fault.ProgramFault.TheVariants.{OutOfMemory, CannotRead, CannotRecord}
 use Rattle.program_tasks.specs.declared.recording.Recording.{Recording}
-use Rattle.program_tasks.specs.Faults.{IsOfOpening, IsOfScripts, IsOfEvents, IsOfRefusal}
+use Rattle.program_tasks.specs.Faults.{IsScript, IsOfReading, IsOfOpening, IsOfScripts, IsOfEvents, IsOfRefusal}
 use Rattle.program_tasks.specs.Opened.{AreSourcesOf, AreOfFiles, IsBroken}
 use Rattle.program_tasks.specs.Sessions.{IsToldAs}
 
@@ -56,6 +57,32 @@ module _ {R : Type 0} (IsOpened : List ℕ → R → Type 0) (HasLeft : R → Li
   of_opening words (CannotRead path) h = (h.0, inl h.1)
   of_opening words OutOfMemory h = tt
   of_opening words _ h = absurd h
+
+  -- a script among the later ones is one among all
+  script_more : (w : ScriptWord) (words : List ScriptWord) (path : List ℕ) → IsScript words path → IsScript (w ∷ words) path
+  script_more w words path h = (h.0, (suc h.1.0, omega (arith, h.1.1), h.1.2))
+
+  -- so of scripts that could not be read
+  of_more : (w : ScriptWord) (words : List ScriptWord) (told : ProgramFault) → IsOfScripts IsOpened HasLeft CannotOpen failed words told → IsOfScripts IsOpened HasLeft CannotOpen failed (w ∷ words) told
+  of_more w words (CannotRead path) h = (script_more w words path.now h.0, h.1)
+  of_more w words OutOfMemory h = tt
+  of_more w words _ h = absurd h
+
+  pub later_unread : {T : Type 0} (words more : List ScriptWord) (w : ScriptWord) (r : Result T ProgramFault) → words ≡ w ∷ more →
+      IfErr r (IsOfScripts IsOpened HasLeft CannotOpen failed more) → IfErr r (IsOfScripts IsOpened HasLeft CannotOpen failed words)
+  later_unread words more w r e h = rw e (IfErr-weaker r _ _ (of_more w more) h)
+
+  -- the first script could not be read
+  of_first : (w : ScriptWord) (words : List ScriptWord) (told : ProgramFault) → IsOfReading IsOpened HasLeft CannotOpen failed w.path.now told → IsOfScripts IsOpened HasLeft CannotOpen failed (w ∷ words) told
+  of_first w words (CannotRead path) h =
+      ((w.client, (0, omega arith, ap (λ p. (w.client, p)) (sym h.0))), inr (subst (IsBroken IsOpened HasLeft CannotOpen failed) (sym h.0) h.1))
+  of_first w words OutOfMemory h = tt
+  of_first w words _ h = absurd h
+
+  pub first_unread : {T : Type 0} (words more : List ScriptWord) (w : ScriptWord) (r : Result T ProgramFault) (x : ProgramFault) → words ≡ w ∷ more → IsErrAnd r (λ e. e ≡ x) →
+      IsOfReading IsOpened HasLeft CannotOpen failed w.path.now x → IfErr r (IsOfScripts IsOpened HasLeft CannotOpen failed words)
+  first_unread words more w (Ok v) x e same h = tt
+  first_unread words more w (Err y) x e same h = rw (e, same) (of_first w more x h)
 
   module _ (folder : FolderContents) (end : ℕ) (words : List ScriptWord) (recording : Recording) (scripts : List Script) (read : AreOfFiles IsOpened HasLeft words scripts) (A B : ProgramFault → Type 0) where
     abbrev Why : ProgramFault → Type 0

@@ -12,7 +12,7 @@ use Rattle.program_tasks.specs.declared.program_fault.ProgramFault.{ProgramFault
 use Rattle.program_tasks.specs.declared.program_fault.ProgramFault.TheVariants.{OutOfMemory, CannotRead, CannotWrite, CannotRecord, OutIsRead}
 use Rattle.program_tasks.specs.declared.recording.Recording.{Recording}
 use Rattle.program_tasks.specs.Apart.{IsShared}
-use Rattle.program_tasks.specs.Opened.{AreOfFiles, IsUnreadable}
+use Rattle.program_tasks.specs.Opened.{AreOfFiles, IsBroken, IsUnreadable}
 
 -- out of memory
 abbrev pub IsOfMemory : ProgramFault → Type 0
@@ -48,6 +48,13 @@ module _ {R : Type 0} (IsOpened : List ℕ → R → Type 0) (HasLeft : R → Li
   IsOfScripts words (CannotRead path) = IsUnreadScript words path.now
   IsOfScripts words OutOfMemory = Unit {0}
   IsOfScripts words _ = ⊥
+
+  -- a read of the script at this path failed, or out of memory
+  abbrev pub IsOfReading : List ℕ → ProgramFault → Type 0
+  IsOfReading path (CannotRead told) =
+      (told.now ≡ path) × IsBroken IsOpened HasLeft CannotOpen failed path
+  IsOfReading path OutOfMemory = Unit {0}
+  IsOfReading path _ = ⊥
 
 -- ---- what is printed
 

@@ -9,6 +9,7 @@ pub mod Opened
 pub mod Apart
 pub mod Sessions
 pub mod Printed
+pub mod Circles
 pub mod Recorded
 pub mod Faults
 pub mod Tasks

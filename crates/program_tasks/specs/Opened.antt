@@ -38,6 +38,12 @@ module _ {R : Type 0} (IsOpened : List ℕ → R → Type 0) (HasLeft : R → Li
   AreOfFiles [] [] = Unit {0}
   AreOfFiles _ _ = ⊥
 
+  -- Scripts were read behind those that were there.
+  pub record ReadsScripts (words : List ScriptWord) (before after : List Script) : Type 0 where
+    pub scripts : List Script
+    pub added : after ≡ before ++ scripts
+    pub read : AreOfFiles words scripts
+
   -- ---- the files of a folder
 
   module _ (CannotOpen : List ℕ → Type 0) (failed : R → Bool) where

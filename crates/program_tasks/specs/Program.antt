@@ -7,16 +7,18 @@ use Rattle.std.specs.Char.Escape.{escape_default}
 use Rattle.std.specs.Str.{chars}
 use Rattle.memory.specs.Faults.{out_of_memory_text}
 use Rattle.smf_grammar.specs.Faults as smf
+use Rattle.program_tasks.specs.declared.answer.CircleAnswer.{CircleAnswer}
+use Rattle.program_tasks.specs.declared.answer.CircleAnswer.TheVariants as circle
 use Rattle.program_tasks.specs.declared.choice.Tool.{Tool}
 use Rattle.program_tasks.specs.declared.choice.Tool.TheVariants.{Thru, Wire, Dump}
 use Rattle.program_tasks.specs.declared.choice.Stream.{Stream}
 use Rattle.program_tasks.specs.declared.choice.Stream.TheVariants.{Standard, Path}
 use Rattle.program_tasks.specs.declared.ending.Ended.{Ended}
-use Rattle.program_tasks.specs.declared.ending.Ended.TheVariants.{Done, Shown}
+use Rattle.program_tasks.specs.declared.ending.Ended.TheVariants.{Done, Shown, Answered}
 use Rattle.tool_text.specs.declared.fault.ToolFault.{ToolFault}
 use Rattle.tool_text.specs.declared.fault.ToolFault.TheVariants as tool
 use Rattle.program_tasks.specs.declared.program_fault.ProgramFault.{ProgramFault}
-use Rattle.program_tasks.specs.declared.program_fault.ProgramFault.TheVariants.{NotUtf8, NoSubcommand, NotAMoment, NotAPort, NotAScript, TwoScripts, OutIsRead, CannotRead, CannotWrite, OutOfMemory, CannotRecord, Smf}
+use Rattle.program_tasks.specs.declared.program_fault.ProgramFault.TheVariants.{NotUtf8, NoSubcommand, NotAMoment, NotAPort, NotAClient, NotAScript, TwoScripts, OutIsRead, CannotRead, CannotWrite, OutOfMemory, CannotRecord, Smf}
 
 -- ---- the choice
 
@@ -55,6 +57,7 @@ program_fault_text (NotAMoment word) =
 program_fault_text (NotAPort word) =
     escaped_text word.now
     ++ codes " names no port 0 to 15 of a client 128 to 191"
+program_fault_text (NotAClient word) = escaped_text word.now ++ codes " is no client 128 to 191"
 program_fault_text (NotAScript word) =
     escaped_text word.now ++ codes " names no script of a client 128 to 191"
 program_fault_text (TwoScripts client) =
@@ -80,6 +83,7 @@ is_helped NotUtf8 = false
 is_helped NoSubcommand = true
 is_helped (NotAMoment word) = true
 is_helped (NotAPort word) = true
+is_helped (NotAClient word) = true
 is_helped (NotAScript word) = true
 is_helped (TwoScripts client) = true
 is_helped (OutIsRead path) = true
@@ -115,6 +119,7 @@ exit_status NotUtf8 = 2
 exit_status NoSubcommand = 2
 exit_status (NotAMoment word) = 2
 exit_status (NotAPort word) = 2
+exit_status (NotAClient word) = 2
 exit_status (NotAScript word) = 2
 exit_status (TwoScripts client) = 2
 exit_status (OutIsRead path) = 2
@@ -126,10 +131,16 @@ exit_status (Smf fault) = 1
 
 -- ---- how the program ends
 
+-- 0 for a circle that is shut, 3 for one that is open
+abbrev pub answer_status : CircleAnswer → ℕ
+answer_status circle.Shut = 0
+answer_status circle.Open = 3
+
 -- the status with which it ends
 abbrev pub end_status : Result Ended ProgramFault → ℕ
 end_status (Ok Done) = 0
 end_status (Ok (Shown status)) = status
+end_status (Ok (Answered answer)) = answer_status answer
 end_status (Err fault) = exit_status fault
 
 -- the lines that are shown as it ends: one for a fault, and else none

@@ -12,6 +12,8 @@ use Rattle.program_tasks.specs.declared.recording.Recording.{Recording}
 use Rattle.program_tasks.specs.declared.session.Session.{Session}
 use Rattle.program_tasks.specs.Faults.{IsOfRefusal, IsOfScripts, IsOfSharing, IsOfWriting}
 use Rattle.program_tasks.specs.Opened.{IsFolder}
+use Rattle.program_tasks.specs.declared.answer.CircleAnswer.{CircleAnswer}
+use Rattle.program_tasks.specs.Circles.{IsCirclePrinted}
 use Rattle.program_tasks.specs.Printed.{IsSessionPrinted}
 use Rattle.program_tasks.specs.Recorded.{IsSessionRecorded}
 
@@ -41,6 +43,17 @@ module _ {R : Type 0} (IsOpened : List ℕ → R → Type 0) (HasLeft : R → Li
     pub printed :
         IsSessionPrinted IsOpened HasLeft HasTaken files session.until listed session.scripts.items
         old new
+
+  -- The sink took the least circle round the owner in the session, and the answer is that circle's.
+  pub record IsCircleAnswered {W N : Type 0} (HasTaken : W → List ℕ → Type 0)
+      (HasTold : N → List ℕ → Type 0)
+      (session : Session) (owner : ℕ) (answer : CircleAnswer) (old new : W)
+      (before after : N) : Type 0 where
+    pub files : FolderContents
+    pub are : AreFilesOf HasTold (option_map (λ d. d.now) session.dir) before after files
+    pub printed :
+        IsCirclePrinted IsOpened HasLeft HasTaken files session.until session.scripts.items owner
+        answer old new
 
   -- The session was run, and what came to a port was written to a path.
   pub record IsRunRecorded {W N : Type 0} (IsBegun : List ℕ → W → Type 0)

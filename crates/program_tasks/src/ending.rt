@@ -4,6 +4,7 @@ ghost use Rattle.std.specs.Prelude.{◌≡◌};
 ghost use Rattle.byte_io.specs.Moved.{Took};
 ghost use Rattle.program_tasks.specs.Program.{end_status, end_lines};
 
+use crate::answer::CircleAnswer;
 use crate::notes::Notes;
 use crate::program_fault::{FaultLine, ProgramFault};
 
@@ -14,6 +15,8 @@ pub enum Ended {
     Done,
     /// It has shown how it is used, with the status for that: 0 where help was asked for.
     Shown(u8),
+    /// It has printed a circle, which is shut or open.
+    Answered(CircleAnswer),
 }
 
 /// Ends the program: tells a fault in one line, and gives the status to end with.
@@ -24,6 +27,7 @@ pub fn finish<N: Notes>(ended: Result<Ended, ProgramFault<'_>>, notes: &mut N) -
     match ended {
         Ok(Ended::Done) => 0,
         Ok(Ended::Shown(status)) => status,
+        Ok(Ended::Answered(answer)) => answer.status(),
         Err(fault) => {
             notes.tell(FaultLine(fault));
             fault.status()

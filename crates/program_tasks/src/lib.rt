@@ -1,12 +1,15 @@
 //! What the program does: the words that it is given, the files that these name, the work itself, and the line and the
 //! status of each fault.
 //!
-//! `run` is what `midiseq run` does, `record` what `midiseq record` does, and `perform` what the tools do, over every
-//! store of files: from the files that the words name to the text that is printed, or to the file that is written.
+//! `run` is what `midiseq run` does, `record` what `midiseq record` does, `circle` what `midiseq circle` does, and
+//! `perform` what the tools do, over every store of files: from the files that the words name to the text that is
+//! printed, or to the file that is written.
 #![tactic(auto)]
 
+mod answer;
 mod apart;
 mod choice;
+mod circling;
 mod ending;
 mod escaped;
 mod folder;
@@ -17,6 +20,7 @@ mod opening;
 mod port_file;
 mod printing;
 mod program_fault;
+mod reading;
 mod recording;
 mod rows;
 mod session;
@@ -25,7 +29,9 @@ mod task;
 mod words;
 mod writing;
 
+pub use answer::CircleAnswer;
 pub use choice::{STANDARD, Stream, Task, Tool};
+pub use circling::print_circle;
 pub use ending::{Ended, finish};
 pub use folder::{Folder, named};
 pub use logs::print_logs;
@@ -35,10 +41,11 @@ pub use opening::{FolderFiles, open_files};
 pub use port_file::record_file;
 pub use printing::print_session;
 pub use program_fault::{FaultLine, LeftOut, ProgramFault};
+pub use reading::read_scripts;
 pub use recording::{Recording, record_session, recorded};
 pub use rows::worked_recording;
 pub use session::Session;
-pub use subcommands::{record, run};
+pub use subcommands::{circle, record, run};
 pub use task::perform;
-pub use words::{ScriptWord, port_named, scripts_named, until_named};
+pub use words::{ScriptWord, client_named, port_named, scripts_named, until_named};
 pub use writing::write_file;

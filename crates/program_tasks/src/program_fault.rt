@@ -22,6 +22,8 @@ pub enum ProgramFault<'a> {
     NotAMoment(&'a str),
     /// The word names no port.
     NotAPort(&'a str),
+    /// The word names no client.
+    NotAClient(&'a str),
     /// The word names no client with its script.
     NotAScript(&'a str),
     /// The client has two scripts.
@@ -71,6 +73,7 @@ impl<'a> ProgramFault<'a> {
             | ProgramFault::NoSubcommand
             | ProgramFault::NotAMoment(_)
             | ProgramFault::NotAPort(_)
+            | ProgramFault::NotAClient(_)
             | ProgramFault::NotAScript(_)
             | ProgramFault::TwoScripts(_)
             | ProgramFault::OutIsRead(_) => 2,
@@ -91,6 +94,7 @@ impl<'a> ProgramFault<'a> {
             ProgramFault::NoSubcommand
                 | ProgramFault::NotAMoment(_)
                 | ProgramFault::NotAPort(_)
+                | ProgramFault::NotAClient(_)
                 | ProgramFault::NotAScript(_)
                 | ProgramFault::TwoScripts(_)
                 | ProgramFault::OutIsRead(_)
@@ -115,6 +119,10 @@ impl fmt::Display for ProgramFault<'_> {
             ProgramFault::NotAPort(word) => {
                 let word = Escaped(word);
                 write!(f, "{word} names no port 0 to 15 of a client 128 to 191")
+            }
+            ProgramFault::NotAClient(word) => {
+                let word = Escaped(word);
+                write!(f, "{word} is no client 128 to 191")
             }
             ProgramFault::NotAScript(word) => {
                 let word = Escaped(word);

@@ -1,12 +1,14 @@
-//! The subcommands that run scripts: the session's folder read, its scripts run, and what is printed or written.
+//! The subcommands that take scripts: the session's folder and its scripts read, and what is printed or written.
 
-ghost use Rattle.std.specs.Prelude.{◌≡◌, ◌⊎◌, false, IfErr, OnOk};
+ghost use Rattle.std.specs.Prelude.{◌≡◌, ◌⊎◌, false, IfErr, IfOk, OnOk};
 ghost use Rattle.std.specs.Option.{option_map};
 ghost use Rattle.seq_session.specs.Rising.{AreRising};
 ghost use Rattle.program_tasks.specs.Faults.{IsOfListing, IsOfScripts, IsOfOutput, IsStuck};
 ghost use Rattle.program_tasks.specs.Sessions.{owners};
-ghost use Rattle.program_tasks.specs.Subcommands.{IsRunPrinted, IsRunRecorded, IsRecordingStopped};
+ghost use Rattle.program_tasks.specs.Subcommands.{IsRunPrinted, IsCircleAnswered, IsRunRecorded, IsRecordingStopped};
 
+use crate::answer::CircleAnswer;
+use crate::circling::print_circle;
 use crate::folder::{Folder, named};
 use crate::notes::Notes;
 use crate::printing::print_session;
@@ -15,6 +17,7 @@ use crate::recording::{Recording, record_session};
 use crate::session::Session;
 use byte_io::Sink;
 use file_store::FileStore;
+use node_table::ClientId;
 use std::alloc::Global;
 
 /// Runs the scripts of a session, and prints each client's log and, where `listed` says so, the listing at the end.
@@ -42,6 +45,33 @@ pub fn run<'a, S: FileStore, W: Sink, N: Notes>(
     let folder = Folder::read(alloc, store, session.dir)?;
     let opened = folder.open(alloc, notes)?;
     print_session(alloc, store, session, &named(&opened), listed, out)
+}
+
+/// Prints the least circle round a client in a session, and tells whether it is shut. Nothing is run.
+///
+/// Tells which files of the folder are left out.
+pub fn circle<'a, S: FileStore, W: Sink, N: Notes>(
+    alloc: Global,
+    store: &S,
+    session: &Session<'a>,
+    owner: ClientId,
+    out: &mut W,
+    notes: &mut N,
+) -> Result<CircleAnswer, ProgramFault<'a>>
+    requires rising { AreRising (owners session.now.scripts.items) }
+    requires sound { W.failed out.old ≡ false }
+    ensures printed { IfOk result (λ answer. IsCircleAnswered S.IsOpened S.Reader.HasLeft S.CannotOpen
+        S.Reader.failed S.HasNames W.HasTaken N.HasTold session.now owner answer
+        out.old out.new notes.old notes.new) }
+    ensures fault { IfErr result (λ e.
+        IsOfListing S.CannotList (option_map (λ d. d.now) session.now.dir) e
+        ⊎ (IsOfScripts S.IsOpened S.Reader.HasLeft S.CannotOpen S.Reader.failed
+        session.now.scripts.items e
+        ⊎ IsOfOutput (IsStuck W.failed W.takes_some out.old out.new) e)) }
+{
+    let folder = Folder::read(alloc, store, session.dir)?;
+    let opened = folder.open(alloc, notes)?;
+    print_circle(alloc, store, session, &named(&opened), owner, out)
 }
 
 /// Runs the scripts of a session, and writes what came to a port to a file, once all else is done.

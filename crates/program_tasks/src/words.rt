@@ -1,4 +1,4 @@
-//! The words of the command line that name scripts, ports and moments.
+//! The words of the command line that name scripts, clients, ports and moments.
 
 ghost use Rattle.std.specs.Prelude.{◌≡◌, ◌≤◌, List, Some, IfSome, IfOk, IfErr, OnOk, length, map, nat_le, ℕ};
 ghost use Rattle.std.specs.List.{position_or_len};
@@ -23,6 +23,13 @@ pub fn until_named(word: &str) -> Option<u64>
     ensures { result ≡ says.u64 word.now }
 {
     number_of(word.as_bytes())
+}
+
+/// The client whose number a word is, 128 to 191.
+pub fn client_named(word: &str) -> Option<ClientId>
+    ensures { result ≡ says.client_number word.now }
+{
+    client_of(word.as_bytes())
 }
 
 /// The port that a word names, `CLIENT:N`.

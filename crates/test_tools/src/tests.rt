@@ -1,5 +1,6 @@
 //! The tools of the program, through their public calls.
 
+mod circles;
 mod dump;
 mod failing_devices;
 mod faults;

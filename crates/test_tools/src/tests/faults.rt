@@ -51,6 +51,11 @@ fn tells_of_sessions(rt: HostRuntime) -> Result<(), Fail> {
             2,
         ),
         (
+            ProgramFault::NotAClient("127"),
+            "midiseq: 127 is no client 128 to 191; see midiseq --help",
+            2,
+        ),
+        (
             ProgramFault::NotAScript("127=a"),
             "midiseq: 127=a names no script of a client 128 to 191; see midiseq --help",
             2,

@@ -6,8 +6,8 @@ use byte_io::{MemSink, write_all};
 use memory::OutOfMemory;
 use node_table::{ClientId, PortAddr, PortNo};
 use program_tasks::{
-    FolderFiles, ProgramFault, ScriptWord, midi_files, open_files, port_named, print_logs,
-    scripts_named, taken_files, until_named,
+    FolderFiles, ProgramFault, ScriptWord, client_named, midi_files, open_files, port_named,
+    print_logs, scripts_named, taken_files, until_named,
 };
 use std::alloc::Global;
 use std::process::Abort;
@@ -27,6 +27,14 @@ fn reads_moments(rt: HostRuntime) {
         ("1s", None),
     ] {
         assert!(rt; until_named(word) == moment, "at {word}");
+    }
+}
+
+#[test]
+fn reads_clients(rt: HostRuntime) {
+    assert!(rt; client_named("0191") == ClientId::new(191));
+    for word in ["127", "192", "", "128:0", "+128"] {
+        assert!(rt; client_named(word) == None, "at {word}");
     }
 }
 
