@@ -1,7 +1,7 @@
 //! Circles of clients that no stranger can open: the least round an owner, and whether it is shut.
 //!
-//! `circle_of` goes over the inputs of a session. Its contract says that where it finds no opening the circle is shut, so
-//! that nothing which strangers say changes what the owner sees, and that else no circle round the owner is shut.
+//! `circle_of` goes over the inputs of a session. Its contract says that where it finds no opening the circle is shut,
+//! so that nothing which strangers say changes what the owner sees, and that else no circle round the owner is shut.
 #![tactic(auto)]
 
 mod asking;

@@ -115,7 +115,7 @@ found-after was now client row change clients others edges other_edges places is
 
 -- after a change of everybody nothing is known
 pub found-no-more : (clients others : FinMap nat_cmp Client) (edges other_edges : List Edge) (was now : Changes) (change : ℕ) (places : List (Option Found)) →
-    now.count ≡ change → ((row : ℕ) → row < most_clients → get_or now.last row 0 ≡ change) → AreEarlier change places → AreFound clients edges was places → AreFound others other_edges now places
+    now.count ≡ change → ((r : ℕ) → r < most_clients → get_or now.last r 0 ≡ change) → AreEarlier change places → AreFound clients edges was places → AreFound others other_edges now places
 found-no-more clients others edges other_edges was now change places count all earlier kept place found e =
     let later = earlier place found e in
     record {

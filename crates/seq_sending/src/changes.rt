@@ -20,7 +20,7 @@ pub(crate) struct Changes {
 /// The same number for each client.
 pub(crate) fn all_at(change: u64) -> [u64; MOST_CLIENTS]
     ensures rows { length result ≡ most_clients }
-    ensures each { (row : ℕ) → row < most_clients → slice_index_or result row 0 ≡ change }
+    ensures each { (r : ℕ) → r < most_clients → slice_index_or result r 0 ≡ change }
 {
     [change; MOST_CLIENTS]
 }

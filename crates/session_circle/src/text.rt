@@ -151,8 +151,8 @@ fn push_verdict(text: &mut Vec<u8>, openings: &[usize]) -> Result<(), OutOfMemor
 }
 
 /// The circle as text: a line for its owner; one for each other member, with the line that asks for it, and that it has
-/// no script where these have none of it; one for each outcome that strangers may change; one for each input that leaves
-/// it open; and at last `shut`, or `open` where there is such an input. Each line ends with a line feed.
+/// no script where these have none of it; one for each outcome that strangers may change; one for each input that
+/// leaves it open; and at last `shut`, or `open` where there is such an input. Each line ends with a line feed.
 pub fn circle_text(
     alloc: Global,
     owner: ClientId,
