@@ -14,7 +14,7 @@ use Rattle.patch_graph.proofs.Same.{place-is}
 use Rattle.seq_state.specs.State.{Client}
 use Rattle.seq_sending.specs.KeptCounts.{AreClassCounts, AreCountsKept}
 use Rattle.seq_sending.specs.Changes.{AgreeBut, HangOn, IsCurrent, last_change}
-use Rattle.seq_sending.specs.Table.{IsFound, AreFound, AreEarlier, AreWaysBy}
+use Rattle.seq_sending.specs.Table.{IsWayFound, AreWaysFound, AreEarlier, AreWaysBy}
 use Rattle.seq_sending.specs.Ways.{AreWays}
 use Rattle.seq_sending.specs.declared.kept_counts.KeptCount.{KeptCount}
 use Rattle.seq_sending.specs.declared.changes.Changes.{Changes}
@@ -39,29 +39,29 @@ pub at-place : {X : Type 0} (places : List (Option X)) (place : ℕ) (x : X) (d 
 at-place places place x d there e some = within places place None d (ltb-true place (length places) (sym there)) ∙ sym e ∙ some
 
 module _ (clients : FinMap nat_cmp Client) (edges : List Edge) (changes : Changes) where
-  pub found-is : (places : List (Option Found)) (source : Addr) (row place : ℕ) (found : Found) → AreFound clients edges changes places → IsPlace source row place →
+  pub found-is : (places : List (Option Found)) (source : Addr) (row place : ℕ) (found : Found) → AreWaysFound clients edges changes places → IsPlace source row place →
       get_or places place None ≡ Some found → IsCurrent changes found.at source.client found.through → AreWays clients edges (targets_of edges source) found.ways
   found-is places source row place found kept at e current =
       ways-now (HangOn source.client found.through) clients edges source found.ways ((kept place found e).ways source row at current)
 
-  pub found-same : (new old : List (Option Found)) → ReadsAs None new old → AreFound clients edges changes old → AreFound clients edges changes new
+  pub found-same : (new old : List (Option Found)) → ReadsAs None new old → AreWaysFound clients edges changes old → AreWaysFound clients edges changes new
   found-same new old same kept place found e = kept place found (sym (same place) ∙ e)
 
   pub found-set : (places : List (Option Found)) (source : Addr) (row place : ℕ) (found : Found) → IsPlace source row place → place < length places → found.at ≤ changes.count →
       AreWaysBy (HangOn source.client found.through) clients edges source found.ways →
-      AreFound clients edges changes places → AreFound clients edges changes (set places place (Some found))
+      AreWaysFound clients edges changes places → AreWaysFound clients edges changes (set places place (Some found))
   found-set places source row place found at within before are kept p others e = elim (cases_eq p place) [
     | inl same ↦
         let its : found ≡ others = some-is found others
         (sym (get_or-set_same places place (Some found) None within) ∙ ap (λ n. get_or (set places place (Some found)) n None) (sym same) ∙ e) in
-        subst (IsFound clients edges changes p) its (record {
+        subst (IsWayFound clients edges changes p) its (record {
           before = before;
           ways = λ a r k _. subst (λ x. AreWaysBy (HangOn x.client found.through) clients edges x found.ways) (sym (place-is a source r row place (subst (IsPlace a r) same k) at)) are;
         })
     | inr apart ↦ kept p others (sym (get_or-set_other places place p (Some found) None apart) ∙ e)
   ]
 
-  pub found-none : (places : List (Option Found)) (place : ℕ) → place < length places → AreFound clients edges changes places → AreFound clients edges changes (set places place None)
+  pub found-none : (places : List (Option Found)) (place : ℕ) → place < length places → AreWaysFound clients edges changes places → AreWaysFound clients edges changes (set places place None)
   found-none places place within kept p found e = elim (cases_eq p place) [
     | inl same ↦
         absurd (none-some found (sym (get_or-set_same places place None None within) ∙ ap (λ n. get_or (set places place None) n None) (sym same) ∙ e))
@@ -101,7 +101,7 @@ current-before was now client row change at port (These clients) is within set_i
 
 pub found-after : (was now : Changes) (client row change : ℕ) (clients others : FinMap nat_cmp Client) (edges other_edges : List Edge) (places : List (Option Found)) →
     client ≡ first_client + row → row < length was.last → now.last ≡ set was.last row change → now.count ≡ change → AreEarlier change places →
-    AgreeBut client clients others edges other_edges → AreFound clients edges was places → AreFound others other_edges now places
+    AgreeBut client clients others edges other_edges → AreWaysFound clients edges was places → AreWaysFound others other_edges now places
 found-after was now client row change clients others edges other_edges places is within set_is count earlier agree kept place found e =
     let later = earlier place found e in
     record {
@@ -115,7 +115,7 @@ found-after was now client row change clients others edges other_edges places is
 
 -- after a change of everybody nothing is known
 pub found-no-more : (clients others : FinMap nat_cmp Client) (edges other_edges : List Edge) (was now : Changes) (change : ℕ) (places : List (Option Found)) →
-    now.count ≡ change → ((r : ℕ) → r < most_clients → get_or now.last r 0 ≡ change) → AreEarlier change places → AreFound clients edges was places → AreFound others other_edges now places
+    now.count ≡ change → ((r : ℕ) → r < most_clients → get_or now.last r 0 ≡ change) → AreEarlier change places → AreWaysFound clients edges was places → AreWaysFound others other_edges now places
 found-no-more clients others edges other_edges was now change places count all earlier kept place found e =
     let later = earlier place found e in
     record {
@@ -126,7 +126,7 @@ found-no-more clients others edges other_edges was now change places count all e
           absurd (omega (arith, current.own, same, later));
     }
 
-pub none-found : (clients : FinMap nat_cmp Client) (edges : List Edge) (changes : Changes) (places : List (Option Found)) → places ≡ [] → AreFound clients edges changes places
+pub none-found : (clients : FinMap nat_cmp Client) (edges : List Edge) (changes : Changes) (places : List (Option Found)) → places ≡ [] → AreWaysFound clients edges changes places
 none-found clients edges changes places none place found e = absurd (none-some found (sym (ap (λ ps. get_or ps place None) none) ∙ e))
 
 pub none-earlier : (change : ℕ) (places : List (Option Found)) → places ≡ [] → AreEarlier change places

@@ -25,17 +25,17 @@ AreWaysBy P clients edges source ways =
 
 -- What stands at a place was found after no more changes than there were. Where it is current, it
 -- is the ways from the address whose place it is.
-pub record IsFound (clients : FinMap nat_cmp Client) (edges : List Edge) (changes : Changes)
+pub record IsWayFound (clients : FinMap nat_cmp Client) (edges : List Edge) (changes : Changes)
     (place : ℕ) (found : Found) : Type 0 where
   pub before : found.at ≤ changes.count
   pub ways : (a : Addr) (row : ℕ) → IsPlace a row place →
       IsCurrent changes found.at a.client found.through →
       AreWaysBy (HangOn a.client found.through) clients edges a found.ways
 
-abbrev pub AreFound : FinMap nat_cmp Client → List Edge → Changes → List (Option Found) → Type 0
-AreFound clients edges changes places =
+abbrev pub AreWaysFound : FinMap nat_cmp Client → List Edge → Changes → List (Option Found) → Type 0
+AreWaysFound clients edges changes places =
     (place : ℕ) (found : Found) → slice_index_or places place None ≡ Some found →
-    IsFound clients edges changes place found
+    IsWayFound clients edges changes place found
 
 -- all that stands in a table was found before a change
 abbrev pub AreEarlier : ℕ → List (Option Found) → Type 0
@@ -46,5 +46,5 @@ AreEarlier change places =
 pub record AreWaysKept (clients : FinMap nat_cmp Client) (edges : List Edge) (table : WayTable)
     : Type 0 where
   pub rows : length table.changes.last ≡ most_clients
-  pub ways : AreFound clients edges table.changes table.places.items
+  pub ways : AreWaysFound clients edges table.changes table.places.items
   pub counts : AreCountsKept clients edges table.counts.kept.items

@@ -9,7 +9,7 @@ ghost use Rattle.patch_graph.specs.declared.edge.Edge.{Edge};
 ghost use Rattle.seq_state.specs.State.{Client};
 ghost use Rattle.seq_state.specs.Step.{pools_after, copies_with_room};
 ghost use Rattle.seq_sending.specs.Changes.{AgreeBut, HangOn};
-ghost use Rattle.seq_sending.specs.Table.{AreFound, AreEarlier, AreWaysBy, AreWaysKept};
+ghost use Rattle.seq_sending.specs.Table.{AreWaysFound, AreEarlier, AreWaysBy, AreWaysKept};
 ghost use Rattle.seq_sending.specs.Ways.{AreWays, spread_all};
 ghost use Rattle.seq_sending.specs.declared.ways.Way.{Way};
 
@@ -72,7 +72,7 @@ fn make_place(places: &mut Vec<Option<Found>>, place: usize) -> Result<(), OutOf
 #[inline]
 fn known<'t>(places: &'t [Option<Found>], changes: &Changes, source: &Addr) -> Option<&'t Ways>
     ensures { (clients : map.FinMap nat_cmp Client) (edges : List Edge)
-        → AreFound clients edges changes.now places.now
+        → AreWaysFound clients edges changes.now places.now
         → IfSome result (λ ways. AreWays clients edges (targets_of edges source.now) ways.now) }
 {
     match places.get(place_of(source)) {
@@ -86,8 +86,8 @@ fn known<'t>(places: &'t [Option<Found>], changes: &Changes, source: &Addr) -> O
 /// Takes what stands at a place out of a table: what is known of the others stays.
 fn take(places: &mut Vec<Option<Found>>, place: usize) -> Option<Found>
     ensures { (clients : map.FinMap nat_cmp Client) (edges : List Edge) (changes : Changes)
-        → AreFound clients edges changes places.old.items
-        → AreFound clients edges changes places.new.items }
+        → AreWaysFound clients edges changes places.old.items
+        → AreWaysFound clients edges changes places.new.items }
 {
     if place >= places.len() {
         return None;
@@ -103,8 +103,8 @@ fn keep_ways(
 ) -> Result<(), OutOfMemory>
     ensures { (clients : map.FinMap nat_cmp Client) (edges : List Edge) (changes : Changes)
         → AreWaysBy (HangOn source.now.client found.through) clients edges source.now found.ways
-        → found.at ≤ changes.count → AreFound clients edges changes places.old.items
-        → AreFound clients edges changes places.new.items }
+        → found.at ≤ changes.count → AreWaysFound clients edges changes places.old.items
+        → AreWaysFound clients edges changes places.new.items }
 {
     let place = place_of(source);
     make_place(places, place)?;
@@ -230,8 +230,8 @@ impl WayTable {
         ensures changes { self.new.changes ≡ record self.old.changes { count = result } }
         ensures counts { self.new.counts.kept.items ≡ [] }
         ensures earlier { (clients : map.FinMap nat_cmp Client) (edges : List Edge)
-            → AreFound clients edges self.old.changes self.old.places.items
-            → AreFound clients edges self.old.changes self.new.places.items
+            → AreWaysFound clients edges self.old.changes self.old.places.items
+            → AreWaysFound clients edges self.old.changes self.new.places.items
             × AreEarlier result self.new.places.items }
     {
         self.counts.clear();

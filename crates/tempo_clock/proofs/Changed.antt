@@ -5,7 +5,7 @@ use Rattle.std.proofs.lemmas.List.{append_assoc, length-take-le}
 use Rattle.tempo_clock.specs.declared.entry.TempoEntry.{TempoEntry}
 use Rattle.tempo_clock.specs.Entries.{is_tempo}
 use Rattle.tempo_clock.specs.Ticks.{Tempos, numerator, with_tempo_from}
-use Rattle.tempo_clock.specs.Kept.{entry_at, AreOrdered, IsSound, AreBefore}
+use Rattle.tempo_clock.specs.Kept.{entry_at, AreOrdered, AreTemposSound, AreBefore}
 use Rattle.tempo_clock.specs.Shared.{tempos_seen, IsMapKept}
 use Rattle.tempo_clock.proofs.Comparisons.{order}
 use Rattle.tempo_clock.proofs.Made.{tempo_above}
@@ -141,7 +141,7 @@ module _ (table : Tempos) (kept : ℕ) (own : List TempoEntry) (starts : List �
   alike : (t : ℕ) → t ≤ from → numerator (tempos_seen table a (take b own ++ record { tick = from; tempo = tempo } ∷ [])) t ≡ numerator (tempos_seen table kept own) t
   alike t h = ap (λ m. numerator m t) seen_changed ∙ numerator-changed (tempos_seen table kept own) from tempo t h
 
-  sound_changed : is_tempo tempo ≡ true → table.division < 32768 → IsSound (tempos_seen table a (take b own ++ record { tick = from; tempo = tempo } ∷ []))
+  sound_changed : is_tempo tempo ≡ true → table.division < 32768 → AreTemposSound (tempos_seen table a (take b own ++ record { tick = from; tempo = tempo } ∷ []))
   sound_changed t d =
       let range = tempo_above tempo t in
       let before : AreBefore (take kept table.entries ++ own) from (a + b) = before_parts (take kept table.entries) own from a b k.sound.ordered p q in

@@ -8,7 +8,7 @@ use Rattle.std.proofs.lemmas.List.{get_or_default, get_or-append-add, length-app
 use Rattle.std.proofs.lemmas.List.Elements.{filter-append}
 use Rattle.tempo_clock.specs.declared.entry.TempoEntry.{TempoEntry}
 use Rattle.tempo_clock.specs.Ticks.{Tempos, resolution, numerator, tick_at}
-use Rattle.tempo_clock.specs.Kept.{entry_at, AreOrdered, IsSound, IsCut, AreBefore}
+use Rattle.tempo_clock.specs.Kept.{entry_at, AreOrdered, AreTemposSound, IsCut, AreBefore}
 use Rattle.tempo_clock.specs.Shared.{tempos_seen, IsMapKept}
 use Rattle.tempo_clock.proofs.Comparisons.{order}
 use Rattle.tempo_clock.proofs.Numerators.{not_falling, numerator-rises, numerator-segment}
@@ -136,13 +136,13 @@ pub seen_whole : (table : Tempos) (kept : ℕ) (own : List TempoEntry) → lengt
 seen_whole table kept own h e =
     ap (λ es. record { division = table.division; entries = es }) (ap (λ ys. take kept table.entries ++ ys) e ∙ append_none (take kept table.entries) ∙ take_all kept table.entries h)
 
-pub kept-whole : (table : Tempos) (kept : ℕ) (own : List TempoEntry) (starts : List ℕ) → kept ≡ length table.entries → own ≡ [] → starts ≡ [] → IsSound table → IsMapKept table kept own starts
+pub kept-whole : (table : Tempos) (kept : ℕ) (own : List TempoEntry) (starts : List ℕ) → kept ≡ length table.entries → own ≡ [] → starts ≡ [] → AreTemposSound table → IsMapKept table kept own starts
 kept-whole table kept own starts n e f s =
     let same : tempos_seen table kept own ≡ table = seen_whole table kept own (omega arith) e in
     let none : length own ≡ 0 = ap length e in
     record {
       within = omega arith;
-      sound = subst IsSound (sym same) s;
+      sound = subst AreTemposSound (sym same) s;
       counted = ap length f ∙ sym none;
       starting = λ i h. absurd (omega arith);
       by_table = λ t _. ap (λ m. numerator m t) (sym same);

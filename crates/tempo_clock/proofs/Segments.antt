@@ -2,14 +2,14 @@
 use Rattle.std.proofs.Common.{◌≡◌, ◌≢◌, ◌≤◌, ◌<◌, ◌+◌, ◌*◌, ◌-◌, ◌^◌, ◌⊎◌, inl, inr, ℕ, List, length, get_or, ap, arith}
 use Rattle.tempo_clock.specs.declared.entry.TempoEntry.{TempoEntry}
 use Rattle.tempo_clock.specs.Ticks.{Tempos, tempo_or, duration, numerator}
-use Rattle.tempo_clock.specs.Kept.{entry_at, IsSound, AreStartsKept}
+use Rattle.tempo_clock.specs.Kept.{entry_at, AreTemposSound, AreStartsKept}
 use Rattle.tempo_clock.proofs.Numerators.{numerator-zero, numerator-run, numerator-small, numerator-segment, duration-smpte, duration-metrical, tempo_or-all, tempo_or-above}
 
 -- the map has entries, or is by frames
 kinds : (m : Tempos) → (m.division < 32768) ⊎ (32768 ≤ m.division)
 kinds m = grind arith
 
-pub sound-lasts : (m : Tempos) → IsSound m → (u : ℕ) → 0 < duration m u
+pub sound-lasts : (m : Tempos) → AreTemposSound m → (u : ℕ) → 0 < duration m u
 sound-lasts m k u = elim (kinds m) [
   | inl metrical ↦
       let tempo : 0 < tempo_or 0 m.entries u = tempo_or-above m.entries u k.ordered (k.metrical metrical) in
@@ -18,7 +18,7 @@ sound-lasts m k u = elim (kinds m) [
   | inr smpte ↦ let e : duration m u ≡ 1000000000 = duration-smpte m u smpte in omega arith
 ]
 
-pub sound-brief : (m : Tempos) → IsSound m → (u : ℕ) → duration m u ≤ 2 ^ 34
+pub sound-brief : (m : Tempos) → AreTemposSound m → (u : ℕ) → duration m u ≤ 2 ^ 34
 sound-brief m k u = elim (kinds m) [
   | inl metrical ↦
       let tempo : tempo_or 0 m.entries u < 2 ^ 24 = tempo_or-all (λ n. n < 2 ^ 24) 0 m.entries u (omega arith) (λ i below. k.ordered.below i) in
@@ -27,11 +27,11 @@ sound-brief m k u = elim (kinds m) [
   | inr smpte ↦ let e : duration m u ≡ 1000000000 = duration-smpte m u smpte in omega arith
 ]
 
-pub sound-small : (m : Tempos) → IsSound m → (t : ℕ) → numerator m t ≤ t * 2 ^ 34
+pub sound-small : (m : Tempos) → AreTemposSound m → (t : ℕ) → numerator m t ≤ t * 2 ^ 34
 sound-small m k t = numerator-small m (2 ^ 34) t (sound-brief m k)
 
 -- without entries, each tick lasts a second
-pub segment-smpte : (m : Tempos) → IsSound m → length m.entries ≡ 0 → (t : ℕ) → numerator m t ≡ 0 + (t - 0) * 1000000000
+pub segment-smpte : (m : Tempos) → AreTemposSound m → length m.entries ≡ 0 → (t : ℕ) → numerator m t ≡ 0 + (t - 0) * 1000000000
 segment-smpte m k none t = elim (kinds m) [
   | inl metrical ↦ let some : 0 < length m.entries = k.metrical metrical in absurd (omega arith)
   | inr smpte ↦
@@ -42,7 +42,7 @@ segment-smpte m k none t = elim (kinds m) [
 ]
 
 -- with entries, the map is not by frames
-pub sound-metrical : (m : Tempos) (i : ℕ) → IsSound m → i < length m.entries → m.division < 32768
+pub sound-metrical : (m : Tempos) (i : ℕ) → AreTemposSound m → i < length m.entries → m.division < 32768
 sound-metrical m i k h = elim (kinds m) [
   | inl metrical ↦ metrical
   | inr smpte ↦ let none : length m.entries ≡ 0 = k.smpte smpte in absurd (omega arith)

@@ -23,7 +23,7 @@ pub record AreStarts (m : Tempos) (starts : List ℕ) : Type 0 where
       → slice_index starts i ≡ numerator m (entry_at m.entries i).tick
 
 -- there are entries where the division is metrical, none by frames, and they are in order
-pub record IsSound (m : Tempos) : Type 0 where
+pub record AreTemposSound (m : Tempos) : Type 0 where
   pub metrical : m.division < 32768 → 0 < length m.entries
   pub smpte : 32768 ≤ m.division → length m.entries ≡ 0
   pub ordered : AreOrdered m.entries
@@ -33,7 +33,7 @@ pub record AreStartsKept (m : Tempos) (ppq : ℕ) (starts : List ℕ) : Type 0 w
   pub counted_by : ppq ≡ resolution m
   pub some_ticks : 0 < ppq
   pub few_ticks : ppq < 2 ^ 15
-  pub sound : IsSound m
+  pub sound : AreTemposSound m
   pub starting : AreStarts m starts
 
 -- of values that rise, so many are up to a bound

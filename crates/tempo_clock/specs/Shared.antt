@@ -6,7 +6,7 @@ use Rattle.tempo_clock.specs.declared.added.Added.{Added}
 use Rattle.tempo_clock.specs.declared.tempo_map.BaseTable.{BaseTable}
 use Rattle.tempo_clock.specs.declared.tempo_map.BaseTable.TheVariants.{Frames, Shared}
 use Rattle.tempo_clock.specs.Ticks.{Tempos, numerator}
-use Rattle.tempo_clock.specs.Kept.{entry_at, IsSound}
+use Rattle.tempo_clock.specs.Kept.{entry_at, AreTemposSound}
 
 -- the table that a map is made of
 abbrev pub table_of : BaseTable → Tempos
@@ -23,7 +23,7 @@ tempos_seen table kept own =
 pub record IsMapKept (table : Tempos) (kept : ℕ) (own : List TempoEntry) (starts : List ℕ)
     : Type 0 where
   pub within : kept ≤ length table.entries
-  pub sound : IsSound (tempos_seen table kept own)
+  pub sound : AreTemposSound (tempos_seen table kept own)
   pub counted : length starts ≡ length own
   pub starting : (i : ℕ) → i < length own
       → slice_index starts i ≡ numerator (tempos_seen table kept own) (entry_at own i).tick
@@ -31,5 +31,5 @@ pub record IsMapKept (table : Tempos) (kept : ℕ) (own : List TempoEntry) (star
       → numerator table t ≡ numerator (tempos_seen table kept own) t
 
 -- one entry can be put in place of all of them without memory
-abbrev pub HasRoom : Added → Type 0
-HasRoom added = (0 < vec_capacity added.entries) × (0 < vec_capacity added.starts)
+abbrev pub HasRoomForTempo : Added → Type 0
+HasRoomForTempo added = (0 < vec_capacity added.entries) × (0 < vec_capacity added.starts)

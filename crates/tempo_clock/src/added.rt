@@ -2,7 +2,7 @@
 
 ghost use Rattle.std.specs.Prelude.{◌≡◌, ◌≤◌, ◌<◌, ◌*◌, ◌-◌, [], ◌∷◌, ◌++◌, length, take, slice_index, IfOk, OnOk, OnErr, vec_len, vec_capacity};
 ghost use Rattle.tempo_clock.specs.Kept.{entry_at};
-ghost use Rattle.tempo_clock.specs.Shared.{HasRoom};
+ghost use Rattle.tempo_clock.specs.Shared.{HasRoomForTempo};
 
 use crate::entry::TempoEntry;
 use crate::segment::Segment;
@@ -47,7 +47,7 @@ impl Added {
     pub(crate) fn with_room(alloc: Global) -> Result<Added, OutOfMemory>
         ensures entries { IfOk result (λ a. a.entries.items ≡ []) }
         ensures starts { IfOk result (λ a. a.starts.items ≡ []) }
-        ensures room { IfOk result (λ a. HasRoom a) }
+        ensures room { IfOk result (λ a. HasRoomForTempo a) }
     {
         Ok(Added {
             entries: Vec::with_capacity(alloc, 1)?,
@@ -88,8 +88,8 @@ impl Added {
             (self.new.starts.items ≡ take at self.old.starts.items ++ start ∷ []) }
         ensures entries_stay { OnErr result (self.new.entries.items ≡ self.old.entries.items) }
         ensures starts_stay { OnErr result (self.new.starts.items ≡ self.old.starts.items) }
-        ensures room { HasRoom self.old → HasRoom self.new }
-        ensures some { OnErr result (HasRoom self.old → 0 < at) }
+        ensures room { HasRoomForTempo self.old → HasRoomForTempo self.new }
+        ensures some { OnErr result (HasRoomForTempo self.old → 0 < at) }
         ensures full { OnErr result (at ≡ length self.old.entries.items) }
     {
         make_room(&mut self.entries, at)?;
@@ -105,7 +105,7 @@ impl Added {
     pub(crate) fn duplicate(&self) -> Result<Added, OutOfMemory>
         ensures entries { IfOk result (λ a. a.entries.items ≡ self.now.entries.items) }
         ensures starts { IfOk result (λ a. a.starts.items ≡ self.now.starts.items) }
-        ensures room { IfOk result (λ a. HasRoom self.now → HasRoom a) }
+        ensures room { IfOk result (λ a. HasRoomForTempo self.now → HasRoomForTempo a) }
     {
         Ok(Added {
             entries: copy_of(&self.entries)?,

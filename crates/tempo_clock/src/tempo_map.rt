@@ -4,7 +4,7 @@ ghost use Rattle.std.specs.Prelude.{◌≡◌, ◌≤◌, ◌<◌, ◌*◌, ◌^
 ghost use Rattle.std.specs.Rc.{rc_value};
 ghost use Rattle.tempo_clock.specs.Entries.{is_tempo, is_ppq, are_entries, is_smpte_rate, smpte_word};
 ghost use Rattle.tempo_clock.specs.Ticks.{resolution, numerator, nanos_at, tick_at, first_tick_from, with_tempo_from};
-ghost use Rattle.tempo_clock.specs.Shared.{table_of, HasRoom};
+ghost use Rattle.tempo_clock.specs.Shared.{table_of, HasRoomForTempo};
 
 use crate::added::Added;
 use crate::entry::TempoEntry;
@@ -64,7 +64,7 @@ pub struct TempoMap {
 impl Model for TempoMap {
     ghost use Rattle.std.specs.Prelude.{◌<◌};
     ghost use Rattle.tempo_clock.specs.Ticks.{Tempos};
-    ghost use Rattle.tempo_clock.specs.Shared.{table_of, tempos_seen, IsMapKept, HasRoom};
+    ghost use Rattle.tempo_clock.specs.Shared.{table_of, tempos_seen, IsMapKept, HasRoomForTempo};
 
     ghost Value = { Tempos };
 
@@ -72,7 +72,7 @@ impl Model for TempoMap {
 
     ghost invariant = { λ m.
         IsMapKept (table_of m.base) m.kept m.added.entries.items m.added.starts.items
-        × ((table_of m.base).division < 32768 → HasRoom m.added) };
+        × ((table_of m.base).division < 32768 → HasRoomForTempo m.added) };
 }
 
 impl TempoMap {
@@ -241,7 +241,7 @@ impl TempoMap {
 fn room_for(alloc: Global, division: u16) -> Result<Added, OutOfMemory>
     ensures entries { IfOk result (λ a. a.entries.items ≡ []) }
     ensures starts { IfOk result (λ a. a.starts.items ≡ []) }
-    ensures room { IfOk result (λ a. division < 32768 → HasRoom a) }
+    ensures room { IfOk result (λ a. division < 32768 → HasRoomForTempo a) }
 {
     if division >= 32768 {
         return Ok(Added::none(alloc));

@@ -3,7 +3,7 @@
 ghost use Rattle.std.specs.Prelude.{◌≡◌, ◌≤◌, ◌<◌, ◌+◌, ◌*◌, ◌-◌, ◌^◌, ◌↔◌, ℕ, true, false, [], length, IfOk, IsErrOf, IsOk, ◌&&◌};
 ghost use Rattle.tempo_clock.specs.Entries.{is_ppq, are_entries, is_smpte_rate, smpte_word};
 ghost use Rattle.tempo_clock.specs.Ticks.{resolution, numerator, tick_at};
-ghost use Rattle.tempo_clock.specs.Kept.{entry_at, AreOrdered, IsSound, AreStarts, IsSplit};
+ghost use Rattle.tempo_clock.specs.Kept.{entry_at, AreOrdered, AreTemposSound, AreStarts, IsSplit};
 
 use crate::entry::TempoEntry;
 use crate::fault::MapFault;
@@ -172,7 +172,7 @@ impl TempoTable {
     /// How many entries it has.
     pub(crate) fn len(&self) -> usize
         ensures value { result ≡ length self.now.entries }
-        ensures sound { IsSound self.now }
+        ensures sound { AreTemposSound self.now }
     {
         self.entries.len()
     }
