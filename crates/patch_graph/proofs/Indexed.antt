@@ -1,20 +1,23 @@
 -- How a graph's lists of neighbours follow its edges.
-use Rattle.std.proofs.Common.{◌≡◌, inl, inr, ℕ, ◌+◌, ◌<◌, ◌≤◌, Bool, true, false, not, cond, ◌&&◌, ◌||◌, List, [], ◌∷◌, ◌++◌, map, length, get_or, set, refl, ap, sym, subst, ◌∙◌, arith}
-use Rattle.std.specs.List.{filter}
+use Rattle.std.proofs.Common.{◌≡◌, inl, inr, ℕ, zero, suc, ◌+◌, ◌-◌, ◌<◌, ◌≤◌, Bool, true, false, not, cond, eqb, ◌&&◌, ◌||◌, List, [], ◌∷◌, ◌++◌, map, length, get_or, set, Option, Some, None, is_some, refl, ap, sym, subst, ◌∙◌, arith}
+use Rattle.std.specs.List.{filter, list_any, slice_get}
+use Rattle.std.specs.Map.{lookup}
 use Rattle.std.proofs.lemmas.Bool.{false≢true, cases_eq, or_cases}
-use Rattle.std.proofs.lemmas.List.{get_or-set_same, get_or-set_other, length-set, length-append, length-map, map-append, map-set, get_or-map}
-use Rattle.std.proofs.Math.Seq.{map-set_same}
+use Rattle.std.proofs.lemmas.List.{get_or-set_same, get_or-set_other, length-set, length-append, map-append, append-nil}
 use Rattle.std.proofs.lemmas.List.Elements.{filter-append}
 use Rattle.std.proofs.lemmas.List.Folds.{list_any-append}
+use Rattle.std.proofs.lemmas.Option.{slice_get-get_or}
 use Rattle.node_table.specs.Addresses.{same}
-use Rattle.node_table.specs.Kept.{IsPlace}
+use Rattle.node_table.specs.Kept.{IsPlace, ReadsAs}
 use Rattle.node_table.specs.declared.number.Addr.{Addr}
 use Rattle.patch_graph.specs.declared.edge.Edge.{Edge}
 use Rattle.patch_graph.specs.Edges.{edge, is_edge, has_edge, without_edge, sources_of, most_sources}
 use Rattle.patch_graph.specs.Chains.{is_chain, are_edges, makes_cycle}
-use Rattle.patch_graph.specs.Index.{is_distinct, IsGraph, SameLists, HasPlace, IsListed, IsIndexed}
-use Rattle.patch_graph.proofs.Lists.{both_left, both_right, and_both, not_by, not_true, refuted, filter-outside, list_any-filter, length-filter_filter, filter-mapped}
-use Rattle.patch_graph.proofs.Same.{same-is, same-refl, same-from, same-sym, differ, place-is, is-place, place-below}
+use Rattle.patch_graph.specs.Index.{targets_of, origins_of, is_distinct, IsGraph, HasPlace, IsListed}
+use Rattle.patch_graph.specs.Aged.{IsRising, youngest, edges_of, AreAged}
+use Rattle.patch_graph.proofs.Lists.{both_left, both_right, and_both, not_by, not_true, refuted, filter-none, filter-map, filter-outside, list_any-filter, length-filter_filter, filter-mapped}
+use Rattle.patch_graph.proofs.Linked.{without_age, none_below, is_age, not_age, rising-filter, rising-last, rising-map, length-rising}
+use Rattle.patch_graph.proofs.Same.{same-is, same-from, same-sym, differ, place-is, is-place, place-below}
 use Rattle.patch_graph.proofs.Chained.{acyclic-added, acyclic-fewer}
 
 -- ---- one edge more
@@ -28,9 +31,6 @@ sources_of-added edges s t a =
     one : (b : Bool) → length (cond b (edge s t ∷ []) []) ≡ cond b 1 0
     one true = refl
     one false = refl
-
-sources_of-here : (edges : List Edge) (s t : Addr) → sources_of (edges ++ edge s t ∷ []) t ≡ sources_of edges t + 1
-sources_of-here edges s t = sources_of-added edges s t t ∙ ap (λ b. sources_of edges t + cond b 1 0) (same-refl t)
 
 sources_of-elsewhere : (edges : List Edge) (s t a : Addr) → same a t ≡ false → sources_of (edges ++ edge s t ∷ []) a ≡ sources_of edges a
 sources_of-elsewhere edges s t a n = sources_of-added edges s t a ∙ ap (λ b. sources_of edges a + cond b 1 0) n ∙ omega arith
@@ -65,10 +65,10 @@ module _ (edges : List Edge) (s t : Addr) (graph : IsGraph edges) (fresh : has_e
   graph-added = record { distinct = distinct-added edges s t graph.distinct fresh; few = few-added; acyclic = acyclic-added edges s t graph.acyclic clear }
 
 -- what stands at the place of a node
-abbrev pub listed_of : (Edge → Addr) → (Edge → Addr) → List Edge → Addr → List Addr
+abbrev pub listed_of : {X Y : Type 0} → (X → Addr) → (X → Y) → List X → Addr → List Y
 listed_of one other edges a = map other (filter (λ e. same a (one e)) edges)
 
-module _ (one other : Edge → Addr) (edges : List Edge) (g : Edge) where
+module _ {X Y : Type 0} (one : X → Addr) (other : X → Y) (edges : List X) (g : X) where
   list-added : (a : Addr) (b : Bool) → same a (one g) ≡ b → listed_of one other (edges ++ g ∷ []) a ≡ listed_of one other edges a ++ cond b (other g ∷ []) []
   list-added a b h =
       ap (map other) (filter-append (λ e. same a (one e)) edges (g ∷ []))
@@ -79,11 +79,7 @@ module _ (one other : Edge → Addr) (edges : List Edge) (g : Edge) where
       alone true = refl
       alone false = refl
 
-  append_nil : (xs : List Addr) → xs ++ [] ≡ xs
-  append_nil [] = refl
-  append_nil (x ∷ xs) = ap (λ ys. x ∷ ys) (append_nil xs)
-
-  pub listed-added : (lists : List (List Addr)) (r p : ℕ) → IsListed one other edges lists → length lists ≡ 2048 → IsPlace (one g) r p → IsListed one other (edges ++ g ∷ []) (set lists p (get_or lists p [] ++ other g ∷ []))
+  pub listed-added : (lists : List (List Y)) (r p : ℕ) → IsListed one other edges lists → length lists ≡ 2048 → IsPlace (one g) r p → IsListed one other (edges ++ g ∷ []) (set lists p (get_or lists p [] ++ other g ∷ []))
   listed-added lists r p h long at =
       record {
         list_places = λ _. length-set lists p (get_or lists p [] ++ other g ∷ []) ∙ long;
@@ -94,7 +90,7 @@ module _ (one other : Edge → Addr) (edges : List Edge) (g : Edge) where
               ∙ ap (λ xs. xs ++ other g ∷ []) (h.listed (one g) r p at) ∙ ap (λ x. listed_of one other edges x ++ other g ∷ []) (sym here)
               ∙ sym (list-added a true (same-from a (one g) here))
           | inr n ↦ get_or-set_other lists p place (get_or lists p [] ++ other g ∷ []) [] n ∙ h.listed a row place k
-              ∙ sym (list-added a false (differ a (one g) (λ e. n (is_place a row place k e))) ∙ append_nil (listed_of one other edges a))
+              ∙ sym (list-added a false (differ a (one g) (λ e. n (is_place a row place k e))) ∙ append-nil (listed_of one other edges a))
         ];
       }
     where
@@ -125,93 +121,168 @@ graph-filter q edges h =
       acyclic = acyclic-fewer edges (filter q edges) (λ a b. list_any-filter (is_edge a b) q edges) h.acyclic;
     }
 
--- where an edge is there are places
-some_places : {X : Type 0} (edges : List Edge) (s t : Addr) (xs : List X) → has_edge edges s t ≡ true → 0 < length edges + length xs
-some_places [] s t xs h = absurd (false≢true h)
-some_places (e ∷ es) s t xs h = omega arith
-
 pub same_edge : (s t : Addr) (e : Edge) → is_edge s t e ≡ true → e ≡ edge s t
 same_edge s t e h =
     let source : s ≡ e.source = same-is s e.source (both_left (same s e.source) (same t e.target) h) in
     let target : t ≡ e.target = same-is t e.target (both_right (same s e.source) (same t e.target) h) in
     λ j. record { source = sym source j; target = sym target j }
 
--- without the edge g, where the two ends of an edge tell whether it is g
-module _ (one other : Edge → Addr) (edges : List Edge) (g : Edge) (pair : (e : Edge) → is_edge g.source g.target e ≡ (same (one g) (one e) && same (other g) (other e))) where
-  list-elsewhere : (a : Addr) → (a ≡ one g → ⊥) → listed_of one other (without_edge edges g.source g.target) a ≡ listed_of one other edges a
-  list-elsewhere a n =
-      ap (map other) (filter-outside (λ e. same a (one e)) (λ e. not (is_edge g.source g.target e)) (λ e h. not_by (is_edge g.source g.target e) (λ k. n (same-is a (one e) h ∙ sym (same-is (one g) (one e) (both_left (same (one g) (one e)) (same (other g) (other e)) (sym (pair e) ∙ k)))))) edges)
+-- ---- the age of an edge
 
-  list-here : listed_of one other (without_edge edges g.source g.target) (one g) ≡ filter (λ x. not (same (other g) x)) (listed_of one other edges (one g))
-  list-here =
-      filter-mapped other (λ e. same (one g) (one e)) (λ e. not (is_edge g.source g.target e)) (λ x. not (same (other g) x)) (λ e h. ap not (pair e) ∙ ap (λ b. not (b && same (other g) (other e))) h) edges
+-- the edges without one of them, each with its age
+abbrev pub without : Addr → Addr → List (Edge × ℕ) → List (Edge × ℕ)
+without s t aged = filter (λ x. not (is_edge s t x.0)) aged
 
-  pub listed-removed : (lists : List (List Addr)) (r p : ℕ) → IsListed one other edges lists → length lists ≡ 2048 → IsPlace (one g) r p → IsListed one other (without_edge edges g.source g.target) (set lists p (filter (λ x. not (same (other g) x)) (get_or lists p [])))
+pub edges-without : (s t : Addr) (aged : List (Edge × ℕ)) → edges_of (without s t aged) ≡ without_edge (edges_of aged) s t
+edges-without s t aged = sym (filter-map (λ e. not (is_edge s t e)) (λ (x : Edge × ℕ). x.0) aged)
+
+-- an edge that is there has an age
+pub has_age : (aged : List (Edge × ℕ)) (s t : Addr) → is_some (lookup (is_edge s t) aged) ≡ has_edge (edges_of aged) s t
+has_age [] s t = refl
+has_age (x ∷ xs) s t = by (is_edge s t x.0) (has_age xs s t)
+  where
+    by : (b : Bool) → is_some (lookup (is_edge s t) xs) ≡ has_edge (edges_of xs) s t → is_some (cond b (Some x.1) (lookup (is_edge s t) xs)) ≡ (b || has_edge (edges_of xs) s t)
+    by true h = refl
+    by false h = h
+
+pub there_by_age : (aged : List (Edge × ℕ)) (s t : Addr) (n : ℕ) → lookup (is_edge s t) aged ≡ Some n → has_edge (edges_of aged) s t ≡ true
+there_by_age aged s t n h = sym (has_age aged s t) ∙ ap is_some h
+
+-- of distinct edges only one is this
+only_one : (x : Edge × ℕ) (xs : List (Edge × ℕ)) (s t : Addr) → is_distinct (edges_of (x ∷ xs)) ≡ true → is_edge s t x.0 ≡ true → has_edge (edges_of xs) s t ≡ false
+only_one x xs s t d h =
+    ap (λ (g : Edge). has_edge (edges_of xs) g.source g.target) (sym (same_edge s t x.0 h))
+    ∙ not_true (has_edge (edges_of xs) x.0.source x.0.target) (both_left (not (has_edge (edges_of xs) x.0.source x.0.target)) (is_distinct (edges_of xs)) d)
+
+distinct_rest : (x : Edge × ℕ) (xs : List (Edge × ℕ)) → is_distinct (edges_of (x ∷ xs)) ≡ true → is_distinct (edges_of xs) ≡ true
+distinct_rest x xs d = both_right (not (has_edge (edges_of xs) x.0.source x.0.target)) (is_distinct (edges_of xs)) d
+
+age_above : (k : ℕ) (xs : List (Edge × ℕ)) (next : ℕ) (s t : Addr) (n : ℕ) → IsRising k xs next → lookup (is_edge s t) xs ≡ Some n → k ≤ n
+age_above k [] next s t n h e = absurd (no e)
+  where
+    no : ◌≡◌ {A = Option ℕ} None (Some n) → ⊥
+    no e = cc
+age_above k (x ∷ xs) next s t n h e = by (is_edge s t x.0) e (λ f. age_above (x.1 + 1) xs next s t n h.1 f)
+  where
+    by : (b : Bool) → cond b (Some x.1) (lookup (is_edge s t) xs) ≡ Some n → (lookup (is_edge s t) xs ≡ Some n → x.1 + 1 ≤ n) → k ≤ n
+    by true f more = let is : x.1 ≡ n = cc in omega (arith, h.0)
+    by false f more = let rest : x.1 + 1 ≤ n = more f in omega (arith, h.0)
+
+-- what goes by its age is the edge
+pub gone_by_age : (k : ℕ) (xs : List (Edge × ℕ)) (next : ℕ) (s t : Addr) (n : ℕ) → IsRising k xs next → is_distinct (edges_of xs) ≡ true → lookup (is_edge s t) xs ≡ Some n → (without_age n xs ≡ without s t xs) × (length (without s t xs) + 1 ≡ length xs)
+gone_by_age k [] next s t n h d e = absurd (no e)
+  where
+    no : ◌≡◌ {A = Option ℕ} None (Some n) → ⊥
+    no e = cc
+gone_by_age k (x ∷ xs) next s t n h d e = by (is_edge s t x.0) refl e (λ f. gone_by_age (x.1 + 1) xs next s t n h.1 (distinct_rest x xs d) f) (λ f. age_above (x.1 + 1) xs next s t n h.1 f)
+  where
+    all_stay : is_edge s t x.0 ≡ true → without s t xs ≡ xs
+    all_stay b = filter-none (λ y. is_edge s t y.0) xs (any_edges xs ∙ only_one x xs s t d b)
+      where
+        any_edges : (ys : List (Edge × ℕ)) → list_any (λ y. is_edge s t y.0) ys ≡ has_edge (edges_of ys) s t
+        any_edges [] = refl
+        any_edges (y ∷ ys) = ap (λ b. is_edge s t y.0 || b) (any_edges ys)
+
+    by : (b : Bool) → is_edge s t x.0 ≡ b → cond b (Some x.1) (lookup (is_edge s t) xs) ≡ Some n → (lookup (is_edge s t) xs ≡ Some n → (without_age n xs ≡ without s t xs) × (length (without s t xs) + 1 ≡ length xs)) → (lookup (is_edge s t) xs ≡ Some n → x.1 + 1 ≤ n) →
+        (cond (not (eqb x.1 n)) (x ∷ without_age n xs) (without_age n xs) ≡ cond (not b) (x ∷ without s t xs) (without s t xs)) × (length (cond (not b) (x ∷ without s t xs) (without s t xs)) + 1 ≡ suc (length xs))
+    by true b f more low = let is : x.1 ≡ n = cc in (
+      ap (λ c. cond c (x ∷ without_age n xs) (without_age n xs)) (is_age x.1 n is) ∙ none_below n (x.1 + 1) xs next (omega (arith, is)) h.1 ∙ sym (all_stay b),
+      ap (λ ys. length ys + 1) (all_stay b) ∙ omega arith,
+    )
+    by false b f more low = let less : x.1 + 1 ≤ n = low f in (
+      ap (λ c. cond c (x ∷ without_age n xs) (without_age n xs)) (not_age x.1 n (λ i. omega (arith, less, i))) ∙ ap (λ ys. x ∷ ys) (more f).0,
+      omega (arith, (more f).1),
+    )
+
+-- ---- from one end of the edges, where a test of an edge tests both its ends
+module _ (one oth : Edge → Addr) (a b : Addr) (test : Edge → Bool) (pair : (e : Edge) → test e ≡ (same a (one e) && same b (oth e))) where
+  abbrev link : Edge × ℕ → Addr × ℕ
+  link x = (oth x.0, x.1)
+
+  abbrev links : List (Edge × ℕ) → List (Addr × ℕ)
+  links xs = listed_of (λ x. one x.0) link xs a
+
+  pub age_from : (xs : List (Edge × ℕ)) → lookup (same b) (links xs) ≡ lookup test xs
+  age_from [] = refl
+  age_from (x ∷ xs) = by (same a (one x.0)) (age_from xs) ∙ ap (λ c. cond c (Some x.1) (lookup test xs)) (sym (pair x.0))
+    where
+      by : (c : Bool) → lookup (same b) (links xs) ≡ lookup test xs → lookup (same b) (map link (cond c (x ∷ filter (λ y. same a (one y.0)) xs) (filter (λ y. same a (one y.0)) xs))) ≡ cond (c && same b (oth x.0)) (Some x.1) (lookup test xs)
+      by true h = ap (cond (same b (oth x.0)) (Some x.1)) h
+      by false h = h
+
+  -- what stands at one end of them has the age of its edge
+  pub age_at_place : (xs : List (Edge × ℕ)) (i n : ℕ) → ((x : Edge × ℕ) (ys : List (Edge × ℕ)) → is_distinct (edges_of (x ∷ ys)) ≡ true → test x.0 ≡ true → lookup test ys ≡ Some n → ⊥) → is_distinct (edges_of xs) ≡ true → slice_get (links xs) i ≡ Some (b, n) → lookup test xs ≡ Some n
+  age_at_place [] i n once d h = absurd (no h)
+    where
+      no : ◌≡◌ {A = Option (Addr × ℕ)} None (Some (b, n)) → ⊥
+      no e = cc
+  age_at_place (x ∷ xs) i n once d h = by (same a (one x.0)) refl i h (λ j k. age_at_place xs j n once (distinct_rest x xs d) k)
+    where
+      past : lookup test xs ≡ Some n → (c : Bool) → test x.0 ≡ c → cond c (Some x.1) (lookup test xs) ≡ Some n
+      past k true e = absurd (once x xs d e k)
+      past k false e = k
+
+      by : (c : Bool) → same a (one x.0) ≡ c → (i : ℕ) → slice_get (map link (cond c (x ∷ filter (λ y. same a (one y.0)) xs) (filter (λ y. same a (one y.0)) xs))) i ≡ Some (b, n) → ((j : ℕ) → slice_get (links xs) j ≡ Some (b, n) → lookup test xs ≡ Some n) → lookup test (x ∷ xs) ≡ Some n
+      by true e zero k more =
+          let both : link x ≡ (b, n) = cc in
+          let node : b ≡ oth x.0 = ap (λ (p : Addr × ℕ). p.0) (sym both) in
+          let age : x.1 ≡ n = ap (λ (p : Addr × ℕ). p.1) both in
+          ap (λ c. cond c (Some x.1) (lookup test xs)) (pair x.0 ∙ and_both (same a (one x.0)) (same b (oth x.0)) e (same-from b (oth x.0) node)) ∙ ap Some age
+      by true e (suc i) k more = past (more i k) (test x.0) refl
+      by false e i k more = past (more i k) (test x.0) refl
+
+-- ---- fewer edges in a table
+
+-- without the edge from s to t, of the age n
+module _ (one : Edge × ℕ → Addr) (other : Edge × ℕ → Addr × ℕ) (keeps : (x : Edge × ℕ) → (other x).1 ≡ x.1) (aged : List (Edge × ℕ)) (s t end : Addr) (n : ℕ) (gone : without_age n aged ≡ without s t aged) (ends : (x : Edge × ℕ) → is_edge s t x.0 ≡ true → one x ≡ end) where
+  list-elsewhere : (a : Addr) → (a ≡ end → ⊥) → listed_of one other (without s t aged) a ≡ listed_of one other aged a
+  list-elsewhere a d =
+      ap (map other) (filter-outside (λ x. same a (one x)) (λ x. not (is_edge s t x.0)) (λ x h. not_by (is_edge s t x.0) (λ k. d (same-is a (one x) h ∙ ends x k))) aged)
+
+  list-here : (a : Addr) → listed_of one other (without s t aged) a ≡ without_age n (listed_of one other aged a)
+  list-here a =
+      ap (λ xs. listed_of one other xs a) (sym gone)
+      ∙ filter-mapped other (λ x. same a (one x)) (λ x. not (eqb x.1 n)) (λ y. not (eqb y.1 n)) (λ x h. ap (λ m. not (eqb m n)) (sym (keeps x))) aged
+
+  pub listed-removed : (lists : List (List (Addr × ℕ))) (r p : ℕ) → IsListed one other aged lists → length lists ≡ 2048 → IsPlace end r p → IsListed one other (without s t aged) (set lists p (without_age n (get_or lists p [])))
   listed-removed lists r p h long at =
       record {
-        list_places = λ _. length-set lists p (filter (λ x. not (same (other g) x)) (get_or lists p [])) ∙ long;
+        list_places = λ _. length-set lists p (without_age n (get_or lists p [])) ∙ long;
         listed = λ a row place k. elim (cases_eq place p) [
-          | inl e ↦ let here : a ≡ one g = place-is a (one g) row r p (subst (IsPlace a row) e k) at in
-              ap (λ n. get_or (set lists p (filter (λ x. not (same (other g) x)) (get_or lists p []))) n []) e
-              ∙ get_or-set_same lists p (filter (λ x. not (same (other g) x)) (get_or lists p [])) [] (subst (λ n. p < n) (sym long) (place-below (one g) r p at))
-              ∙ ap (filter (λ x. not (same (other g) x))) (h.listed (one g) r p at)
-              ∙ sym list-here
-              ∙ ap (listed_of one other (without_edge edges g.source g.target)) (sym here)
-          | inr n ↦ get_or-set_other lists p place (filter (λ x. not (same (other g) x)) (get_or lists p [])) [] n ∙ h.listed a row place k
-              ∙ sym (list-elsewhere a (λ e. n (is-place a (one g) row r place p k at e)))
+          | inl e ↦ let here : a ≡ end = place-is a end row r p (subst (IsPlace a row) e k) at in
+              ap (λ m. get_or (set lists p (without_age n (get_or lists p []))) m []) e
+              ∙ get_or-set_same lists p (without_age n (get_or lists p [])) [] (subst (λ m. p < m) (sym long) (place-below end r p at))
+              ∙ ap (without_age n) (h.listed end r p at)
+              ∙ sym (list-here end)
+              ∙ ap (listed_of one other (without s t aged)) (sym here)
+          | inr d ↦ get_or-set_other lists p place (without_age n (get_or lists p [])) [] d ∙ h.listed a row place k
+              ∙ sym (list-elsewhere a (λ e. d (is-place a end row r place p k at e)))
         ];
       }
 
--- ---- tables of vectors
-
-module _ {V : Type 0} (items : V → List Addr) (one other : Edge → Addr) (ts : List V) (edges : List Edge) (h : IsListed one other edges (map items ts)) where
-  at_place : (p : ℕ) (d : V) → p < length ts → items (get_or ts p d) ≡ get_or (map items ts) p []
-  at_place p d within = sym (get_or-map items ts p d [] within)
-
-  -- where an edge is, each node has its place
-  pub long_at : (s t : Addr) → has_edge edges s t ≡ true → length ts ≡ 2048
-  long_at s t there = sym (length-map ts items) ∙ h.list_places (some_places edges s t (map items ts) there)
-
-  pub place_at : (s t a : Addr) (r p : ℕ) → has_edge edges s t ≡ true → IsPlace a r p → p < length ts
-  place_at s t a r p there at = subst (λ n. p < n) (sym (long_at s t there)) (place-below a r p at)
-
-  pub list_is : (a : Addr) (r p : ℕ) (d : V) → p < length ts → IsPlace a r p → items (get_or ts p d) ≡ listed_of one other edges a
-  list_is a r p d within at = at_place p d within ∙ h.listed a r p at
-
-  -- the lists get their places
-  pub list-made : (ts' : List V) → length ts' ≡ 2048 → SameLists items ts' ts → IsListed one other edges (map items ts')
-  list-made ts' long same = record { list_places = λ _. length-map ts' items ∙ long; listed = λ a row place k. same place ∙ h.listed a row place k }
-
-  -- a vector with more room
-  pub list-reserved : (p : ℕ) (d v : V) → items v ≡ items (get_or ts p d) → IsListed one other edges (map items (set ts p v))
-  list-reserved p d v e = subst (IsListed one other edges) (sym (map-set_same items ts p v d e)) h
-
-  pub list-pushed : (g : Edge) (r p : ℕ) (d v : V) → length ts ≡ 2048 → IsPlace (one g) r p → items v ≡ items (get_or ts p d) ++ other g ∷ [] → IsListed one other (edges ++ g ∷ []) (map items (set ts p v))
-  list-pushed g r p d v long at more =
-      let rest : items v ≡ get_or (map items ts) p [] ++ other g ∷ [] = more ∙ ap (λ xs. xs ++ other g ∷ []) (at_place p d (subst (λ n. p < n) (sym long) (place-below (one g) r p at))) in
-      subst (IsListed one other (edges ++ g ∷ [])) (ap (set (map items ts) p) (sym rest) ∙ sym (map-set items ts p v))
-      (listed-added one other edges g (map items ts) r p h (length-map ts items ∙ long) at)
-
-  pub list-taken : (g : Edge) → ((e : Edge) → is_edge g.source g.target e ≡ (same (one g) (one e) && same (other g) (other e))) → (r p : ℕ) (d v : V) → has_edge edges g.source g.target ≡ true → IsPlace (one g) r p →
-      items v ≡ filter (λ x. not (same (other g) x)) (items (get_or ts p d)) → IsListed one other (without_edge edges g.source g.target) (map items (set ts p v))
-  list-taken g pair r p d v there at left =
-      let rest : items v ≡ filter (λ x. not (same (other g) x)) (get_or (map items ts) p []) = left ∙ ap (filter (λ x. not (same (other g) x))) (at_place p d (place_at g.source g.target (one g) r p there at)) in
-      subst (IsListed one other (without_edge edges g.source g.target)) (ap (set (map items ts) p) (sym rest) ∙ sym (map-set items ts p v))
-      (listed-removed one other edges g pair (map items ts) r p h (length-map ts items ∙ long_at g.source g.target there) at)
+-- the lists get their places
+pub list-made : {X Y : Type 0} (one : X → Addr) (other : X → Y) (edges : List X) (lists lists' : List (List Y)) → IsListed one other edges lists → length lists' ≡ 2048 → ReadsAs [] lists' lists → IsListed one other edges lists'
+list-made one other edges lists lists' h long same = record { list_places = λ _. long; listed = λ a row place k. same place ∙ h.listed a row place k }
 
 -- ---- both tables
 
-abbrev pub onto : Edge → Addr
-onto e = e.target
+abbrev pub onto : Edge × ℕ → Addr × ℕ
+onto x = (x.0.target, x.1)
 
-abbrev pub out_of : Edge → Addr
-out_of e = e.source
+abbrev pub out_of : Edge × ℕ → Addr × ℕ
+out_of x = (x.0.source, x.1)
 
-pair_onward : (g e : Edge) → is_edge g.source g.target e ≡ (same g.source e.source && same g.target e.target)
-pair_onward g e = refl
+abbrev pub from : Edge × ℕ → Addr
+from x = x.0.source
 
-pair_back : (g e : Edge) → is_edge g.source g.target e ≡ (same g.target e.target && same g.source e.source)
-pair_back g e = swap (same g.source e.source) (same g.target e.target)
+abbrev pub into : Edge × ℕ → Addr
+into x = x.0.target
+
+pub pair_onward : (s t : Addr) (e : Edge) → is_edge s t e ≡ (same s e.source && same t e.target)
+pair_onward s t e = refl
+
+pub pair_back : (s t : Addr) (e : Edge) → is_edge s t e ≡ (same t e.target && same s e.source)
+pair_back s t e = swap (same s e.source) (same t e.target)
   where
     swap : (b c : Bool) → (b && c) ≡ (c && b)
     swap b c = grind arith
@@ -226,71 +297,134 @@ placed-added edges g from to h e there = elim (or_cases (has_edge edges e.source
     last : (is_edge e.source e.target g || false) ≡ true → is_edge e.source e.target g ≡ true
     last k = grind arith
 
-module _ {V : Type 0} (items : V → List Addr) (ts us : List V) (edges : List Edge) where
-  abbrev pub Kept : Type 0
-  Kept = IsGraph edges × IsIndexed edges (map items ts) (map items us)
+-- where an edge is, the tables have their places
+some_places : {X : Type 0} (aged : List (Edge × ℕ)) (s t : Addr) (n : ℕ) (xs : List X) → lookup (is_edge s t) aged ≡ Some n → 0 < length aged + length xs
+some_places [] s t n xs h = absurd (no h)
+  where
+    no : ◌≡◌ {A = Option ℕ} None (Some n) → ⊥
+    no e = cc
+some_places (x ∷ aged) s t n xs h = omega arith
 
-  pub tables_made : Kept → (ts' us' : List V) → length ts' ≡ 2048 → SameLists items ts' ts → length us' ≡ 2048 → SameLists items us' us → IsGraph edges × IsIndexed edges (map items ts') (map items us')
-  tables_made k ts' us' long same wide alike = (
-    k.0,
-    record {
-      onward = list-made items out_of onto ts edges k.1.onward ts' long same;
-      back = list-made items onto out_of us edges k.1.back us' wide alike;
-      placed = k.1.placed;
-    },
-  )
+-- the nodes at the other ends
+nodes_of : (one oth : Edge → Addr) (a : Addr) (aged : List (Edge × ℕ)) → map (λ (y : Addr × ℕ). y.0) (listed_of (λ (x : Edge × ℕ). one x.0) (λ (x : Edge × ℕ). (oth x.0, x.1)) aged a) ≡ map oth (filter (λ e. same a (one e)) (edges_of aged))
+nodes_of one oth a [] = refl
+nodes_of one oth a (x ∷ xs) = by (same a (one x.0)) (nodes_of one oth a xs)
+  where
+    by : (b : Bool) → map (λ (y : Addr × ℕ). y.0) (listed_of (λ (x : Edge × ℕ). one x.0) (λ (x : Edge × ℕ). (oth x.0, x.1)) xs a) ≡ map oth (filter (λ e. same a (one e)) (edges_of xs)) →
+        map (λ (y : Addr × ℕ). y.0) (map (λ (x : Edge × ℕ). (oth x.0, x.1)) (cond b (x ∷ filter (λ x. same a (one x.0)) xs) (filter (λ x. same a (one x.0)) xs))) ≡ map oth (cond b (x.0 ∷ filter (λ e. same a (one e)) (edges_of xs)) (filter (λ e. same a (one e)) (edges_of xs)))
+    by true h = ap (λ ys. oth x.0 ∷ ys) h
+    by false h = h
 
-  pub targets_made : Kept → (ts' : List V) → length ts' ≡ 2048 → SameLists items ts' ts → IsGraph edges × IsIndexed edges (map items ts') (map items us)
-  targets_made k ts' long same = (
-    k.0,
-    record {
-      onward = list-made items out_of onto ts edges k.1.onward ts' long same;
-      back = k.1.back;
-      placed = k.1.placed;
-    },
-  )
+none_last : (xs : List (Addr × ℕ)) → youngest xs ≡ None → xs ≡ []
+none_last [] h = refl
+none_last (x ∷ xs) h = absurd (no (get_or (x ∷ xs) (length (x ∷ xs) - 1) x) (sym (slice_get-get_or (x ∷ xs) (length (x ∷ xs) - 1) x (omega arith)) ∙ h))
+  where
+    no : (y : Addr × ℕ) → ◌≡◌ {A = Option (Addr × ℕ)} (Some y) None → ⊥
+    no y e = cc
 
-  pub room_onward : Kept → (p : ℕ) (d v : V) → items v ≡ items (get_or ts p d) → IsGraph edges × IsIndexed edges (map items (set ts p v)) (map items us)
-  room_onward k p d v e = (k.0, record { onward = list-reserved items out_of onto ts edges k.1.onward p d v e; back = k.1.back; placed = k.1.placed })
+module _ (aged : List (Edge × ℕ)) (ts us : List (List (Addr × ℕ))) (next count : ℕ) (k : AreAged aged ts us next count) where
+  pub nodes_onward : (s : Addr) (row place : ℕ) → IsPlace s row place → map (λ x. x.0) (get_or ts place []) ≡ targets_of (edges_of aged) s
+  nodes_onward s row place at = ap (map (λ (x : Addr × ℕ). x.0)) (k.onward.listed s row place at) ∙ nodes_of (λ e. e.source) (λ e. e.target) s aged
 
-  pub room_back : Kept → (p : ℕ) (d v : V) → items v ≡ items (get_or us p d) → IsGraph edges × IsIndexed edges (map items ts) (map items (set us p v))
-  room_back k p d v e = (k.0, record { onward = k.1.onward; back = list-reserved items onto out_of us edges k.1.back p d v e; placed = k.1.placed })
+  pub nodes_back : (t : Addr) (row place : ℕ) → IsPlace t row place → map (λ x. x.0) (get_or us place []) ≡ origins_of (edges_of aged) t
+  nodes_back t row place at = ap (map (λ (x : Addr × ℕ). x.0)) (k.back.listed t row place at) ∙ nodes_of (λ e. e.target) (λ e. e.source) t aged
 
-  -- the same sources under another name
-  pub sources_are : Kept → (us' : List V) → us' ≡ us → IsGraph edges × IsIndexed edges (map items ts) (map items us')
-  sources_are k us' e = subst (λ xs. IsGraph edges × IsIndexed edges (map items ts) (map items xs)) (sym e) k
+  pub found_back : (s t : Addr) (row place : ℕ) (slice : List (List (Addr × ℕ))) (o : Option ℕ) → IsPlace t row place → slice ≡ us → o ≡ lookup (same s) (get_or slice place []) → lookup (is_edge s t) aged ≡ o
+  found_back s t row place slice o at e h =
+      sym (h ∙ ap (λ xs. lookup (same s) (get_or xs place [])) e ∙ ap (lookup (same s)) (k.back.listed t row place at) ∙ age_from (λ e. e.target) (λ e. e.source) t s (is_edge s t) (pair_back s t) aged)
 
-  -- the same edges under another name
-  pub edges_are : Kept → (es : List Edge) → es ≡ edges → IsGraph es × IsIndexed es (map items ts) (map items us)
-  edges_are k es e = subst (λ x. IsGraph x × IsIndexed x (map items ts) (map items us)) (sym e) k
+  once : (s t : Addr) (n : ℕ) (x : Edge × ℕ) (ys : List (Edge × ℕ)) → is_distinct (edges_of (x ∷ ys)) ≡ true → is_edge s t x.0 ≡ true → lookup (is_edge s t) ys ≡ Some n → ⊥
+  once s t n x ys d h e = false≢true (sym (only_one x ys s t d h) ∙ there_by_age ys s t n e)
 
-  pub connected : Kept → (es : List Edge) (s t : Addr) (r p q u : ℕ) (d v d' v' : V) → length ts ≡ 2048 → length us ≡ 2048 → es ≡ edges ++ edge s t ∷ [] → has_edge edges s t ≡ false → sources_of edges t < most_sources → makes_cycle edges s t ≡ false → IsPlace s r p → IsPlace t q u →
-      items v ≡ items (get_or ts p d) ++ t ∷ [] → items v' ≡ items (get_or us u d') ++ s ∷ [] → IsGraph es × IsIndexed es (map items (set ts p v)) (map items (set us u v'))
-  connected k es s t r p q u d v d' v' long wide e fresh room clear at to more more' =
-      subst (λ x. IsGraph x × IsIndexed x (map items (set ts p v)) (map items (set us u v'))) (sym e) (
-        graph-added edges s t k.0 fresh room clear,
-        record {
-          onward = list-pushed items out_of onto ts edges k.1.onward (edge s t) r p d v long at more;
-          back = list-pushed items onto out_of us edges k.1.back (edge s t) q u d' v' wide to more';
-          placed = placed-added edges (edge s t) (r, p, at) (q, u, to) k.1.placed;
-        },
-      )
+  pub last_onward : (s t : Addr) (n row place : ℕ) (slice : List (List (Addr × ℕ))) (o : Option (Addr × ℕ)) → IsPlace s row place → slice ≡ ts → o ≡ youngest (get_or slice place []) → o ≡ Some (t, n) → lookup (is_edge s t) aged ≡ Some n
+  last_onward s t n row place slice o at e h is =
+      age_at_place (λ e. e.source) (λ e. e.target) s t (is_edge s t) (pair_onward s t) aged (length (listed_of from onto aged s) - 1) n (once s t n) k.graph.distinct (sym (h ∙ ap (λ xs. youngest (get_or xs place [])) e ∙ ap youngest (k.onward.listed s row place at)) ∙ is)
 
-  pub disconnected : Kept → (es : List Edge) (s t : Addr) (r p q u : ℕ) (d v d' v' : V) → es ≡ without_edge edges s t → has_edge edges s t ≡ true → IsPlace s r p → IsPlace t q u →
-      items v ≡ filter (λ x. not (same t x)) (items (get_or ts p d)) → items v' ≡ filter (λ x. not (same s x)) (items (get_or us u d')) → IsGraph es × IsIndexed es (map items (set ts p v)) (map items (set us u v'))
-  disconnected k es s t r p q u d v d' v' e there at to left left' =
-      subst (λ x. IsGraph x × IsIndexed x (map items (set ts p v)) (map items (set us u v'))) (sym e) (
-        graph-filter (λ g. not (is_edge s t g)) edges k.0,
-        record {
-          onward = list-taken items out_of onto ts edges k.1.onward (edge s t) (pair_onward (edge s t)) r p d v there at left;
-          back = list-taken items onto out_of us edges k.1.back (edge s t) (pair_back (edge s t)) q u d' v' there to left';
-          placed = λ g h. k.1.placed g (list_any-filter (is_edge g.source g.target) (λ x. not (is_edge s t x)) edges h);
-        },
-      )
+  pub last_back : (s t : Addr) (n row place : ℕ) (slice : List (List (Addr × ℕ))) (o : Option (Addr × ℕ)) → IsPlace t row place → slice ≡ us → o ≡ youngest (get_or slice place []) → o ≡ Some (s, n) → lookup (is_edge s t) aged ≡ Some n
+  last_back s t n row place slice o at e h is =
+      age_at_place (λ e. e.target) (λ e. e.source) t s (is_edge s t) (pair_back s t) aged (length (listed_of into out_of aged t) - 1) n (once s t n) k.graph.distinct (sym (h ∙ ap (λ xs. youngest (get_or xs place [])) e ∙ ap youngest (k.back.listed t row place at)) ∙ is)
 
-  -- where an edge is, each node has its place
-  pub target_within : Kept → (s t a : Addr) (r p : ℕ) → has_edge edges s t ≡ true → IsPlace a r p → p < length ts
-  target_within k s t a r p there at = place_at items out_of onto ts edges k.1.onward s t a r p there at
+  pub no_onward : (s : Addr) (row place : ℕ) (slice : List (List (Addr × ℕ))) (o : Option (Addr × ℕ)) → IsPlace s row place → slice ≡ ts → o ≡ youngest (get_or slice place []) → o ≡ None → targets_of (edges_of aged) s ≡ []
+  no_onward s row place slice o at e h is = sym (nodes_onward s row place at) ∙ ap (map (λ (x : Addr × ℕ). x.0)) (none_last (get_or ts place []) (sym (h ∙ ap (λ xs. youngest (get_or xs place [])) e) ∙ is))
+
+  pub no_back : (t : Addr) (row place : ℕ) (slice : List (List (Addr × ℕ))) (o : Option (Addr × ℕ)) → IsPlace t row place → slice ≡ us → o ≡ youngest (get_or slice place []) → o ≡ None → origins_of (edges_of aged) t ≡ []
+  no_back t row place slice o at e h is = sym (nodes_back t row place at) ∙ ap (map (λ (x : Addr × ℕ). x.0)) (none_last (get_or us place []) (sym (h ∙ ap (λ xs. youngest (get_or xs place [])) e) ∙ is))
+
+  pub tables_made : (ts' us' : List (List (Addr × ℕ))) → length ts' ≡ 2048 → ReadsAs [] ts' ts → length us' ≡ 2048 → ReadsAs [] us' us → AreAged aged ts' us' next count
+  tables_made ts' us' long same wide alike = record {
+    graph = k.graph;
+    onward = list-made from onto aged ts ts' k.onward long same;
+    back = list-made into out_of aged us us' k.back wide alike;
+    placed = k.placed;
+    rising = k.rising;
+    counted = k.counted;
+  }
+
+  pub targets_made : (ts' us' : List (List (Addr × ℕ))) → length ts' ≡ 2048 → ReadsAs [] ts' ts → us' ≡ us → AreAged aged ts' us' next count
+  targets_made ts' us' long same e = record {
+    graph = k.graph;
+    onward = list-made from onto aged ts ts' k.onward long same;
+    back = subst (IsListed into out_of aged) (sym e) k.back;
+    placed = k.placed;
+    rising = k.rising;
+    counted = k.counted;
+  }
+
+  pub same_tables : (ts' us' : List (List (Addr × ℕ))) → ts' ≡ ts → us' ≡ us → AreAged aged ts' us' next count
+  same_tables ts' us' e f = subst (λ xs. AreAged aged xs us' next count) (sym e) (subst (λ xs. AreAged aged ts xs next count) (sym f) k)
+
+  module _ (s t : Addr) (n : ℕ) (found : lookup (is_edge s t) aged ≡ Some n) where
+    gone : (without_age n aged ≡ without s t aged) × (length (without s t aged) + 1 ≡ length aged)
+    gone = gone_by_age 0 aged next s t n k.rising k.graph.distinct found
+
+    targets_whole : length ts ≡ 2048
+    targets_whole = k.onward.list_places (some_places aged s t n ts found)
+
+    sources_whole : length us ≡ 2048
+    sources_whole = k.back.list_places (some_places aged s t n us found)
+
+    -- the tables have their places
+    pub tables_whole : (slice slice' : List (List (Addr × ℕ))) → slice ≡ ts → slice' ≡ us → (length slice ≡ 2048) × (length slice' ≡ 2048)
+    tables_whole slice slice' e f = (ap length e ∙ targets_whole, ap length f ∙ sources_whole)
+
+    pub some_count : 0 < count
+    some_count = omega (arith, k.counted, gone.1)
+
+    -- the edge is gone from both tables
+    pub unlinked : (ts' us' : List (List (Addr × ℕ))) (count' r p q u : ℕ) → IsPlace s r p → IsPlace t q u → ts' ≡ set ts p (without_age n (get_or ts p [])) → us' ≡ set us u (without_age n (get_or us u [])) → count' + 1 ≡ count → AreAged (without s t aged) ts' us' next count'
+    unlinked ts' us' count' r p q u at to e f c =
+        subst (λ xs. AreAged (without s t aged) xs us' next count') (sym e) (subst (λ xs. AreAged (without s t aged) (set ts p (without_age n (get_or ts p []))) xs next count') (sym f) (record {
+          graph = subst IsGraph (sym (edges-without s t aged)) (graph-filter (λ g. not (is_edge s t g)) (edges_of aged) k.graph);
+          onward = listed-removed from onto (λ x. refl) aged s t s n gone.0 (λ x h. ap (λ (g : Edge). g.source) (same_edge s t x.0 h)) ts r p k.onward targets_whole at;
+          back = listed-removed into out_of (λ x. refl) aged s t t n gone.0 (λ x h. ap (λ (g : Edge). g.target) (same_edge s t x.0 h)) us q u k.back sources_whole to;
+          placed = λ g h. k.placed g (list_any-filter (is_edge g.source g.target) (λ x. not (is_edge s t x)) (edges_of aged) (ap (λ es. has_edge es g.source g.target) (sym (edges-without s t aged)) ∙ h));
+          rising = rising-filter (λ x. not (is_edge s t x.0)) 0 aged next k.rising;
+          counted = omega (arith, k.counted, gone.1, c);
+        }))
+
+  -- all ages in the tables are below the next
+  pub young_onward : (a : Addr) (row place : ℕ) → IsPlace a row place → IsRising 0 (get_or ts place []) next
+  young_onward a row place at = subst (λ xs. IsRising 0 xs next) (sym (k.onward.listed a row place at)) (rising-map (λ g. g.target) 0 (filter (λ x. same a x.0.source) aged) next (rising-filter (λ x. same a x.0.source) 0 aged next k.rising))
+
+  pub young_back : (a : Addr) (row place : ℕ) → IsPlace a row place → IsRising 0 (get_or us place []) next
+  young_back a row place at = subst (λ xs. IsRising 0 xs next) (sym (k.back.listed a row place at)) (rising-map (λ g. g.source) 0 (filter (λ x. same a x.0.target) aged) next (rising-filter (λ x. same a x.0.target) 0 aged next k.rising))
+
+  pub count_low : count ≤ next
+  count_low = omega (arith, k.counted, length-rising 0 aged next k.rising)
+
+  -- the edge is in both tables
+  pub linked : (ts' us' : List (List (Addr × ℕ))) (s t : Addr) (next' count' r p q u : ℕ) → length ts ≡ 2048 → length us ≡ 2048 → has_edge (edges_of aged) s t ≡ false → sources_of (edges_of aged) t < most_sources → makes_cycle (edges_of aged) s t ≡ false → IsPlace s r p → IsPlace t q u →
+      ts' ≡ set ts p (get_or ts p [] ++ (t, next) ∷ []) → us' ≡ set us u (get_or us u [] ++ (s, next) ∷ []) → next' ≡ next + 1 → count' ≡ count + 1 → AreAged (aged ++ (edge s t, next) ∷ []) ts' us' next' count'
+  linked ts' us' s t next' count' r p q u long wide fresh room clear at to e f more one =
+      let edges : edges_of (aged ++ (edge s t, next) ∷ []) ≡ edges_of aged ++ edge s t ∷ [] = map-append (λ (x : Edge × ℕ). x.0) aged ((edge s t, next) ∷ []) in
+      record {
+        graph = subst IsGraph (sym edges) (graph-added (edges_of aged) s t k.graph fresh room clear);
+        onward = subst (IsListed from onto (aged ++ (edge s t, next) ∷ [])) (sym e) (listed-added from onto aged (edge s t, next) ts r p k.onward long at);
+        back = subst (IsListed into out_of (aged ++ (edge s t, next) ∷ [])) (sym f) (listed-added into out_of aged (edge s t, next) us q u k.back wide to);
+        placed = λ g h. placed-added (edges_of aged) (edge s t) (r, p, at) (q, u, to) k.placed g (ap (λ es. has_edge es g.source g.target) (sym edges) ∙ h);
+        rising = rising-last 0 aged next next' (edge s t) (omega (arith, more)) k.rising;
+        counted = omega (arith, one, k.counted, length-append aged ((edge s t, next) ∷ []));
+      }
 
 -- ---- no edges
 
@@ -298,16 +432,20 @@ no_chain : (a b : Addr) (es : List Edge) → are_edges [] es ≡ true → is_cha
 no_chain a b [] t h = false≢true h
 no_chain a b (e ∷ es) t h = false≢true (both_left false (are_edges [] es) t)
 
-pub empty_graph : (edges : List Edge) → edges ≡ [] → IsGraph edges
+empty_graph : IsGraph []
 unfolding most_sources
-empty_graph edges e = subst IsGraph (sym e) (record { distinct = refl; few = λ a. omega arith; acyclic = λ a r. no_chain a a r.0 r.1 r.2 })
+empty_graph = record { distinct = refl; few = λ a. omega arith; acyclic = λ a r. no_chain a a r.0 r.1 r.2 }
 
-no_list : (one other : Edge → Addr) → IsListed one other [] []
+no_list : {X Y : Type 0} (one : X → Addr) (other : X → Y) → IsListed one other [] []
 no_list one other = record { list_places = λ h. absurd (omega arith); listed = λ a row place k. refl }
 
-no_index : IsIndexed [] [] []
-no_index = record { onward = no_list out_of onto; back = no_list onto out_of; placed = λ e h. absurd (false≢true h) }
-
-pub empty_index : {V : Type 0} (items : V → List Addr) (edges : List Edge) (ts us : List V) → edges ≡ [] → ts ≡ [] → us ≡ [] → IsIndexed edges (map items ts) (map items us)
-empty_index items edges ts us e t c =
-    subst (λ es. IsIndexed es (map items ts) (map items us)) (sym e) (subst (λ vs. IsIndexed [] (map items vs) (map items us)) (sym t) (subst (λ vs. IsIndexed [] [] (map items vs)) (sym c) no_index))
+pub none_aged : (ts us : List (List (Addr × ℕ))) → ts ≡ [] → us ≡ [] → AreAged [] ts us 0 0
+none_aged ts us t u =
+    subst (λ xs. AreAged [] xs us 0 0) (sym t) (subst (λ xs. AreAged [] [] xs 0 0) (sym u) (record {
+      graph = empty_graph;
+      onward = no_list from onto;
+      back = no_list into out_of;
+      placed = λ e h. absurd (false≢true h);
+      rising = omega arith;
+      counted = refl;
+    }))

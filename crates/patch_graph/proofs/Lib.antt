@@ -1,8 +1,9 @@
+pub mod Gathered
+pub mod Linked
 pub mod Lists
 pub mod Same
 pub mod Chained
 pub mod Indexed
-pub mod ByAge
 pub mod Marks
 pub mod Searched
 pub mod Removed

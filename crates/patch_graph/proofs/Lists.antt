@@ -1,11 +1,10 @@
 -- Filters of lists.
 use Rattle.std.proofs.Common.{◌≡◌, ℕ, ◌≤◌, Bool, true, false, not, cond, ◌&&◌, List, [], ◌∷◌, ◌++◌, map, length, refl, sym, ap, ◌∙◌, arith}
 use Rattle.std.proofs.Common.{Option, None, Some, Bor, get_or, ltb}
-use Rattle.std.specs.Prelude.{is_some, IfSome, if◌then◌else◌}
+use Rattle.std.specs.Prelude.{is_some, IfSome}
 use Rattle.std.specs.Option.{option_copied}
 use Rattle.std.specs.List.{filter, list_any, list_all, flat_map, slice_get}
 use Rattle.std.proofs.lemmas.List.Elements.{filter-append}
-use Rattle.std.proofs.lemmas.Bool.{false≢true}
 use Rattle.std.proofs.lemmas.Bool.Decides.{nat_tests}
 use Rattle.std.proofs.lemmas.Option.{slice_get_past, slice_get-get_or}
 
@@ -72,10 +71,6 @@ module _ {X : Type 0} where
 pub looked_up : {X : Type 0} (o : Option (Bor X)) (xs : List X) (i : ℕ) → is_some o ≡ ltb i (length xs) → IfSome o (λ x. x.now ≡ get_or xs i x.now) → option_copied o ≡ slice_get xs i
 looked_up None xs i e h = sym (slice_get_past xs i (grind (arith, nat_tests)))
 looked_up (Some x) xs i e h = ap Some h ∙ sym (slice_get-get_or xs i x.now (grind (arith, nat_tests)))
-
-pub when_true : {X : Type 0} (b : Bool) (x y z : X) → b ≡ true → z ≡ (if b then x else y) → z ≡ x
-when_true true x y z h e = e
-when_true false x y z h e = absurd (false≢true h)
 
 pub both_ways : (x y : Bool) → (x ≡ true → y ≡ true) → (y ≡ true → x ≡ true) → x ≡ y
 both_ways true true h k = refl

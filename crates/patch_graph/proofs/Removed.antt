@@ -1,6 +1,5 @@
 -- What is left when the edges of a node go, one after another.
-use Rattle.std.proofs.Common.{◌≡◌, inl, inr, ℕ, zero, suc, ◌+◌, ◌*◌, ◌-◌, ◌<◌, ◌≤◌, Bool, true, false, not, cond, eqb, ◌&&◌, ◌||◌, List, [], ◌∷◌, map, length, take, Option, Some, None, refl, ap, sym, subst, ◌∙◌, arith}
-use Rattle.std.specs.Bool.{OnTrue, OnFalse}
+use Rattle.std.proofs.Common.{◌≡◌, inl, inr, ℕ, zero, suc, ◌+◌, ◌*◌, ◌-◌, ◌<◌, ◌≤◌, Bool, true, false, not, cond, eqb, ◌&&◌, ◌||◌, List, [], ◌∷◌, map, length, Option, Some, None, refl, ap, sym, subst, ◌∙◌, arith}
 use Rattle.std.specs.List.{filter, list_any, slice_get}
 use Rattle.std.proofs.lemmas.Bool.Decides.{nat_tests}
 use Rattle.std.proofs.lemmas.Bool.{false≢true, cases_eq, or_cases, eqb-true}
@@ -10,33 +9,20 @@ use Rattle.node_table.specs.declared.number.Addr.{Addr}
 use Rattle.node_table.specs.declared.number.Node.{Node}
 use Rattle.node_table.specs.declared.number.Node.TheVariants.{Port, Filter}
 use Rattle.patch_graph.specs.declared.edge.Edge.{Edge}
-use Rattle.patch_graph.specs.Edges.{is_edge, has_edge, touches, touches_client}
-use Rattle.patch_graph.specs.Index.{targets_of, origins_of, is_distinct, LosesOne, HasPlace}
-use Rattle.patch_graph.proofs.Lists.{both_left, both_right, and_both, not_by, not_true, refuted, filter-none, filter-outside, list_any-filter}
-use Rattle.patch_graph.proofs.Same.{same-is, same-refl, same-from, place-is}
+use Rattle.patch_graph.specs.Edges.{is_edge, has_edge, touches, touches_client, ends_at_client}
+use Rattle.patch_graph.specs.Index.{targets_of, origins_of, LosesOne, HasPlace}
+use Rattle.patch_graph.proofs.Lists.{and_both, not_by, not_true, refuted, filter-none, filter-outside, list_any-filter}
+use Rattle.patch_graph.proofs.Same.{same-is, same-refl, place-is}
 use Rattle.patch_graph.proofs.Indexed.{same_edge}
-use Rattle.patch_graph.proofs.Searched.{in_from_get, targets-in}
+use Rattle.patch_graph.proofs.Searched.{in_from_get}
 
 pub or_true : (b c : Bool) → c ≡ true → (b || c) ≡ true
 or_true true c h = refl
 or_true false c h = h
 
-pub on_true : (P : Type 0) (b : Bool) → (b ≡ true → P) → OnTrue b P
-on_true P true h = h refl
-on_true P false h = tt
+-- ---- the neighbours
 
-pub on_false : (P : Type 0) (b : Bool) → b ≡ true → OnFalse b P
-on_false P true h = tt
-on_false P false h = absurd (false≢true h)
-
--- no edges are there to go
-pub nothing_goes : (p : Edge → Bool) (xs : List Edge) → eqb (length xs) 0 ≡ true → xs ≡ filter p xs
-nothing_goes p [] h = refl
-nothing_goes p (x ∷ xs) h = let no : length (x ∷ xs) ≡ 0 = eqb-true (length (x ∷ xs)) 0 h in absurd (omega arith)
-
--- ---- the youngest neighbour
-
-origins-in : (edges : List Edge) (a x : Addr) → list_any (same x) (origins_of edges a) ≡ has_edge edges x a
+pub origins-in : (edges : List Edge) (a x : Addr) → list_any (same x) (origins_of edges a) ≡ has_edge edges x a
 origins-in [] a x = refl
 origins-in (e ∷ es) a x = by (same a e.target) (origins-in es a x)
   where
@@ -51,52 +37,6 @@ origins-in (e ∷ es) a x = by (same a e.target) (origins-in es a x)
     by : (b : Bool) → list_any (same x) (origins_of es a) ≡ has_edge es x a → list_any (same x) (map (λ e. e.source) (cond b (e ∷ filter (λ e. same a e.target) es) (filter (λ e. same a e.target) es))) ≡ ((same x e.source && b) || has_edge es x a)
     by true h = ap (λ c. same x e.source || c) h ∙ sym (ap (λ c. c || has_edge es x a) (and_true (same x e.source)))
     by false h = h ∙ sym (ap (λ c. c || has_edge es x a) (and_false (same x e.source)))
-
-pub last_target : (edges : List Edge) (a t : Addr) (ts : List Addr) → ts ≡ targets_of edges a → slice_get ts (length ts - 1) ≡ Some t → has_edge edges a t ≡ true
-last_target edges a t ts e h = sym (targets-in edges a t) ∙ ap (list_any (same t)) (sym e) ∙ in_from_get ts (length ts - 1) t h
-
-pub last_origin : (edges : List Edge) (a s : Addr) (ss : List Addr) → ss ≡ origins_of edges a → slice_get ss (length ss - 1) ≡ Some s → has_edge edges s a ≡ true
-last_origin edges a s ss e h = sym (origins-in edges a s) ∙ ap (list_any (same s)) (sym e) ∙ in_from_get ss (length ss - 1) s h
-
--- no address is there twice
-abbrev is_apart : List Addr → Bool
-is_apart [] = true
-is_apart (x ∷ xs) = not (list_any (same x) xs) && is_apart xs
-
-targets_apart : (edges : List Edge) (a : Addr) → is_distinct edges ≡ true → is_apart (targets_of edges a) ≡ true
-targets_apart [] a d = refl
-targets_apart (e ∷ es) a d =
-    by (same a e.source) refl (targets_apart es a (both_right (not (has_edge es e.source e.target)) (is_distinct es) d))
-  where
-    by : (b : Bool) → same a e.source ≡ b → is_apart (targets_of es a) ≡ true → is_apart (map (λ e. e.target) (cond b (e ∷ filter (λ e. same a e.source) es) (filter (λ e. same a e.source) es))) ≡ true
-    by false h more = more
-    by true h more =
-        let none : has_edge es e.source e.target ≡ false = not_true (has_edge es e.source e.target) (both_left (not (has_edge es e.source e.target)) (is_distinct es) d) in
-        and_both (not (list_any (same e.target) (targets_of es a))) (is_apart (targets_of es a)) (ap not (targets-in es a e.target ∙ ap (λ x. has_edge es x e.target) (same-is a e.source h) ∙ none)) more
-
-without_last : (xs : List Addr) (k : ℕ) (t : Addr) → length xs ≡ suc k → slice_get xs k ≡ Some t → is_apart xs ≡ true → take k xs ≡ filter (λ x. not (same t x)) xs
-without_last [] k t l h a = absurd (omega arith)
-without_last (x ∷ []) zero t l h a = let is : t ≡ x = cc in
-    sym (ap (λ b. cond (not b) (x ∷ []) []) (same-from t x is))
-without_last (x ∷ []) (suc k) t l h a = absurd (omega arith)
-without_last (x ∷ y ∷ ys) zero t l h a = absurd (omega arith)
-without_last (x ∷ y ∷ ys) (suc k) t l h a =
-    let other : same t x ≡ false = refuted (same t x) (λ e. false≢true (sym (not_true (list_any (same x) (y ∷ ys)) (both_left (not (list_any (same x) (y ∷ ys))) (is_apart (y ∷ ys)) a)) ∙ ap (λ z. list_any (same z) (y ∷ ys)) (sym (same-is t x e)) ∙ in_from_get (y ∷ ys) k t h)) in
-    ap (λ zs. x ∷ zs) (without_last (y ∷ ys) k t (omega arith) h (both_right (not (list_any (same x) (y ∷ ys))) (is_apart (y ∷ ys)) a))
-    ∙ sym (ap (λ b. cond (not b) (x ∷ filter (λ z. not (same t z)) (y ∷ ys)) (filter (λ z. not (same t z)) (y ∷ ys))) other)
-
-some_length : (xs : List Addr) (t : Addr) → slice_get xs (length xs - 1) ≡ Some t → length xs ≡ suc (length xs - 1)
-some_length [] t h = absurd (no h)
-  where
-    no : ◌≡◌ {A = Option Addr} None (Some t) → ⊥
-    no e = cc
-some_length (x ∷ xs) t h = omega arith
-
--- the targets but the last are those but it
-pub popped : (edges : List Edge) (a t : Addr) (ts xs : List Addr) → is_distinct edges ≡ true → ts ≡ targets_of edges a → xs ≡ targets_of edges a → slice_get xs (length xs - 1) ≡ Some t → take (length ts - 1) ts ≡ filter (λ x. not (same t x)) ts
-popped edges a t ts xs d e f h =
-    let at : slice_get ts (length ts - 1) ≡ Some t = subst (λ zs. slice_get zs (length zs - 1) ≡ Some t) (f ∙ sym e) h in
-    without_last ts (length ts - 1) t (some_length ts t at) at (ap is_apart e ∙ targets_apart edges a d)
 
 -- ---- one edge of a node is gone
 
@@ -254,3 +194,45 @@ module _ (client row : ℕ) (old now : List Edge) (is : client ≡ 128 + row) (h
 
   pub cleared-end : now ≡ filter (λ e. not (touches_client client e)) old
   cleared-end = sym (filter-none (touches_client client) now (none_there (touches_client client) now untouched)) ∙ h.same_others
+
+-- ---- edges into a client
+
+pub last_origin : (edges : List Edge) (a s : Addr) (ss : List Addr) → ss ≡ origins_of edges a → slice_get ss (length ss - 1) ≡ Some s → has_edge edges s a ≡ true
+last_origin edges a s ss e h = sym (origins-in edges a s) ∙ ap (list_any (same s)) (sym e) ∙ in_from_get ss (length ss - 1) s h
+
+-- no edge ends at a node before this place
+abbrev pub IsEndless : ℕ → ℕ → List Edge → Type 0
+IsEndless row place edges =
+    (a : Addr) (r p : ℕ) → IsPlace a r p → row * 32 ≤ p → p < place → origins_of edges a ≡ []
+
+pub endless-start : (row place : ℕ) (edges : List Edge) → place ≡ row * 32 → IsEndless row place edges
+endless-start row place edges e a r p k l m = absurd (omega arith)
+
+pub endless-more : (row place place' : ℕ) (edges : List Edge) (b : Addr) (q : ℕ) → IsEndless row place edges → IsPlace b q place → origins_of edges b ≡ [] → place' ≡ place + 1 → IsEndless row place' edges
+endless-more row place place' edges b q h at none next a r p k l m = elim (cases_eq p place) [
+  | inl here ↦ ap (origins_of edges) (place-is a b r q place (subst (IsPlace a r) here k) at) ∙ none
+  | inr other ↦ h a r p k l (omega arith)
+]
+
+-- of a list without a last nothing is there
+pub no_last : (xs : List Addr) → slice_get xs (length xs - 1) ≡ None → xs ≡ []
+no_last [] h = refl
+no_last (x ∷ xs) h = absurd (past (x ∷ xs) (length xs) (omega arith) (subst (λ n. slice_get (x ∷ xs) n ≡ None) (let e : length (x ∷ xs) - 1 ≡ length xs = omega arith in e) h))
+  where
+    past : (ys : List Addr) (n : ℕ) → n < length ys → slice_get ys n ≡ None → ⊥
+    past [] n l h = omega arith
+    past (y ∷ ys) zero l h = cc
+    past (y ∷ ys) (suc n) l h = past ys n (omega arith) h
+
+module _ (client row : ℕ) (edges : List Edge) (is : client ≡ 128 + row) (h : IsEndless row (row * 32 + 32) edges) (placed : (e : Edge) → has_edge edges e.source e.target ≡ true → HasPlace e.source × HasPlace e.target) where
+  ends : (e : Edge) → has_edge edges e.source e.target ≡ true → ends_at_client client e ≡ true → ⊥
+  ends e there c =
+      let k = (placed e there).1 in
+      let same_row : 128 + k.0 ≡ 128 + row = sym k.2.client ∙ eqb-true e.target.client client c ∙ is in
+      let r : k.0 ≡ row = omega arith in
+      let range : (k.0 * 32 ≤ k.1) × (k.1 < k.0 * 32 + 32) = in_row e.target.node k.0 k.1 k.2.small k.2.is in
+      let none : origins_of edges e.target ≡ [] = h e.target k.0 k.1 k.2 (subst (λ n. n * 32 ≤ k.1) r range.0) (subst (λ n. k.1 < n * 32 + 32) r range.1) in
+      false≢true (sym (ap (list_any (same e.source)) none) ∙ origins-in edges e.target e.source ∙ there)
+
+  pub endless-end : list_any (ends_at_client client) edges ≡ false
+  endless-end = none_there (ends_at_client client) edges ends

@@ -1,5 +1,5 @@
 -- Which addresses are one, and their places.
-use Rattle.std.proofs.Common.{◌≡◌, ℕ, ◌+◌, ◌*◌, ◌<◌, Bool, true, false, eqb, ◌&&◌, refl, ap, sym, subst, ◌∙◌, arith}
+use Rattle.std.proofs.Common.{◌≡◌, ℕ, ◌+◌, ◌*◌, ◌<◌, Bool, true, false, eqb, refl, ap, sym, subst, ◌∙◌, arith}
 use Rattle.std.proofs.lemmas.Bool.Decides.{nat_tests}
 use Rattle.std.proofs.lemmas.Bool.{false≢true, eqb-true}
 use Rattle.node_table.specs.Addresses.{same, same_node}
@@ -8,9 +8,6 @@ use Rattle.node_table.specs.declared.number.Addr.{Addr}
 use Rattle.node_table.specs.declared.number.Node.{Node}
 use Rattle.node_table.specs.declared.number.Node.TheVariants.{Port, Filter}
 use Rattle.node_table.specs.contracts.number.AddrPartialEq.TheImpl.{eq-value as addr_value}
-use Rattle.patch_graph.specs.declared.edge.Edge.{Edge}
-use Rattle.patch_graph.specs.contracts.edge.EdgePartialEq.TheImpl.{eq-value as edge_value}
-use Rattle.patch_graph.specs.Edges.{edge, is_edge}
 use Rattle.patch_graph.proofs.Lists.{both_left, both_right, and_both, refuted}
 
 same_node-is : (m n : Node) → same_node m n ≡ true → m ≡ n
@@ -92,6 +89,3 @@ addr_eq-nodes a b (Filter m) (Port n) = refl
 
 pub addr_eq : (a b : Addr) → addr_value.it a b ≡ same a b
 addr_eq a b = addr_eq-nodes a.client b.client a.node b.node
-
-pub edge_eq : (s t : Addr) (e : Edge) → edge_value.it (edge s t) e ≡ is_edge s t e
-edge_eq s t e = λ j. addr_eq s e.source j && addr_eq t e.target j

@@ -25,6 +25,10 @@ touches node e = same node e.source || same node e.target
 abbrev pub touches_client : ℕ → Edge → Bool
 touches_client client e = (e.source.client == client) || (e.target.client == client)
 
+-- the edge ends at a node of the client
+abbrev pub ends_at_client : ℕ → Edge → Bool
+ends_at_client client e = e.target.client == client
+
 -- how many edges end at a node
 abbrev pub sources_of : List Edge → Addr → ℕ
 sources_of edges target = length (filter (λ e. same target e.target) edges)

@@ -2,7 +2,7 @@
 use Rattle.std.specs.Prelude.{◌≡◌, ◌<◌, ◌≤◌, ℕ, ◌+◌, Bool, true, not, ◌&&◌, List, [], ◌∷◌, map, length, slice_index_or}
 use Rattle.std.specs.List.{filter}
 use Rattle.node_table.specs.Addresses.{same}
-use Rattle.node_table.specs.Kept.{IsPlace, ReadsAs}
+use Rattle.node_table.specs.Kept.{IsPlace}
 use Rattle.node_table.specs.Numbers.{places}
 use Rattle.node_table.specs.declared.number.Addr.{Addr}
 use Rattle.patch_graph.specs.declared.edge.Edge.{Edge}
@@ -33,27 +33,16 @@ pub record IsGraph (edges : List Edge) : Type 0 where
   pub acyclic : (a : Addr) → Reaches edges a a → ⊥
 
 -- a table with each place, or one without any where there are no edges
-abbrev pub HasPlaces : {X : Type 0} → List Edge → List X → Type 0
-HasPlaces edges xs = 0 < length edges + length xs → length xs ≡ places
-
--- at each place the same list
-abbrev pub SameLists : {V : Type 0} → (V → List Addr) → List V → List V → Type 0
-SameLists items new old = ReadsAs [] (map items new) (map items old)
+abbrev pub HasPlaces : {X Y : Type 0} → List X → List Y → Type 0
+HasPlaces edges lists = 0 < length edges + length lists → length lists ≡ places
 
 -- some place is that of the address
 abbrev pub HasPlace : Addr → Type 0
 HasPlace a = (row place : ℕ) × IsPlace a row place
 
--- at the place of each address stands what is at the other end of the edges whose one end it is
-pub record IsListed (one other : Edge → Addr) (edges : List Edge)
-    (lists : List (List Addr)) : Type 0 where
+-- at the place of each address stands what `other` has of the edges whose one end it is
+pub record IsListed {X Y : Type 0} (one : X → Addr) (other : X → Y) (edges : List X)
+    (lists : List (List Y)) : Type 0 where
   pub list_places : HasPlaces edges lists
   pub listed : (a : Addr) (row place : ℕ) → IsPlace a row place
-      → slice_index_or lists place [] ≡ map other (filter (λ e. same a (one e)) edges)
-
--- at the place of each address stand its targets and its sources
-pub record IsIndexed (edges : List Edge) (targets sources : List (List Addr)) : Type 0 where
-  pub onward : IsListed (λ e. e.source) (λ e. e.target) edges targets
-  pub back : IsListed (λ e. e.target) (λ e. e.source) edges sources
-  pub placed : (e : Edge) → has_edge edges e.source e.target ≡ true
-      → HasPlace e.source × HasPlace e.target
+      → slice_index_or lists place [] ≡ map other (filter (λ x. same a (one x)) edges)

@@ -1,20 +1,24 @@
 //! The graph of subscriptions.
 
-ghost use Rattle.std.specs.Prelude.{◌≡◌, ◌≤◌, ◌<◌, ◌==◌, ◌↔◌, ℕ, true, false, not, List, [], ◌∷◌, ◌++◌, length, map, slice_index_or, OnOk, OnErr, IfOk, IsErrOf, IsTrue};
+ghost use Rattle.std.specs.Prelude.{◌≡◌, ◌≤◌, ◌<◌, ◌==◌, ◌↔◌, ℕ, true, false, not, List, [], ◌∷◌, ◌++◌, length, map, slice_index_or, slice_set, OnOk, OnErr, IfOk, IfSome, IfNone, IsErrOf, IsTrue};
 ghost use Rattle.std.specs.Bool.{OnTrue, OnFalse};
-ghost use Rattle.std.specs.List.{filter};
-ghost use Rattle.node_table.specs.Kept.{IsPlace, IsTable};
+ghost use Rattle.std.specs.List.{filter, list_any, zip};
+ghost use Rattle.std.specs.List.Sorted.{IsPermutation, IsNonDecreasingBy};
+ghost use Rattle.std.specs.Map.{lookup};
+ghost use Rattle.node_table.specs.Addresses.{same};
+ghost use Rattle.node_table.specs.Kept.{IsPlace, IsTable, ReadsAs};
 ghost use Rattle.node_table.specs.declared.number.Addr.{Addr};
 ghost use Rattle.node_table.specs.Numbers.{places};
-ghost use Rattle.patch_graph.specs.Edges.{edge, has_edge, without_edge, touches, touches_client, sources_of, most_sources};
+ghost use Rattle.patch_graph.specs.Edges.{edge, has_edge, without_edge, touches, touches_client, ends_at_client, sources_of, most_sources};
 ghost use Rattle.patch_graph.specs.Chains.{Reaches, makes_cycle};
 ghost use Rattle.patch_graph.specs.Found.{with_filters};
-ghost use Rattle.patch_graph.specs.Index.{targets_of, origins_of, LosesOne, SameLists};
+ghost use Rattle.patch_graph.specs.Index.{targets_of, origins_of, LosesOne};
+ghost use Rattle.patch_graph.specs.Aged.{IsRising, all_of, youngest};
 
-use crate::aged::AgedEdges;
 use crate::edge::Edge;
 use crate::fault::EdgeFault;
 use crate::found::Found;
+use crate::links::{Links, join};
 use memory::OutOfMemory;
 use node_table::{Addr, ClientId, PLACES, addr_at, place_of, row_of};
 use std::alloc::{AllocError, Global};
@@ -33,47 +37,151 @@ const NODES: usize = 32;
 #[derive(Drop)]
 pub struct PatchGraph {
     alloc: Global,
-    edges: AgedEdges,
-    // By `place_of`: the targets of a node, and its sources, each by the age of the edge, oldest first. Both are empty
-    // until the first edge is added.
-    targets: Vec<Vec<Addr>>,
-    sources: Vec<Vec<Addr>>,
+    // By `place_of`: the targets of a node, and its sources. Both are empty until the first edge is added.
+    targets: Vec<Links>,
+    sources: Vec<Links>,
+    // The age of the next edge, above those of all older ones.
+    next: u64,
+    count: usize,
 }
 
 impl Model for PatchGraph {
-    ghost use Rattle.std.specs.Prelude.{List, map};
+    ghost use Rattle.std.specs.Prelude.{List};
     ghost use Rattle.patch_graph.specs.declared.edge.Edge.{Edge};
-    ghost use Rattle.patch_graph.specs.Index.{IsGraph, IsIndexed};
+    ghost use Rattle.patch_graph.specs.Aged.{aged_edges, edges_of, AreAged};
 
     ghost Value = { List Edge };
 
-    ghost view = { λ g. g.edges };
+    ghost view = { λ g. edges_of (aged_edges g.targets.items g.sources.items) };
 
-    ghost invariant = { λ g. IsGraph g.edges
-        × IsIndexed g.edges (map (λ v. v.items) g.targets.items)
-        (map (λ v. v.items) g.sources.items) };
+    ghost invariant = { λ g. AreAged (aged_edges g.targets.items g.sources.items)
+        g.targets.items g.sources.items g.next g.count };
 }
 
-/// Makes the places of a table that has none yet, each with an empty list. One that has them stays as it is.
-fn make_lists(alloc: Global, lists: &mut Vec<Vec<Addr>>) -> Result<(), AllocError>
+/// Makes the places of a table that has none yet, each with nothing. One that has them stays as it is.
+fn make_lists(alloc: Global, lists: &mut Vec<Links>) -> Result<(), AllocError>
     requires { IsTable lists.old.items }
     ensures whole { OnOk result (length lists.new.items ≡ places) }
     ensures err { OnErr result (lists.new.items ≡ lists.old.items) }
-    ensures same { SameLists (λ v. v.items) lists.new.items lists.old.items }
+    ensures same { ReadsAs [] lists.new.items lists.old.items }
 {
-    lists.resize_with(PLACES, || Vec::new(alloc))?;
+    lists.resize_with(PLACES, || Links::new(alloc))?;
     Ok(())
 }
 
-/// What a table has at the place of a node, which is nothing where the table has no places.
-fn list_at<'t>(lists: &'t [Vec<Addr>], node: &Addr) -> &'t [Addr]
+/// The nodes that a table has at the place of a node, which are none where the table has no places.
+fn nodes_at<'t>(lists: &'t [Links], node: &Addr) -> &'t [Addr]
     ensures { (row place : ℕ) × IsPlace node.now row place
-        × (result.now ≡ slice_index_or (map (λ v. v.items) lists.now) place []) }
+        × (result.now ≡ map (λ x. x.0) (slice_index_or lists.now place [])) }
 {
     match lists.get(place_of(node)) {
-        Some(list) => list.as_slice(),
+        Some(list) => list.nodes(),
         None => &[],
     }
+}
+
+/// The age of the edge between two nodes, by the table that the first is a place of.
+fn age_at(lists: &[Links], node: &Addr, other: &Addr) -> Option<u64>
+    ensures { (row place : ℕ) × IsPlace node.now row place
+        × (result ≡ lookup (same other.now) (slice_index_or lists.now place [])) }
+{
+    match lists.get(place_of(node)) {
+        Some(list) => list.age_of(other),
+        None => None,
+    }
+}
+
+/// The youngest edge at a node, as the node at its other end and its age.
+fn last_at(lists: &[Links], node: &Addr) -> Option<(Addr, u64)>
+    ensures { (row place : ℕ) × IsPlace node.now row place
+        × (result ≡ youngest (slice_index_or lists.now place [])) }
+{
+    match lists.get(place_of(node)) {
+        Some(list) => list.last(),
+        None => None,
+    }
+}
+
+/// Removes the edge of an age at the place of a node.
+fn remove_at(lists: &mut [Links], node: &Addr, age: u64)
+    requires { length lists.old ≡ places }
+    ensures { (row place : ℕ) × IsPlace node.now row place
+        × (lists.new ≡ slice_set lists.old place
+        (filter (λ x. not (x.1 == age)) (slice_index_or lists.old place []))) }
+{
+    lists[place_of(node)].remove(age);
+}
+
+/// Removes an edge at the places of both its ends.
+fn unlink(targets: &mut [Links], sources: &mut [Links], source: &Addr, target: &Addr, age: u64)
+    requires { (length targets.old ≡ places) × (length sources.old ≡ places) }
+    ensures onward { (row place : ℕ) × IsPlace source.now row place
+        × (targets.new ≡ slice_set targets.old place
+        (filter (λ x. not (x.1 == age)) (slice_index_or targets.old place []))) }
+    ensures back { (row place : ℕ) × IsPlace target.now row place
+        × (sources.new ≡ slice_set sources.old place
+        (filter (λ x. not (x.1 == age)) (slice_index_or sources.old place []))) }
+{
+    remove_at(targets, source, age);
+    remove_at(sources, target, age);
+}
+
+/// Adds an edge at the places of both its ends.
+fn join_at(
+    targets: &mut [Links],
+    sources: &mut [Links],
+    source: &Addr,
+    target: &Addr,
+    age: u64,
+) -> Result<(), OutOfMemory>
+    requires places { (length targets.old ≡ places) × (length sources.old ≡ places) }
+    requires young { (node : Addr) (row place : ℕ) → IsPlace node row place
+        → IsRising 0 (slice_index_or targets.old place []) age
+        × IsRising 0 (slice_index_or sources.old place []) age }
+    ensures onward { (row place : ℕ) × IsPlace source.now row place × OnOk result
+        (targets.new ≡ slice_set targets.old place
+        (slice_index_or targets.old place [] ++ (target.now, age) ∷ [])) }
+    ensures back { (row place : ℕ) × IsPlace target.now row place × OnOk result
+        (sources.new ≡ slice_set sources.old place
+        (slice_index_or sources.old place [] ++ (source.now, age) ∷ [])) }
+    ensures err { OnErr result ((targets.new ≡ targets.old) × (sources.new ≡ sources.old)) }
+{
+    let onward = &mut targets[place_of(source)];
+    let back = &mut sources[place_of(target)];
+    join(onward, target, back, source, age)
+}
+
+/// All that stands in a table, by age.
+fn by_age(alloc: Global, lists: &[Links]) -> Result<Vec<(Addr, u64)>, OutOfMemory>
+    ensures all { IfOk result (λ links. IsPermutation (all_of lists.now) links.items) }
+    ensures sorted { IfOk result (λ links. IsNonDecreasingBy (λ x. x.1) links.items) }
+{
+    let mut links = Vec::new(alloc);
+    for list in lists {
+        list.copy_to(&mut links)?;
+    }
+    links.sort_unstable_by_key(|link| link.1);
+    Ok(links)
+}
+
+/// The edges to these targets from these sources.
+fn edges_between(
+    alloc: Global,
+    targets: &[(Addr, u64)],
+    sources: &[(Addr, u64)],
+) -> Result<Vec<Edge>, OutOfMemory>
+    requires { length targets.now ≡ length sources.now }
+    ensures { IfOk result (λ edges. edges.items
+        ≡ map (λ p. edge p.1.0 p.0.0) (zip targets.now sources.now)) }
+{
+    let mut edges = Vec::new(alloc);
+    for turn in 0..targets.len() {
+        edges.push(Edge {
+            source: sources[turn].0,
+            target: targets[turn].0,
+        })?;
+    }
+    Ok(edges)
 }
 
 impl PatchGraph {
@@ -83,9 +191,10 @@ impl PatchGraph {
     {
         PatchGraph {
             alloc,
-            edges: AgedEdges::new(alloc),
             targets: Vec::new(alloc),
             sources: Vec::new(alloc),
+            next: 0,
+            count: 0,
         }
     }
 
@@ -97,31 +206,30 @@ impl PatchGraph {
     pub fn has_edge(&self, source: &Addr, target: &Addr) -> bool
         ensures { result ≡ has_edge self.now source.now target.now }
     {
-        self.edges.contains(&Edge {
-            source: *source,
-            target: *target,
-        })
+        self.origins(target).contains(source)
     }
 
     /// How many edges there are.
     pub fn len(&self) -> usize
         ensures { result ≡ length self.now }
     {
-        self.edges.len()
+        self.count
     }
 
     /// Whether there is no edge.
     pub fn is_empty(&self) -> bool
         ensures { result ≡ (length self.now == 0) }
     {
-        self.edges.is_empty()
+        self.count == 0
     }
 
     /// All edges, oldest first.
     pub fn edges(&self, alloc: Global) -> Result<Vec<Edge>, OutOfMemory>
         ensures { IfOk result (λ edges. edges.items ≡ self.now) }
     {
-        self.edges.edges(alloc)
+        let targets = by_age(alloc, &self.targets)?;
+        let sources = by_age(alloc, &self.sources)?;
+        edges_between(alloc, &targets, &sources)
     }
 
     /// How many edges end at a node, in constant time.
@@ -129,21 +237,44 @@ impl PatchGraph {
         ensures count { result ≡ sources_of self.now target.now }
         ensures few { result ≤ most_sources }
     {
-        list_at(&self.sources, target).len()
+        nodes_at(&self.sources, target).len()
     }
 
     /// The nodes that are joined to a node, the oldest edge first.
-    fn origins(&self, target: &Addr) -> &[Addr]
+    pub fn origins(&self, target: &Addr) -> &[Addr]
         ensures { result.now ≡ origins_of self.now target.now }
     {
-        list_at(&self.sources, target)
+        nodes_at(&self.sources, target)
+    }
+
+    /// An edge that ends at a node of a client, if there is one.
+    pub fn edge_into(&self, client: ClientId) -> Option<Edge>
+        ensures there { IfSome result (λ e. has_edge self.now e.source e.target ≡ true) }
+        ensures into { IfSome result (λ e. e.target.client ≡ client) }
+        ensures none { IfNone result (list_any (ends_at_client client) self.now ≡ false) }
+    {
+        if self.count == 0 {
+            return None;
+        }
+        let start = row_of(client) * NODES;
+        for place in start..start + NODES {
+            if let Some(target) = addr_at(place) {
+                if let Some(source) = self.origins(&target).last() {
+                    return Some(Edge {
+                        source: *source,
+                        target,
+                    });
+                }
+            }
+        }
+        None
     }
 
     /// The nodes that a node is joined to, the oldest edge first.
     pub fn targets(&self, source: &Addr) -> &[Addr]
         ensures { result.now ≡ targets_of self.now source.now }
     {
-        list_at(&self.targets, source)
+        nodes_at(&self.targets, source)
     }
 
     /// Removes an edge, and says whether it was there. It takes no memory.
@@ -151,35 +282,26 @@ impl PatchGraph {
         ensures there { result ≡ has_edge self.old source.now target.now }
         ensures rest { self.new ≡ without_edge self.old source.now target.now }
     {
-        let edge = Edge {
-            source: *source,
-            target: *target,
-        };
-        if !self.edges.remove(&edge) {
+        let Some(age) = age_at(&self.sources, target, source) else {
             return false;
-        }
-        self.targets[place_of(source)].retain(|other| other != target);
-        self.sources[place_of(target)].retain(|other| other != source);
+        };
+        unlink(&mut self.targets, &mut self.sources, source, target, age);
+        self.count -= 1;
         true
     }
 
     /// Removes the youngest edge that begins at a node, and says whether there was one.
-    // Not by `disconnect`, which looks at all targets of the node: to remove them one by one would go over each of them
-    // as often as there are others.
+    // As `pop_source` not by `disconnect`, which would look for the age.
     fn pop_target(&mut self, source: &Addr) -> bool
         ensures gone { OnTrue result (LosesOne source.now self.old self.new) }
         ensures none { OnFalse result (targets_of self.old source.now ≡ []) }
         ensures kept { OnFalse result (self.new ≡ self.old) }
     {
-        let Some(target) = self.targets(source).last().copied() else {
+        let Some((target, age)) = last_at(&self.targets, source) else {
             return false;
         };
-        self.edges.remove(&Edge {
-            source: *source,
-            target,
-        });
-        self.targets[place_of(source)].pop();
-        self.sources[place_of(&target)].retain(|other| other != source);
+        unlink(&mut self.targets, &mut self.sources, source, &target, age);
+        self.count -= 1;
         true
     }
 
@@ -189,10 +311,12 @@ impl PatchGraph {
         ensures none { OnFalse result (origins_of self.old target.now ≡ []) }
         ensures kept { OnFalse result (self.new ≡ self.old) }
     {
-        let Some(source) = self.origins(target).last().copied() else {
+        let Some((source, age)) = last_at(&self.sources, target) else {
             return false;
         };
-        self.disconnect(&source, target)
+        unlink(&mut self.targets, &mut self.sources, &source, target, age);
+        self.count -= 1;
+        true
     }
 
     /// Removes the edges that begin or end at a node, and looks at no others but those of its neighbours. It takes no
@@ -209,7 +333,7 @@ impl PatchGraph {
     pub fn remove_client(&mut self, client: ClientId)
         ensures { self.new ≡ filter (λ e. not (touches_client client e)) self.old }
     {
-        if self.edges.is_empty() {
+        if self.count == 0 {
             return;
         }
         let first = row_of(client) * NODES;
@@ -298,13 +422,19 @@ impl PatchGraph {
     {
         make_lists(self.alloc, &mut self.targets)?;
         make_lists(self.alloc, &mut self.sources)?;
-        let from = place_of(&source);
-        let to = place_of(&target);
-        self.targets[from].reserve(1)?;
-        self.sources[to].reserve(1)?;
-        self.edges.push(&Edge { source, target })?;
-        self.targets[from].push(target).ok().unwrap();
-        self.sources[to].push(source).ok().unwrap();
+        // No number is given twice, and no run is so long that it gives all of them.
+        let Some(next) = self.next.checked_add(1) else {
+            return Err(OutOfMemory);
+        };
+        join_at(
+            &mut self.targets,
+            &mut self.sources,
+            &source,
+            &target,
+            self.next,
+        )?;
+        self.next = next;
+        self.count += 1;
         Ok(())
     }
 }

@@ -1,12 +1,12 @@
 //! The graph of subscriptions: who is joined to whom, in order of age, and the paths that a message takes.
 #![tactic(auto)]
 
-mod aged;
 mod edge;
 mod fault;
 mod found;
 mod graph;
 mod laws;
+mod links;
 mod path;
 mod route;
 

@@ -5,4 +5,4 @@ use Rattle.patch_graph.proofs.Made.{filled_up}
 use Rattle.patch_graph.proofs.graph.make_lists.Goals as goal
 
 pub returns-clause-same : goal.returns-clause-same
-returns-clause-same c = filled_up (λ v. v.items) _ (λ f v g call. grind (arith, common_steps)) _ _ _ _ (table_length _ c.requires) c.in_ok-resize_with.ensures.items
+returns-clause-same c = filled_up _ (λ f v g call. grind (arith, common_steps)) _ _ _ _ (table_length _ c.requires) c.in_ok-resize_with.ensures.items

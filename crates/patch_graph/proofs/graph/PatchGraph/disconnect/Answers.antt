@@ -1,22 +1,41 @@
-use Rattle.std.proofs.Common.{ap, sym, not, arith, ◌∙◌}
-use Rattle.std.specs.List.{filter}
-use Rattle.std.proofs.lemmas.Fn.{filter_same}
-use Rattle.std.proofs.lemmas.Grind.{common_steps}
-use Rattle.node_table.specs.Addresses.{same}
-use Rattle.patch_graph.specs.Edges.{is_edge}
+use Rattle.std.proofs.Common.{◌≡◌, [], false, is_some, get_or, ap, sym, ◌∙◌}
+use Rattle.patch_graph.specs.Edges.{is_edge, has_edge, without_edge}
 use Rattle.patch_graph.proofs.Lists.{filter-none}
-use Rattle.patch_graph.proofs.Same.{addr_eq, same-sym}
-use Rattle.patch_graph.proofs.Indexed.{edges_are, disconnected}
+use Rattle.patch_graph.proofs.Linked.{without_age}
+use Rattle.patch_graph.proofs.Made.{written}
+use Rattle.patch_graph.proofs.Indexed.{has_age, there_by_age, found_back, tables_whole, some_count}
+use Rattle.patch_graph.proofs.Gathered.{taken}
 use Rattle.patch_graph.proofs.graph.PatchGraph.disconnect.Goals as goal
+
+not_there : (c : goal.In_default) → has_edge c.args.self.now c.args.source.now c.args.target.now ≡ false
+not_there c =
+    ap (λ es. has_edge es c.args.source.now c.args.target.now) (sym c.self.view_is) ∙ sym (has_age _ c.args.source.now c.args.target.now)
+    ∙ ap is_some (found_back _ _ _ _ _ c.self.invariant c.args.source.now c.args.target.now _ _ _ _ c.age_at.ensures.2 c.deref.ensures.value c.age_at.ensures.3 ∙ c.in_default.is)
+
+pub returns-in_default-clause-there : goal.returns-in_default-clause-there
+returns-in_default-clause-there c = sym (not_there c)
+
+pub returns-in_default-clause-rest : goal.returns-in_default-clause-rest
+returns-in_default-clause-rest c = sym (filter-none (is_edge c.args.source.now c.args.target.now) c.args.self.now (not_there c))
+
+pub unlink-requires : goal.unlink-requires
+unlink-requires c = tables_whole _ _ _ _ _ c.self.invariant c.args.source.now c.args.target.now c.in-Some.age (found_back _ _ _ _ _ c.self.invariant c.args.source.now c.args.target.now _ _ _ _ c.age_at.ensures.2 c.deref.ensures.value c.age_at.ensures.3 ∙ c.in-Some.is) _ _ c.deref_mut.ensures.value c.deref_mut-2.ensures.value
+
+pub overflow_sub-self : goal.overflow_sub-self
+overflow_sub-self c = some_count _ _ _ _ _ c.self.invariant c.args.source.now c.args.target.now c.in-Some.age (found_back _ _ _ _ _ c.self.invariant c.args.source.now c.args.target.now _ _ _ _ c.age_at.ensures.2 c.deref.ensures.value c.age_at.ensures.3 ∙ c.in-Some.is)
 
 pub invariant_of-self : goal.invariant_of-self
 invariant_of-self c =
-    edges_are (λ v. v.items) _ _ _ c.self.invariant _ (c.remove.ensures.rest ∙ filter-none (is_edge c.args.source.now c.args.target.now) _ (sym c.remove.ensures.there ∙ c.if-not-remove.true))
+    (taken _ _ _ _ _ _ c.args.source.now c.args.target.now c.in-Some.age _ _ _ _ c.self.invariant (found_back _ _ _ _ _ c.self.invariant c.args.source.now c.args.target.now _ _ _ _ c.age_at.ensures.2 c.deref.ensures.value c.age_at.ensures.3 ∙ c.in-Some.is) c.unlink.ensures.onward.2 c.unlink.ensures.back.2
+    (written c.self.inside.targets.len c.unlink.ensures.onward.1 c.self.inside.targets.items _ _ (λ xs. without_age c.in-Some.age (get_or xs c.unlink.ensures.onward.1 [])) c.self.inside.targets.ok.0 c.deref_mut.ensures.value c.unlink.ensures.onward.3)
+    (written c.self.inside.sources.len c.unlink.ensures.back.1 c.self.inside.sources.items _ _ (λ xs. without_age c.in-Some.age (get_or xs c.unlink.ensures.back.1 [])) c.self.inside.sources.ok.0 c.deref_mut-2.ensures.value c.unlink.ensures.back.3)).0
 
-pub invariant_of-self-2 : goal.invariant_of-self-2
-invariant_of-self-2 c =
-    let left = filter_same _ (λ x. not (same c.args.target.now x)) _ (λ x b f call. grind (arith, common_steps, addr_eq x c.args.target.now, same-sym x c.args.target.now)) _ _ c.retain.ensures.filtered in
-    let left' = filter_same _ (λ x. not (same c.args.source.now x)) _ (λ x b f call. grind (arith, common_steps, addr_eq x c.args.source.now, same-sym x c.args.source.now)) _ _ c.retain-2.ensures.filtered in
-    disconnected (λ v. v.items) _ _ _ c.self.invariant _ c.args.source.now c.args.target.now _ _ _ _ c.index_mut.result.now _ c.index_mut-2.result.now _ c.remove.ensures.rest (sym c.remove.ensures.there ∙ c.if-not-remove.false) c.place_of.ensures.place.1 c.place_of-2.ensures.place.1
-    (left ∙ ap (λ v. filter (λ x. not (same c.args.target.now x)) v.items) c.index_mut.ensures.value)
-    (left' ∙ ap (λ v. filter (λ x. not (same c.args.source.now x)) v.items) c.index_mut-2.ensures.value)
+pub returns-clause-there : goal.returns-clause-there
+returns-clause-there c = sym (ap (λ es. has_edge es c.args.source.now c.args.target.now) (sym c.self.view_is) ∙ there_by_age _ c.args.source.now c.args.target.now c.in-Some.age (found_back _ _ _ _ _ c.self.invariant c.args.source.now c.args.target.now _ _ _ _ c.age_at.ensures.2 c.deref.ensures.value c.age_at.ensures.3 ∙ c.in-Some.is))
+
+pub returns-clause-rest : goal.returns-clause-rest
+returns-clause-rest c =
+    (taken _ _ _ _ _ _ c.args.source.now c.args.target.now c.in-Some.age _ _ _ _ c.self.invariant (found_back _ _ _ _ _ c.self.invariant c.args.source.now c.args.target.now _ _ _ _ c.age_at.ensures.2 c.deref.ensures.value c.age_at.ensures.3 ∙ c.in-Some.is) c.unlink.ensures.onward.2 c.unlink.ensures.back.2
+    (written c.self.inside.targets.len c.unlink.ensures.onward.1 c.self.inside.targets.items _ _ (λ xs. without_age c.in-Some.age (get_or xs c.unlink.ensures.onward.1 [])) c.self.inside.targets.ok.0 c.deref_mut.ensures.value c.unlink.ensures.onward.3)
+    (written c.self.inside.sources.len c.unlink.ensures.back.1 c.self.inside.sources.items _ _ (λ xs. without_age c.in-Some.age (get_or xs c.unlink.ensures.back.1 [])) c.self.inside.sources.ok.0 c.deref_mut-2.ensures.value c.unlink.ensures.back.3)).1
+    ∙ ap (λ es. without_edge es c.args.source.now c.args.target.now) c.self.view_is

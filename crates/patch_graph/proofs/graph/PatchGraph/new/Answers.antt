@@ -1,6 +1,11 @@
-use Rattle.patch_graph.proofs.Indexed.{empty_graph, empty_index}
+use Rattle.std.proofs.Common.{[], ap}
+use Rattle.patch_graph.specs.Aged.{edges_of}
+use Rattle.patch_graph.proofs.Indexed.{none_aged}
+use Rattle.patch_graph.proofs.Gathered.{aged-is, closed}
 use Rattle.patch_graph.proofs.graph.PatchGraph.new.Goals as goal
 
 pub invariant_of-result : goal.invariant_of-result
-invariant_of-result c =
-    (empty_graph c.new.result c.new.ensures, empty_index (λ v. v.items) c.new.result _ _ c.new.ensures c.new-2.ensures.items c.new-3.ensures.items)
+invariant_of-result c = closed [] _ _ 0 0 (none_aged _ _ c.new.ensures.items c.new-2.ensures.items)
+
+pub returns : goal.returns
+returns c = ap edges_of (aged-is [] _ _ 0 0 (none_aged _ _ c.new.ensures.items c.new-2.ensures.items))

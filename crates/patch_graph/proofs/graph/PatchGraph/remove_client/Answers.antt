@@ -22,4 +22,4 @@ returns c =
     let row : c.args.client ≡ 128 + (c.args.client - 128) = omega (arith, c.row_of-first.ensures.start) in
     let end : c.loop-place.place ≡ (c.args.client - 128) * 32 + 32 = omega (arith, c.row_of-first.ensures.start) in
     cleared-end _ _ _ _ row (subst (λ n. IsCleared c.args.client (c.args.client - 128) n c.args.self.now c.loop-place.self) end c.loop-place.invariant)
-    (λ e h. c.self.invariant.1.placed e (ap (λ es. has_edge es e.source e.target) c.self.view_is ∙ h))
+    (λ e h. c.self.invariant.placed e (ap (λ es. has_edge es e.source e.target) c.self.view_is ∙ h))
