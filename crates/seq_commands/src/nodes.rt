@@ -8,7 +8,7 @@ ghost use Rattle.seq_commands.specs.Whole.{IsStepTakenUnkeyed, refusal_in, step_
 
 use crate::sequencer::{Sequencer, Turn};
 use memory::OutOfMemory;
-use node_table::{Addr, Caps, FilterNo, Node, PortNo};
+use node_table::{Caps, FilterNo, PortNo};
 use route_filter::{Rule, RuleArgs};
 
 impl Sequencer<'_, '_> {
@@ -81,11 +81,6 @@ impl Sequencer<'_, '_> {
         ensures { IsStepTakenUnkeyed self.old self.new
             (step_in self.old turn (Command.DeleteFilter filter)) Reply.Done [] }
     {
-        let clients = self.patchbay.clients_mut();
-        clients.delete_filter(turn.actor, filter);
-        self.patchbay.graph_mut().remove_node(&Addr {
-            client: turn.actor,
-            node: Node::Filter(filter),
-        });
+        self.patchbay.delete_filter(turn.actor, filter);
     }
 }

@@ -16,7 +16,7 @@ use crate::sequencer::{Sequencer, Turn};
 use agenda_heap::Agenda;
 use memory::OutOfMemory;
 use midi_wire::Message;
-use node_table::{Addr, Node, PortNo, QueueAddr};
+use node_table::{PortNo, QueueAddr};
 use seq_clients::Queue;
 use seq_settle::{Accepted, Events, Which, add_playback, drop_playbacks};
 use seq_state::DueAt;
@@ -45,12 +45,7 @@ impl<'f, 'b> Sequencer<'f, 'b> {
         let of_port = Which::OfPort(port);
         let cells = &mut self.cells;
         drop_playbacks(cells, agenda, self.steps, turn.actor, &of_port, false);
-        let node = Addr {
-            client: turn.actor,
-            node: Node::Port(port),
-        };
-        self.patchbay.graph_mut().remove_node(&node);
-        self.patchbay.clients_mut().delete_port(turn.actor, port);
+        self.patchbay.delete_port(turn.actor, port);
     }
 
     /// Drops a queue of the actor's, with what is still to be sent by it, whoever's it is. It takes no memory.
@@ -78,8 +73,7 @@ impl<'f, 'b> Sequencer<'f, 'b> {
         let its_own = Which::AllAndOnQueues;
         let cells = &mut self.cells;
         drop_playbacks(cells, agenda, self.steps, turn.actor, &its_own, shares);
-        self.patchbay.graph_mut().remove_client(turn.actor);
-        self.patchbay.clients_mut().close(turn.actor);
+        self.patchbay.close(turn.actor);
     }
 
     /// Sends a message from a port when a queue comes to its time. `rank` is the number of the command among all

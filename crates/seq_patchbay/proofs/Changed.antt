@@ -31,7 +31,7 @@ but-client was now edges client o is = record {
 -- ---- one client's subscriptions
 
 -- a node of another client is not the source
-not-source : (a s : Addr) → (a.client ≡ s.client → ⊥) → same a s ≡ false
+pub not-source : (a s : Addr) → (a.client ≡ s.client → ⊥) → same a s ≡ false
 not-source a s apart = go (same a s) refl
   where
     go : (b : Bool) → same a s ≡ b → b ≡ false

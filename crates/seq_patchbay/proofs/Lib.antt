@@ -1,3 +1,4 @@
 pub mod Changed
+pub mod Gone
 pub mod Routes
 pub mod Texts

@@ -1,5 +1,4 @@
 pub mod Leaving
 pub mod Listing
 pub mod Network
-pub mod Lends
 pub mod Rows

@@ -5,6 +5,7 @@ mod changing;
 mod keeping;
 mod listing;
 mod patchbay;
+mod removing;
 mod rows;
 
 pub use patchbay::Patchbay;

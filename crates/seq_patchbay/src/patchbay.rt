@@ -1,14 +1,12 @@
 //! The open clients and the subscriptions between their nodes.
 
 ghost use Rattle.std.specs.Prelude.{◌≡◌, true, [], ◌++◌, length, IsOk, IfOk, OnOk, OnErr};
-ghost use Rattle.std.specs.Borrow.{sem};
 ghost use Rattle.std.specs.FinMap.{get};
 ghost use Rattle.midi_wire.specs.Readings.{reading};
 ghost use Rattle.seq_state.specs.Effect.{has_port, port_of, fed_of, port_fed, put_port, with_change, oldest, without_oldest};
 ghost use Rattle.seq_state.specs.Step.{pools_after, copies_with_room};
 ghost use Rattle.seq_clients.specs.Roster.{nobody, with_client, with_pool};
 ghost use Rattle.seq_patchbay.specs.Leaving.{copies_of_all};
-ghost use Rattle.seq_patchbay.specs.Lends.{LendsClients, LendsGraph};
 
 use memory::OutOfMemory;
 use midi_wire::Message;
@@ -71,24 +69,6 @@ impl Patchbay {
         ensures { result.now ≡ self.now.graph }
     {
         &self.graph
-    }
-
-    /// The open clients, to be changed. The ways of messages are found again after it.
-    pub fn clients_mut(&mut self) -> &mut Clients
-        ensures* writes_back { sem 𝓛 (LendsClients self.entry result) }
-        ensures value { result.now ≡ self.old.clients }
-    {
-        self.ways.clear();
-        &mut self.clients
-    }
-
-    /// The subscriptions, to be changed. The ways of messages are found again after it.
-    pub fn graph_mut(&mut self) -> &mut PatchGraph
-        ensures* writes_back { sem 𝓛 (LendsGraph self.entry result) }
-        ensures value { result.now ≡ self.old.graph }
-    {
-        self.ways.clear();
-        &mut self.graph
     }
 
     /// Feeds the stream of a port, as `Clients::feed` does. It changes no way of a message.

@@ -14,3 +14,4 @@ mod setting_up;
 mod settle;
 mod single_steps;
 mod state;
+mod wiring;

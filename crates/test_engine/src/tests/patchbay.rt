@@ -3,10 +3,9 @@
 use super::lines::At::{self, F, P};
 use super::lines::{ALL, address, queue_at};
 use super::setting_up::Step::{self, *};
-use super::setting_up::take_all;
+use super::wiring::{join, take_all};
 use midi_wire::Message;
 use node_table::{ClientId, PortNo};
-use patch_graph::PatchGraph;
 use route_filter::{Kinds, RuleArgs};
 use seq_patchbay::Patchbay;
 use seq_settle::Desk;
@@ -296,9 +295,9 @@ fn are_reached(patchbay: &mut Patchbay, alloc: Global, stages: &[Stage]) -> Opti
 
 /// Makes the changes. Whether the patchbay says what it should then.
 fn is_reached(patchbay: &mut Patchbay, alloc: Global, stage: &Stage) -> Option<bool> {
-    take_all(patchbay.clients_mut(), alloc, stage.steps)?;
+    take_all(patchbay, alloc, stage.steps)?;
     for edge in stage.edges {
-        change(patchbay.graph_mut(), *edge)?;
+        change(patchbay, *edge)?;
     }
     for said in stage.says {
         if !is_said(patchbay, alloc, *said)? {
@@ -308,7 +307,7 @@ fn is_reached(patchbay: &mut Patchbay, alloc: Global, stage: &Stage) -> Option<b
     Some(true)
 }
 
-fn change(graph: &mut PatchGraph, edge: Edge) -> Option<()> {
+fn change(patchbay: &mut Patchbay, edge: Edge) -> Option<()> {
     let (Join(from, to) | Part(from, to)) = edge;
     let Some(source) = address(from) else {
         return None;
@@ -317,9 +316,9 @@ fn change(graph: &mut PatchGraph, edge: Edge) -> Option<()> {
         return None;
     };
     match edge {
-        Join(..) => graph.connect(source, target).ok(),
+        Join(..) => join(patchbay, source, target),
         Part(..) => {
-            graph.disconnect(&source, &target);
+            patchbay.disconnect(&source, &target);
             Some(())
         }
     }

@@ -33,15 +33,7 @@ pub enum Step {
 
 use self::Step::*;
 
-/// Carries out what clients do, one step after another. `None` where one does not fit what is there, or memory is
-/// wanting.
-pub fn take_all(clients: &mut Clients, alloc: Global, steps: &[(u8, Step)]) -> Option<()> {
-    for (client, step) in steps {
-        take(clients, alloc, ClientId::new(*client)?, *step)?;
-    }
-    Some(())
-}
-
+/// Carries out what a client does. `None` where it does not fit what is there, or memory is wanting.
 pub fn take(clients: &mut Clients, alloc: Global, client: ClientId, step: Step) -> Option<()> {
     match step {
         Open(name, in_size, out_size) => open(clients, client, name, in_size, out_size),

@@ -1,9 +1,7 @@
-use Rattle.patch_graph.specs.Edges.{touches_client}
 use Rattle.seq_state.specs.State.{queues_of}
-use Rattle.seq_clients.specs.Roster.{Roster, with_client, with_pool, NoneShared}
+use Rattle.seq_clients.specs.Roster.{Roster, NoneShared}
 use Rattle.std.specs.FinMap.{get}
-use Rattle.std.specs.List.{filter}
-use Rattle.std.proofs.Common.{not, None, ap, subst, ◌∙◌}
+use Rattle.std.proofs.Common.{subst}
 use Rattle.seq_commands.specs.Whole.{clients_of}
 use Rattle.seq_commands.proofs.PlaybacksGone.{close-alone, close-gives}
 use Rattle.seq_commands.proofs.sequencer.Sequencer.close.Goals as goal
@@ -17,7 +15,6 @@ drop_playbacks-requires-clause-alone g c = λ private.
 pub returns : goal.returns
 returns g c =
     let d = c.drop_playbacks.ensures in
-    close-gives c.args.self.now c.args.turn c.drop_playbacks.new.cells _ d.cells c.close.new.self c.remove_client.new.self c.requires.accepted d.playbacks
+    close-gives c.args.self.now c.args.turn c.drop_playbacks.new.cells _ d.cells c.close.new.self.clients c.close.new.self.graph c.requires.accepted d.playbacks
     (d.keys (clients_of c.args.self.now) c.requires.whole.keys) d.left
-    (c.remove_client.ensures ∙ ap (filter (λ e. not (touches_client c.args.turn.actor e))) c.graph_mut.ensures.value)
-    (c.close.ensures ∙ ap (λ (r : Roster). with_pool (with_client r c.args.turn.actor None) c.args.turn.actor None) c.clients_mut.ensures.value)
+    c.close.ensures.graph c.close.ensures.clients
