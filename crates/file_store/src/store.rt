@@ -52,6 +52,12 @@ pub trait FileStore {
         ensures refused { OnErr result (CannotOpen path.now) }
         ensures sound { IfOk result (λ r. Self.Reader.failed r ≡ false) };
 
+    /// Opens the file at a path as `open` does, where it is a regular file: who opens a pipe waits for its writer.
+    fn open_regular(&self, path: &str) -> Result<Self::Reader, DeviceFault>
+        ensures opened { IfOk result (λ r. IsOpened path.now r) }
+        ensures refused { OnErr result (CannotOpen path.now) }
+        ensures sound { IfOk result (λ r. Self.Reader.failed r ≡ false) };
+
     /// The names in a folder, but for those that are not UTF-8.
     fn names(&self, alloc: Global, folder: &str) -> Result<Vec<String>, DeviceFault>
         ensures listed { IfOk result (λ names.

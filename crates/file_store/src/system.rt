@@ -119,6 +119,13 @@ impl<R: Files + AllocGlobal + Clone + Drop> FileStore for SystemFiles<R> {
         }
     }
 
+    fn open_regular(&self, path: &str) -> Result<StdSource<R::File>, DeviceFault> {
+        match fs::metadata(&self.rt, path) {
+            Ok(there) if there.is_file() => self.open(path),
+            _ => Err(DeviceFault::Broken),
+        }
+    }
+
     fn names(&self, alloc: Global, folder: &str) -> Result<Vec<String>, DeviceFault> {
         let mut names = Vec::new(alloc);
         let entries = match fs::read_dir(&self.rt, folder) {

@@ -28,7 +28,7 @@ const MOST_READ: usize = 16_777_217;
 pub struct Folder {
     /// The names that end in `.mid`, in byte order.
     pub names: Vec<String>,
-    /// What each of the files that a run takes holds; none for one that cannot be read.
+    /// What each of the files that a run takes holds; none for one that is no regular file or cannot be read.
     pub contents: Vec<Option<Vec<u8>>>,
     ghost as_many: { length contents.items ≡ length (take MOST_FILES names.items) },
 }
@@ -128,7 +128,7 @@ pub(crate) fn path_in(alloc: Global, dir: &str, name: &str) -> Result<String, Ou
     Ok(format!(in alloc; "{dir}/{name}")?)
 }
 
-/// What a file holds, if it can be read, up to one byte more than a file may have.
+/// What a regular file holds, if it can be read, up to one byte more than a file may have.
 fn content_of<S: FileStore>(
     alloc: Global,
     store: &S,
@@ -140,7 +140,7 @@ fn content_of<S: FileStore>(
     ensures fault { IfErr result IsOfMemory }
 {
     let path = path_in(alloc, dir, name)?;
-    let Ok(mut source) = store.open(path.as_str()) else {
+    let Ok(mut source) = store.open_regular(path.as_str()) else {
         return Ok(None);
     };
     match read_to(alloc, &mut source, MOST_READ) {
