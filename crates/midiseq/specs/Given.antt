@@ -1,5 +1,5 @@
 -- Definition: What the command line gives the subcommands that take scripts.
-use Rattle.std.specs.Prelude.{◌≡◌, ◌≢◌, ℕ, Bool, true, false, List, [], Option, Some, None, map, codes, unwrap_or}
+use Rattle.std.specs.Prelude.{◌≡◌, ◌≢◌, ℕ, Bool, true, false, List, [], Some, None, codes, unwrap_or, MatchOption}
 use Rattle.std.specs.Option.{option_map}
 use Rattle.clap.specs.declared.parser.matches.Found.{Found}
 use Rattle.clap.specs.Matches.{first_value, matched_of, one_text, raw_values}
@@ -10,7 +10,7 @@ use Rattle.program_tasks.specs.declared.ending.Ended.TheVariants.{Done, Answered
 use Rattle.program_tasks.specs.Words.{port_named, scripts_named, scripts_seen}
 use Rattle.program_tasks.specs.declared.recording.Recording.{Recording}
 use Rattle.program_tasks.specs.declared.session.Session.{Session}
-use Rattle.program_tasks.specs.Subcommands.{IsRunPrinted, IsCircleAnswered, IsRunRecorded}
+use Rattle.program_tasks.specs.Subcommands.{IsRunPrinted, IsCircleAnswered, AreCirclesAnswered, IsRunRecorded}
 use Rattle.program_tasks.specs.Tasks.{IsDone}
 use Rattle.program_tasks.specs.declared.choice.Task.{Task}
 use Rattle.program_tasks.specs.Program.{tool_name, IsNamedBy}
@@ -48,18 +48,27 @@ module _ {R W : Type 0} (IsOpened : List ℕ → R → Type 0) (HasLeft : R → 
         listed
         old new before after
 
+  -- The circle round the client that the word names was printed, and the answer is that circle's.
+  pub record IsAnsweredRound {N : Type 0} (HasTaken : W → List ℕ → Type 0)
+      (HasTold : N → List ℕ → Type 0) (session : Session) (answer : CircleAnswer)
+      (old new : W) (before after : N) (word : List ℕ) : Type 0 where
+    pub owner : ℕ
+    pub client : Some owner ≡ says.client_number word
+    pub printed : IsCircleAnswered IsOpened HasLeft CannotOpen failed HasNames HasTaken HasTold
+        session owner answer
+        old new before after
+
   -- The circle round the client of --owner in the session of these words was printed, and the
-  -- answer is that circle's.
+  -- answer is that circle's; without --owner a line for each client's.
   pub record CirclesAsGiven {N : Type 0} (HasTaken : W → List ℕ → Type 0)
       (HasTold : N → List ℕ → Type 0) (found : Found)
       (old new : W) (before after : N) (answer : CircleAnswer) : Type 0 where
     pub session : Session
     pub given : IsGiven found session
-    pub owner : ℕ
-    pub client : Some owner ≡ says.client_number (text_of found (codes "owner"))
-    pub printed : IsCircleAnswered IsOpened HasLeft CannotOpen failed HasNames HasTaken HasTold
-        session owner answer
-        old new before after
+    pub printed : MatchOption (first_value found (codes "owner"))
+        (AreCirclesAnswered IsOpened HasLeft CannotOpen failed HasNames HasTaken HasTold session
+        answer old new before after)
+        (IsAnsweredRound HasTaken HasTold session answer old new before after)
 
   -- The session of these words was recorded: the port of --port, as --raw says, to the file of
   -- --out.

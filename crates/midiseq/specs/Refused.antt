@@ -1,5 +1,5 @@
 -- Definition: Why a subcommand stops, from the words that it was given.
-use Rattle.std.specs.Prelude.{◌≡◌, ◌≢◌, ◌⊎◌, ℕ, Bool, List, [], Option, None, codes, unwrap_or}
+use Rattle.std.specs.Prelude.{◌≡◌, ◌≢◌, ◌⊎◌, ℕ, Bool, List, [], None, codes, unwrap_or}
 use Rattle.std.specs.Option.{option_map}
 use Rattle.clap.specs.declared.parser.matches.Found.{Found}
 use Rattle.clap.specs.Matches.{first_value, matched_of, raw_values}
@@ -9,7 +9,7 @@ use Rattle.program_tasks.specs.declared.recording.Recording.{Recording}
 use Rattle.program_tasks.specs.declared.session.Session.{Session}
 use Rattle.program_tasks.specs.Faults.{IsOfListing, IsOfScripts, IsOfOutput}
 use Rattle.program_tasks.specs.Sessions.{IsNotAMoment}
-use Rattle.program_tasks.specs.Subcommands.{IsRecordingStopped}
+use Rattle.program_tasks.specs.Subcommands.{IsTimeless, IsRecordingStopped}
 use Rattle.program_tasks.specs.Tasks.{IsToolFault}
 use Rattle.program_tasks.specs.declared.choice.Task.{Task}
 use Rattle.program_tasks.specs.declared.choice.Tool.{Tool}
@@ -36,7 +36,7 @@ abbrev pub IsNotAClient : List ℕ → ProgramFault → Type 0
 IsNotAClient word (NotAClient told) = (told.now ≡ word) × (says.client_number word ≡ None)
 IsNotAClient word _ = ⊥
 
--- The session of the words was not run, or no circle of it printed, for one of these reasons.
+-- The session of the words was not run, for one of these reasons.
 pub record IsRunStopped {R : Type 0} (IsOpened : List ℕ → R → Type 0)
     (HasLeft : R → List ℕ → Type 0)
     (CannotOpen CannotList : List ℕ → Type 0) (failed : R → Bool) (stuck : Type 0) (found : Found)
@@ -47,6 +47,21 @@ pub record IsRunStopped {R : Type 0} (IsOpened : List ℕ → R → Type 0)
       IsOfListing CannotList (option_map (λ d. d.now) session.dir) fault
       ⊎ (IsOfScripts IsOpened HasLeft CannotOpen failed session.scripts.items fault
       ⊎ IsOfOutput stuck fault)
+
+-- No circle of the session of the words was printed, for one of these reasons.
+pub record IsCircleStopped {R N : Type 0} (IsOpened : List ℕ → R → Type 0)
+    (HasLeft : R → List ℕ → Type 0)
+    (CannotOpen CannotList : List ℕ → Type 0) (failed : R → Bool)
+    (HasNames : List ℕ → List (List ℕ) → Type 0) (stuck : Type 0)
+    (HasTold : N → List ℕ → Type 0) (found : Found) (before after : N)
+    (fault : ProgramFault) : Type 0 where
+  pub session : Session
+  pub given : IsGiven found session
+  pub why :
+      IsOfListing CannotList (option_map (λ d. d.now) session.dir) fault
+      ⊎ (IsOfScripts IsOpened HasLeft CannotOpen failed session.scripts.items fault
+      ⊎ (IsTimeless IsOpened HasLeft CannotOpen failed HasNames HasTold session before after fault
+      ⊎ IsOfOutput stuck fault))
 
 -- The session of the words was not recorded.
 pub record IsRecordStopped {R V N : Type 0} (IsOpened : List ℕ → R → Type 0)
@@ -128,7 +143,8 @@ pub record IsStoppedAsGiven {R V I N : Type 0} (IsOpened : List ℕ → R → Ty
   pub circled : name ≡ codes "circle" →
       IsOfSessionWords found fault
       ⊎ (IsNotAClient (text_of found (codes "owner")) fault
-      ⊎ IsRunStopped IsOpened HasLeft CannotOpen CannotList failed stuck found fault)
+      ⊎ IsCircleStopped IsOpened HasLeft CannotOpen CannotList failed HasNames stuck HasTold found
+      before after fault)
   pub does : name ≢ codes "circle" →
       IsSilentStopped IsOpened HasLeft CannotOpen CannotList failed HasNames AreOne IsBegun
       writer_failed takes_some CannotBegin CannotStore HasInput input_failed stuck HasTold

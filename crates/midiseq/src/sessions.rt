@@ -3,7 +3,7 @@
 ghost use Rattle.std.specs.Prelude.{◌≡◌, ◌⊎◌, false, codes, IfOk, IfErr, OnOk};
 ghost use Rattle.clap.specs.Matches.{found_of};
 ghost use Rattle.midiseq.specs.Given.{text_of, IsGiven, RunsAsGiven, CirclesAsGiven, RecordsAsGiven};
-ghost use Rattle.midiseq.specs.Refused.{IsOfSessionWords, IsNotAClient, IsNotAPort, IsRunStopped, IsRecordStopped};
+ghost use Rattle.midiseq.specs.Refused.{IsOfSessionWords, IsNotAClient, IsNotAPort, IsRunStopped, IsCircleStopped, IsRecordStopped};
 ghost use Rattle.seq_session.specs.Rising.{AreRising};
 ghost use Rattle.program_tasks.specs.Faults.{IsStuck};
 ghost use Rattle.program_tasks.specs.Sessions.{owners};
@@ -77,7 +77,8 @@ pub(crate) fn record<'a, S: FileStore, N: Notes>(
     program_tasks::record(alloc, store, &session, &recording, notes)
 }
 
-/// Prints the circle round the client of --owner, and tells whether it is shut.
+/// Prints the circle round the client of --owner, and tells whether it is shut; without --owner those round all
+/// clients, and whether all are.
 pub(crate) fn circle<'a, S: FileStore, W: Sink, N: Notes>(
     alloc: Global,
     store: &S,
@@ -91,11 +92,14 @@ pub(crate) fn circle<'a, S: FileStore, W: Sink, N: Notes>(
         out.old out.new notes.old notes.new) }
     ensures fault { IfErr result (λ e. IsOfSessionWords (found_of found.now) e
         ⊎ (IsNotAClient (text_of (found_of found.now) (codes "owner")) e
-        ⊎ IsRunStopped S.IsOpened S.Reader.HasLeft S.CannotOpen S.CannotList S.Reader.failed
-        (IsStuck W.failed W.takes_some out.old out.new) (found_of found.now) e)) }
+        ⊎ IsCircleStopped S.IsOpened S.Reader.HasLeft S.CannotOpen S.CannotList S.Reader.failed
+        S.HasNames (IsStuck W.failed W.takes_some out.old out.new) N.HasTold (found_of found.now)
+        notes.old notes.new e)) }
 {
     let session = session_of(alloc, found)?;
-    let word = found.get_str("owner").unwrap_or("");
+    let Some(word) = found.get_str("owner") else {
+        return program_tasks::circles(alloc, store, &session, out, notes);
+    };
     let Some(owner) = client_named(word) else {
         return Err(ProgramFault::NotAClient(word));
     };

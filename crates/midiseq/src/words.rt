@@ -95,8 +95,9 @@ said. With --list comes the listing at the end: clients, ports, filters, queues
 and subscriptions.
 
 The files in D whose names end in .mid can be played by these names; the first
-256 in byte order are taken. One that cannot be read, or is no Standard MIDI
-File, is left out, and standard error has a line `midiseq: left out NAME`.
+256 in byte order are taken. One that cannot be read, or is no regular file or
+no Standard MIDI File, is left out, and standard error has a line
+`midiseq: left out NAME`.
 
 Example, with these lines in keys.txt and synth.txt:
   0 open keys 100 100             0 open synth 100 100
@@ -130,6 +131,12 @@ owner's ports or to a member's filters, parts such a pair, or names a queue of
 it. In a circle that is shut, no script of anybody else can change what comes
 to the owner's ports, or when.
 
+With --until N the run until N is meant. Without it the answer is for every N;
+then no line of a script may go back in time. Without --owner there is a line
+for each client that has a script: `CLIENT shut`, with the other members of its
+circle, or `CLIENT open` with the first line that leaves it open; status 0
+where all are shut.
+
 The lines, in this order:
   circle CLIENT
       the owner
@@ -142,15 +149,17 @@ The lines, in this order:
   open line LINE of CLIENT ..: anyone may join it
       a line that makes a port of the owner, or a filter of a member, with
       WRITE 2 and SUBS_WRITE 64
+  mend line LINE of CLIENT ..: nobody else may join it
+      behind each of these, the same without SUBS_WRITE
   shut, or open
       the answer: status 0 for shut, 3 for open
 
 Example, with the lines of `midiseq run --help`:
-  midiseq circle --until 10 --owner 129 128=keys.txt 129=synth.txt
+  midiseq circle --owner 129 128=keys.txt 129=synth.txt
       prints `circle 129`, `member 128 because line 3 of 129 connects 128:p0
-      to 129:p0`, `open line 2 of 129 port 0 caps 66: anyone may join it` and
-      `open`, each on a line. With 2 in place of 66 it prints the first two
-      lines and `shut`.";
+      to 129:p0`, `open line 2 of 129 port 0 caps 66: anyone may join it`,
+      how that is mended, and `open`, each on a line. With 2 in place of 66 it
+      prints the first two lines and `shut`.";
 
 /// The program's subcommands with their words.
 pub(crate) fn command<'a>(alloc: Global) -> Result<Command<'a>, AllocError> {
@@ -201,7 +210,7 @@ fn circle<'a>(alloc: Global) -> Result<Command<'a>, AllocError> {
     Command::new(alloc, "circle")
         .about("Says from scripts alone whether strangers can change what a client hears")
         .after_help(CIRCLE_HELP)
-        .arg(until(alloc))?
+        .arg(until_or_always(alloc))?
         .arg(dir(alloc))?
         .arg(owner(alloc))?
         .arg(scripts(alloc))
@@ -213,6 +222,16 @@ fn until<'a>(alloc: Global) -> Arg<'a> {
         .required(true)
         .value_name("N")
         .help("the moment at which the run ends, in nanoseconds from its beginning")
+}
+
+/// The end of a session that may have none, which is the greatest moment.
+fn until_or_always<'a>(alloc: Global) -> Arg<'a> {
+    Arg::new(alloc, "until")
+        .long("until")
+        .default_value("18446744073709551615")
+        .hide_default_value(true)
+        .value_name("N")
+        .help("the moment at which the run ends; without it the answer is for every end")
 }
 
 fn dir<'a>(alloc: Global) -> Arg<'a> {
@@ -246,9 +265,8 @@ fn port<'a>(alloc: Global) -> Arg<'a> {
 fn owner<'a>(alloc: Global) -> Arg<'a> {
     Arg::new(alloc, "owner")
         .long("owner")
-        .required(true)
         .value_name("CLIENT")
-        .help("the client whose circle it is, 128 to 191")
+        .help("the client whose circle it is, 128 to 191; without it a line for each")
 }
 
 fn out<'a>(alloc: Global) -> Arg<'a> {

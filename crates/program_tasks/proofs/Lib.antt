@@ -10,6 +10,7 @@ pub mod Found
 pub mod Fronts
 pub mod Ordered
 pub mod Places
+pub mod Endless
 pub mod PrintedLogs
 pub mod WordsTold
 pub mod Ticks

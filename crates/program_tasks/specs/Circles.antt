@@ -1,5 +1,6 @@
 -- Definition: What is printed of a circle.
-use Rattle.std.specs.Prelude.{◌≡◌, ℕ, List, [], ◌∷◌}
+use Rattle.std.specs.Prelude.{◌≡◌, ◌≢◌, ◌≤◌, ℕ, List, [], ◌∷◌}
+use Rattle.std.specs.List.{All}
 use Rattle.byte_io.specs.Moved.{Took}
 use Rattle.seq_circle.specs.declared.members.Joined.{Joined}
 use Rattle.seq_circle.specs.Least.{is_member, IsLeastCircle, NoneIsShut, places_where, opens_circle, reaches_out}
@@ -7,10 +8,17 @@ use Rattle.seq_session.specs.declared.source.Script.{Script}
 use Rattle.seq_session.specs.Merging.{inputs_of, lines_of}
 use Rattle.seq_session.specs.Rising.{AreRising}
 use Rattle.seq_session.specs.Sessions.{FolderContents, session, script_clients}
+use Rattle.session_circle.specs.declared.circle.SessionCircle.{SessionCircle}
+use Rattle.session_circle.specs.declared.table.OwnedCircle.{OwnedCircle}
+use Rattle.session_circle.specs.Found.{AreCirclesOf}
+use Rattle.session_circle.specs.declared.every_end.TheConstants.{NO_END}
+use Rattle.session_circle.specs.EveryEnd.{IsFirstBack}
 use Rattle.session_circle.specs.Laws.{NoScriptMatters, NoByteChanges, AreOutside}
-use Rattle.session_circle.specs.Printed.{circle_text}
+use Rattle.session_circle.specs.Printed.{circle_text, table_text}
 use Rattle.program_tasks.specs.declared.answer.CircleAnswer.{CircleAnswer}
 use Rattle.program_tasks.specs.declared.answer.CircleAnswer.TheVariants.{Shut, Open}
+use Rattle.program_tasks.specs.declared.program_fault.ProgramFault.{ProgramFault}
+use Rattle.program_tasks.specs.declared.program_fault.ProgramFault.TheVariants.{GoesBack, OutOfMemory}
 use Rattle.program_tasks.specs.declared.words.ScriptWord.{ScriptWord}
 use Rattle.program_tasks.specs.Opened.{AreOfFiles}
 
@@ -29,9 +37,33 @@ pub record IsCircleIn (folder : FolderContents) (end : ℕ) (scripts : List Scri
   pub apart_are : apart
       ≡ places_where (reaches_out owner joined) (inputs_of (session folder end scripts))
 
+-- The circle that was found is the least round the owner in the session of these scripts, with all
+-- that is said of it below.
+pub record IsCircleFound (folder : FolderContents) (end : ℕ) (scripts : List Script) (owner : ℕ)
+    (found : SessionCircle) : Type 0 where
+  pub inputs : found.merged.inputs ≡ inputs_of (session folder end scripts)
+  pub lines : found.merged.lines ≡ lines_of (session folder end scripts)
+  pub is : IsCircleIn folder end scripts owner found.circle.joined.items
+      found.circle.openings.items found.circle.apart.items
+  pub shut : found.circle.openings.items ≡ []
+      → NoScriptMatters folder end scripts owner (is_member owner found.circle.joined.items)
+  pub outside : AreOutside folder end scripts owner
+      (is_member owner found.circle.joined.items)
+      (lines_of (session folder end scripts)) found.circle.apart.items
+  pub every_byte : found.circle.openings.items ≡ [] → found.circle.apart.items ≡ []
+      → NoByteChanges folder end scripts owner (is_member owner found.circle.joined.items)
+  pub none_is_shut : found.circle.openings.items ≢ []
+      → NoneIsShut owner (inputs_of (session folder end scripts))
+  pub every_end : end ≡ NO_END → found.circle.openings.items ≡ [] → (e : ℕ) → e ≤ NO_END
+      → NoScriptMatters folder e scripts owner (is_member owner found.circle.joined.items)
+  pub every_end_byte : end ≡ NO_END → found.circle.openings.items ≡ []
+      → found.circle.apart.items ≡ [] → (e : ℕ) → e ≤ NO_END
+      → NoByteChanges folder e scripts owner (is_member owner found.circle.joined.items)
+
 -- The text and the answer are those of the least circle round the owner. Where it is shut, no
 -- script of a stranger changes the owner's log, but for the outcomes that the text names; and where
--- it names none, none changes a byte. Where it is open, no circle round the owner is shut.
+-- it names none, none changes a byte. Where it is open, no circle round the owner is shut. Of a
+-- session without an end the same is so for every end.
 pub record IsCircleTold (folder : FolderContents) (end : ℕ) (scripts : List Script) (owner : ℕ)
     (answer : CircleAnswer) (text : List ℕ) : Type 0 where
   pub joined : List Joined
@@ -48,6 +80,10 @@ pub record IsCircleTold (folder : FolderContents) (end : ℕ) (scripts : List Sc
   pub every_byte : answer ≡ Shut → apart ≡ []
       → NoByteChanges folder end scripts owner (is_member owner joined)
   pub none_is_shut : answer ≡ Open → NoneIsShut owner (inputs_of (session folder end scripts))
+  pub every_end : end ≡ NO_END → answer ≡ Shut → (e : ℕ) → e ≤ NO_END
+      → NoScriptMatters folder e scripts owner (is_member owner joined)
+  pub every_end_byte : end ≡ NO_END → answer ≡ Shut → apart ≡ [] → (e : ℕ) → e ≤ NO_END
+      → NoByteChanges folder e scripts owner (is_member owner joined)
 
 -- The scripts were read from the files that the words name, the sink took the text of the least
 -- circle in the session of just these, and the answer is that circle's.
@@ -61,3 +97,56 @@ pub record IsCirclePrinted {R W : Type 0} (IsOpened : List ℕ → R → Type 0)
   pub text : List ℕ
   pub told : IsCircleTold folder end scripts owner answer text
   pub took : Took HasTaken old text new
+
+-- ---- the circles round all clients
+
+-- The text has a line for the least circle round the client of each script, and the answer is
+-- whether each of these is shut.
+pub record AreCirclesTold (folder : FolderContents) (end : ℕ) (scripts : List Script)
+    (answer : CircleAnswer) (text : List ℕ) : Type 0 where
+  pub circles : List OwnedCircle
+  pub are : AreCirclesOf folder end scripts circles
+  pub text_is : text
+      ≡ table_text (lines_of (session folder end scripts)) (inputs_of (session folder end scripts))
+      circles
+  pub shut : answer ≡ Shut → All (λ c. c.circle.openings.items ≡ []) circles
+  pub not_all : answer ≡ Open → All (λ c. c.circle.openings.items ≡ []) circles → ⊥
+
+-- The scripts were read from the files that the words name, the sink took the lines of all circles
+-- in the session of just these, and the answer is theirs.
+pub record AreCirclesPrinted {R W : Type 0} (IsOpened : List ℕ → R → Type 0)
+    (HasLeft : R → List ℕ → Type 0)
+    (HasTaken : W → List ℕ → Type 0) (folder : FolderContents) (end : ℕ) (words : List ScriptWord)
+    (answer : CircleAnswer) (old new : W) : Type 0 where
+  pub scripts : List Script
+  pub read : AreOfFiles IsOpened HasLeft words scripts
+  pub rising : AreRising (script_clients scripts)
+  pub text : List ℕ
+  pub told : AreCirclesTold folder end scripts answer text
+  pub took : Took HasTaken old text new
+
+-- ---- lines that go back in time
+
+-- The scripts were read from the files that the words name, and of their lines this is the first
+-- that goes back in time, in a session without an end.
+pub record IsBackInTime {R : Type 0} (IsOpened : List ℕ → R → Type 0)
+    (HasLeft : R → List ℕ → Type 0)
+    (folder : FolderContents) (end : ℕ) (words : List ScriptWord) (client line : ℕ) : Type 0 where
+  pub scripts : List Script
+  pub read : AreOfFiles IsOpened HasLeft words scripts
+  pub endless : end ≡ NO_END
+  pub first : IsFirstBack folder scripts client line
+
+-- a line goes back in time
+abbrev pub IsOfTime : {R : Type 0} → (List ℕ → R → Type 0) → (R → List ℕ → Type 0) →
+    FolderContents → ℕ → List ScriptWord → ProgramFault → Type 0
+IsOfTime IsOpened HasLeft folder end words (GoesBack client line) =
+    IsBackInTime IsOpened HasLeft folder end words client line
+IsOfTime IsOpened HasLeft folder end words _ = ⊥
+
+-- a line of these scripts goes back in time, or out of memory
+abbrev pub IsOfLines : FolderContents → ℕ → List Script → ProgramFault → Type 0
+IsOfLines folder end scripts (GoesBack client line) =
+    (end ≡ NO_END) × IsFirstBack folder scripts client line
+IsOfLines folder end scripts OutOfMemory = Unit {0}
+IsOfLines folder end scripts _ = ⊥

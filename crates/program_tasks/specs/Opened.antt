@@ -72,7 +72,7 @@ module _ {R : Type 0} (IsOpened : List ℕ → R → Type 0) (HasLeft : R → Li
 
     -- The names are those of a folder that end in `.mid`, and the contents those of the first of
     -- them; where no folder is named there are none.
-    pub record IsListed (HasNames : List ℕ → List (List ℕ) → Type 0) (folder : List ℕ)
+    pub record IsFolderListed (HasNames : List ℕ → List (List ℕ) → Type 0) (folder : List ℕ)
         (names : List (List ℕ)) (contents : List (Option (List ℕ))) : Type 0 where
       pub entries : List (List ℕ)
       pub listed : HasNames folder entries
@@ -82,4 +82,4 @@ module _ {R : Type 0} (IsOpened : List ℕ → R → Type 0) (HasLeft : R → Li
     abbrev pub IsFolder : (List ℕ → List (List ℕ) → Type 0) → Option (List ℕ) →
         List (List ℕ) → List (Option (List ℕ)) → Type 0
     IsFolder HasNames None names contents = names ≡ []
-    IsFolder HasNames (Some folder) names contents = IsListed HasNames folder names contents
+    IsFolder HasNames (Some folder) names contents = IsFolderListed HasNames folder names contents

@@ -18,7 +18,7 @@ use Rattle.program_tasks.specs.declared.ending.Ended.TheVariants.{Done, Shown, A
 use Rattle.tool_text.specs.declared.fault.ToolFault.{ToolFault}
 use Rattle.tool_text.specs.declared.fault.ToolFault.TheVariants as tool
 use Rattle.program_tasks.specs.declared.program_fault.ProgramFault.{ProgramFault}
-use Rattle.program_tasks.specs.declared.program_fault.ProgramFault.TheVariants.{NotUtf8, NoSubcommand, NotAMoment, NotAPort, NotAClient, NotAScript, TwoScripts, OutIsRead, CannotRead, CannotWrite, OutOfMemory, CannotRecord, Smf}
+use Rattle.program_tasks.specs.declared.program_fault.ProgramFault.TheVariants.{NotUtf8, NoSubcommand, NotAMoment, NotAPort, NotAClient, NotAScript, TwoScripts, OutIsRead, GoesBack, CannotRead, CannotWrite, OutOfMemory, CannotRecord, Smf}
 
 -- ---- the choice
 
@@ -64,6 +64,9 @@ program_fault_text (TwoScripts client) =
     codes "client " ++ decimal client ++ codes " has two scripts"
 program_fault_text (OutIsRead path) =
     escaped_text path.now ++ codes " is a file that the session reads"
+program_fault_text (GoesBack client line) =
+    codes "line " ++ decimal line ++ codes " of " ++ decimal client
+    ++ codes " goes back in time: give --until"
 program_fault_text (CannotRead path) = codes "cannot read " ++ escaped_text path.now
 program_fault_text (CannotWrite path) = codes "cannot write " ++ escaped_text path.now
 program_fault_text OutOfMemory = out_of_memory_text
@@ -87,6 +90,7 @@ is_helped (NotAClient word) = true
 is_helped (NotAScript word) = true
 is_helped (TwoScripts client) = true
 is_helped (OutIsRead path) = true
+is_helped (GoesBack client line) = true
 is_helped (CannotRead path) = false
 is_helped (CannotWrite path) = false
 is_helped OutOfMemory = false
@@ -123,6 +127,7 @@ exit_status (NotAClient word) = 2
 exit_status (NotAScript word) = 2
 exit_status (TwoScripts client) = 2
 exit_status (OutIsRead path) = 2
+exit_status (GoesBack client line) = 2
 exit_status (CannotRead path) = 1
 exit_status (CannotWrite path) = 1
 exit_status OutOfMemory = 1

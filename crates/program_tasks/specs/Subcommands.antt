@@ -13,7 +13,7 @@ use Rattle.program_tasks.specs.declared.session.Session.{Session}
 use Rattle.program_tasks.specs.Faults.{IsOfRefusal, IsOfScripts, IsOfSharing, IsOfWriting}
 use Rattle.program_tasks.specs.Opened.{IsFolder}
 use Rattle.program_tasks.specs.declared.answer.CircleAnswer.{CircleAnswer}
-use Rattle.program_tasks.specs.Circles.{IsCirclePrinted}
+use Rattle.program_tasks.specs.Circles.{IsCirclePrinted, AreCirclesPrinted, IsOfTime}
 use Rattle.program_tasks.specs.Printed.{IsSessionPrinted}
 use Rattle.program_tasks.specs.Recorded.{IsSessionRecorded}
 
@@ -54,6 +54,25 @@ module _ {R : Type 0} (IsOpened : List ℕ → R → Type 0) (HasLeft : R → Li
     pub printed :
         IsCirclePrinted IsOpened HasLeft HasTaken files session.until session.scripts.items owner
         answer old new
+
+  -- The sink took the lines of the least circles round all clients of the session, and the answer
+  -- is whether each is shut.
+  pub record AreCirclesAnswered {W N : Type 0} (HasTaken : W → List ℕ → Type 0)
+      (HasTold : N → List ℕ → Type 0)
+      (session : Session) (answer : CircleAnswer) (old new : W)
+      (before after : N) : Type 0 where
+    pub files : FolderContents
+    pub are : AreFilesOf HasTold (option_map (λ d. d.now) session.dir) before after files
+    pub printed :
+        AreCirclesPrinted IsOpened HasLeft HasTaken files session.until session.scripts.items
+        answer old new
+
+  -- A line goes back in time in the session, which has no end.
+  pub record IsTimeless {N : Type 0} (HasTold : N → List ℕ → Type 0) (session : Session)
+      (before after : N) (fault : ProgramFault) : Type 0 where
+    pub files : FolderContents
+    pub are : AreFilesOf HasTold (option_map (λ d. d.now) session.dir) before after files
+    pub why : IsOfTime IsOpened HasLeft files session.until session.scripts.items fault
 
   -- The session was run, and what came to a port was written to a path.
   pub record IsRunRecorded {W N : Type 0} (IsBegun : List ℕ → W → Type 0)

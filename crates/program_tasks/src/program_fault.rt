@@ -30,6 +30,8 @@ pub enum ProgramFault<'a> {
     TwoScripts(u8),
     /// What is to be written is a file that the session reads.
     OutIsRead(&'a str),
+    /// Without an end of the session, which lines are taken can't be told: this one goes back in time.
+    GoesBack { client: u8, line: u64 },
     CannotRead(&'a str),
     CannotWrite(&'a str),
     OutOfMemory,
@@ -76,7 +78,8 @@ impl<'a> ProgramFault<'a> {
             | ProgramFault::NotAClient(_)
             | ProgramFault::NotAScript(_)
             | ProgramFault::TwoScripts(_)
-            | ProgramFault::OutIsRead(_) => 2,
+            | ProgramFault::OutIsRead(_)
+            | ProgramFault::GoesBack { .. } => 2,
             ProgramFault::CannotRead(_)
             | ProgramFault::CannotWrite(_)
             | ProgramFault::OutOfMemory
@@ -98,6 +101,7 @@ impl<'a> ProgramFault<'a> {
                 | ProgramFault::NotAScript(_)
                 | ProgramFault::TwoScripts(_)
                 | ProgramFault::OutIsRead(_)
+                | ProgramFault::GoesBack { .. }
         )
     }
 }
@@ -132,6 +136,9 @@ impl fmt::Display for ProgramFault<'_> {
             ProgramFault::OutIsRead(path) => {
                 let path = Escaped(path);
                 write!(f, "{path} is a file that the session reads")
+            }
+            ProgramFault::GoesBack { client, line } => {
+                write!(f, "line {line} of {client} goes back in time: give --until")
             }
             ProgramFault::CannotRead(path) => {
                 let path = Escaped(path);

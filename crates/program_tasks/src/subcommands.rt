@@ -5,7 +5,7 @@ ghost use Rattle.std.specs.Option.{option_map};
 ghost use Rattle.seq_session.specs.Rising.{AreRising};
 ghost use Rattle.program_tasks.specs.Faults.{IsOfListing, IsOfScripts, IsOfOutput, IsStuck};
 ghost use Rattle.program_tasks.specs.Sessions.{owners};
-ghost use Rattle.program_tasks.specs.Subcommands.{IsRunPrinted, IsCircleAnswered, IsRunRecorded, IsRecordingStopped};
+ghost use Rattle.program_tasks.specs.Subcommands.{IsRunPrinted, IsCircleAnswered, AreCirclesAnswered, IsTimeless, IsRunRecorded, IsRecordingStopped};
 
 use crate::answer::CircleAnswer;
 use crate::circling::print_circle;
@@ -15,6 +15,7 @@ use crate::printing::print_session;
 use crate::program_fault::ProgramFault;
 use crate::recording::{Recording, record_session};
 use crate::session::Session;
+use crate::tabling::print_circles;
 use byte_io::Sink;
 use file_store::FileStore;
 use node_table::ClientId;
@@ -67,11 +68,39 @@ pub fn circle<'a, S: FileStore, W: Sink, N: Notes>(
         IsOfListing S.CannotList (option_map (λ d. d.now) session.now.dir) e
         ⊎ (IsOfScripts S.IsOpened S.Reader.HasLeft S.CannotOpen S.Reader.failed
         session.now.scripts.items e
-        ⊎ IsOfOutput (IsStuck W.failed W.takes_some out.old out.new) e)) }
+        ⊎ (IsTimeless S.IsOpened S.Reader.HasLeft S.CannotOpen S.Reader.failed S.HasNames
+        N.HasTold session.now notes.old notes.new e
+        ⊎ IsOfOutput (IsStuck W.failed W.takes_some out.old out.new) e))) }
 {
     let folder = Folder::read(alloc, store, session.dir)?;
     let opened = folder.open(alloc, notes)?;
     print_circle(alloc, store, session, &named(&opened), owner, out)
+}
+
+/// Prints a line for the least circle round each client of a session, and tells whether each is shut. Nothing is run.
+///
+/// Tells which files of the folder are left out.
+pub fn circles<'a, S: FileStore, W: Sink, N: Notes>(
+    alloc: Global,
+    store: &S,
+    session: &Session<'a>,
+    out: &mut W,
+    notes: &mut N,
+) -> Result<CircleAnswer, ProgramFault<'a>>
+    requires rising { AreRising (owners session.now.scripts.items) }
+    requires sound { W.failed out.old ≡ false }
+    ensures printed { IfOk result (λ answer. AreCirclesAnswered S.IsOpened S.Reader.HasLeft S.CannotOpen
+        S.Reader.failed S.HasNames W.HasTaken N.HasTold session.now answer
+        out.old out.new notes.old notes.new) }
+    ensures fault { IfErr result (λ e.
+        IsOfListing S.CannotList (option_map (λ d. d.now) session.now.dir) e
+        ⊎ (IsOfScripts S.IsOpened S.Reader.HasLeft S.CannotOpen S.Reader.failed
+        session.now.scripts.items e
+        ⊎ IsOfOutput (IsStuck W.failed W.takes_some out.old out.new) e)) }
+{
+    let folder = Folder::read(alloc, store, session.dir)?;
+    let opened = folder.open(alloc, notes)?;
+    print_circles(alloc, store, session, &named(&opened), out)
 }
 
 /// Runs the scripts of a session, and writes what came to a port to a file, once all else is done.

@@ -1,5 +1,6 @@
 pub mod Least
 pub mod LineMore
+pub mod Mending
 pub mod Opened
 pub mod Passes
 pub mod Places

@@ -1,5 +1,5 @@
 -- Law: What holds of shut circles, for all lists of inputs.
-use Rattle.std.specs.Prelude.{◌≡◌, ℕ, ◌==◌, Bool, not, ◌&&◌, ◌||◌, IsTrue, IsFalse, List, [], ◌∷◌, ◌++◌}
+use Rattle.std.specs.Prelude.{◌≡◌, ℕ, ◌==◌, Bool, not, ◌&&◌, ◌||◌, IsTrue, IsFalse, List, [], ◌∷◌, ◌++◌, map}
 use Rattle.std.specs.List.{list_all}
 use Rattle.node_table.specs.Capabilities.{read_bit}
 use Rattle.node_table.specs.declared.number.Addr.{Addr}
@@ -11,7 +11,8 @@ use Rattle.seq_state.specs.State.{start}
 use Rattle.seq_state.specs.Step.{plain, IsTimed, IsRefusal, step, state_after, port_addr, filter_addr}
 use Rattle.seq_state.specs.Circle.{only, view, IsClosed}
 use Rattle.seq_state.specs.Heard.{port_at, port_bytes}
-use Rattle.seq_circle.specs.Shut.{stays_within, is_shut, opens}
+use Rattle.seq_circle.specs.Shut.{stays_within, is_whole_circle, is_shut, opens}
+use Rattle.seq_circle.specs.Mending.{mended}
 
 -- What the members say keeps the circle closed, whatever strangers say, and wherever they say it.
 abbrev pub ShutLaw : Type 0
@@ -88,3 +89,10 @@ pub record LineMoreLaw : Type 0 where
       ≡ (is_shut owner member (before ++ after) && keeps_shut owner member i)
   pub strangers : (owner : ℕ) (member : ℕ → Bool) (inputs : List Input) →
       is_shut owner member inputs ≡ is_shut owner member (only member inputs)
+
+-- a circle in which all are whom its members ask for is shut, once each making of a member that
+-- anyone could join is mended: so what its members ask for is all that can keep it open
+abbrev pub MendLaw : Type 0
+MendLaw =
+    (owner : ℕ) (member : ℕ → Bool) (inputs : List Input) →
+    is_shut owner member (map (mended owner member) inputs) ≡ is_whole_circle owner member inputs

@@ -1,4 +1,5 @@
 pub mod Shut
 pub mod Least
+pub mod Mending
 pub mod Laws
 pub mod Finding

@@ -4,6 +4,7 @@ ghost use Rattle.std.specs.Prelude.{◌≡◌};
 ghost use Rattle.seq_state.specs.Circle.{is_inner, aims_outside};
 ghost use Rattle.seq_circle.specs.Shut.{is_joinable, opens, joined_client, asked_client};
 ghost use Rattle.seq_circle.specs.Least.{is_member};
+ghost use Rattle.seq_circle.specs.Mending.{closed_caps};
 
 use crate::members::Members;
 use bitflags::Flags;
@@ -67,6 +68,9 @@ pub(crate) fn asked_client(members: &Members, command: &Command) -> Option<Clien
         | Command::PoolStatus => None,
     }
 }
+
+/// READ, WRITE, DUPLEX, SUBS_READ and NO_EXPORT: all but SUBS_WRITE.
+const CLOSED: u8 = 1 + 2 + 16 + 32 + 128;
 
 fn is_joinable(caps: Caps) -> bool
     ensures { result ≡ is_joinable caps.0 }
@@ -140,4 +144,11 @@ pub(crate) fn aims_outside(members: &Members, command: &Command) -> bool
         | Command::Receive { .. }
         | Command::PoolStatus => false,
     }
+}
+
+/// The number of capabilities without SUBS_WRITE.
+pub fn closed_bits(caps: Caps) -> u8
+    ensures { result ≡ closed_caps caps.0 }
+{
+    caps.bits() & CLOSED
 }

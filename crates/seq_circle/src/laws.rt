@@ -1,6 +1,6 @@
 //! What holds of shut circles, for all lists of inputs. These functions do nothing: their contracts are the laws.
 
-ghost use Rattle.seq_circle.specs.Laws.{ShutLaw, StrangersLaw, ShutMeetLaw, OpenLaw, LineMoreLaw};
+ghost use Rattle.seq_circle.specs.Laws.{ShutLaw, StrangersLaw, ShutMeetLaw, OpenLaw, LineMoreLaw, MendLaw};
 
 /// A shut circle is closed, whatever strangers say.
 pub fn shut_is_closed()
@@ -26,4 +26,10 @@ pub fn open_can_be_joined()
 /// inside that anyone may join; and else the circle is shut no longer.
 pub fn line_more_keeps_shut()
     ensures { LineMoreLaw }
+{}
+
+/// A circle in which all are whom its members ask for is shut, once each making that anyone could join is without
+/// SUBS_WRITE.
+pub fn mended_is_shut()
+    ensures { MendLaw }
 {}

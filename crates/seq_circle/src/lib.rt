@@ -10,9 +10,10 @@ mod finding;
 mod laws;
 mod members;
 
+pub use asking::closed_bits;
 pub use circle::{Circle, circle_of};
 pub use laws::{
-    line_more_keeps_shut, no_stranger_matters, open_can_be_joined, shut_circles_meet,
-    shut_is_closed,
+    line_more_keeps_shut, mended_is_shut, no_stranger_matters, open_can_be_joined,
+    shut_circles_meet, shut_is_closed,
 };
 pub use members::Joined;

@@ -23,7 +23,7 @@ use Rattle.seq_session.specs.Sessions.{FolderContents, script_reading, session, 
 use Rattle.seq_session.specs.Blank.{outside_lines, blank, text_with_blanks, blank_line, cut_short}
 use Rattle.seq_session.proofs.Isolated.{log_law, merge_law}
 use Rattle.seq_session.proofs.Joining.{readings_sorted}
-use Rattle.session_circle.specs.Laws.{ScriptsLaw, NoScriptMatters, NoByteChanges, AreOutside}
+use Rattle.session_circle.specs.Laws.{LogsAgree, ScriptsLaw, NoScriptMatters, NoByteChanges, AreOutside}
 
 same_script : (member : ℕ → Bool) (c : ℕ) → member c ≡ true → (scripts : List Script) → script_for c (only_scripts member scripts) ≡ script_for c scripts
 same_script member c m [] = refl
@@ -54,6 +54,17 @@ lines_alike (l ∷ ls) = ap (λ x. x ∷ map (blank_line []) ls) (none_cut l (wo
 none_blanked : (text : List ℕ) → text_with_blanks [] text ≡ text
 none_blanked text = ap (join_with_byte 10) (lines_alike (lines text)) ∙ join_with_byte-slice_split 10 text
 
+-- with nothing left out each byte is the same
+pub logs_agree : (folder : FolderContents) (end : ℕ) (member : ℕ → Bool) (owner : Script) (scripts others : List Script) →
+    blank member (script_reading folder end owner) (log_of folder end others owner) ≡ blank member (script_reading folder end owner) (log_of folder end scripts owner) → LogsAgree folder end member owner scripts others
+logs_agree folder end member owner scripts others alike = record {
+  but_for_outcomes = alike;
+  each_byte = λ e.
+      sym (ap (λ ns. text_with_blanks ns (log_of folder end others owner)) e ∙ none_blanked (log_of folder end others owner))
+      ∙ alike
+      ∙ ap (λ ns. text_with_blanks ns (log_of folder end scripts owner)) e ∙ none_blanked (log_of folder end scripts owner);
+}
+
 pub scripts_law : ScriptsLaw
 scripts_law folder end owner member scripts others rising rising' there shut same =
     let mine : List Input = inputs_of (session folder end scripts) in
@@ -67,17 +78,11 @@ scripts_law folder end owner member scripts others rising rising' there shut sam
     log_law folder end owner member others rising' there' (shut_law folder.files owner.client member mine theirs shut said)
     ∙ ap (λ ss. blank member (script_reading folder end owner) (log_of folder end ss owner)) same
     ∙ sym (log_law folder end owner member scripts rising there (shut_law folder.files owner.client member mine mine shut refl)) in
-    record {
-      but_for_outcomes = alike;
-      each_byte = λ e.
-          sym (ap (λ ns. text_with_blanks ns (log_of folder end others owner)) e ∙ none_blanked (log_of folder end others owner))
-          ∙ alike
-          ∙ ap (λ ns. text_with_blanks ns (log_of folder end scripts owner)) e ∙ none_blanked (log_of folder end scripts owner);
-    }
+    logs_agree folder end member owner scripts others alike
 
 -- ---- what the code answers
 
-found_client : (c : ℕ) (scripts : List Script) (s : Script) → script_for c scripts ≡ Some s → s.client ≡ c
+pub found_client : (c : ℕ) (scripts : List Script) (s : Script) → script_for c scripts ≡ Some s → s.client ≡ c
 found_client c [] s e = absurd (none_some s e)
 found_client c (t ∷ scripts) s e = go (eqb t.client c) refl e (found_client c scripts s)
   where
@@ -171,7 +176,7 @@ outside_at folder end scripts client joined lines inputs places l i e o r t =
     ∙ ap (says client) (its_inputs folder end scripts client o r t)
     ∙ ap (λ c. says c (script_reading folder end o).inputs) (sym (script-client o.client folder.names end o.text ∙ found_client client scripts o t))
 
-no_lines : (ns : List ℕ) → [] ≡ map Some ns → ns ≡ []
+pub no_lines : (ns : List ℕ) → [] ≡ map Some ns → ns ≡ []
 no_lines [] e = refl
 no_lines (n ∷ ns) e = cc
 

@@ -1,11 +1,13 @@
 -- Law: What no script of a stranger changes.
-use Rattle.std.specs.Prelude.{◌≡◌, ℕ, Bool, IsTrue, List, [], map, Some, slice_get}
+use Rattle.std.specs.Prelude.{◌≡◌, ◌≤◌, ℕ, Bool, IsTrue, List, [], map, Some, slice_get}
 use Rattle.seq_circle.specs.Shut.{is_shut}
 use Rattle.seq_session.specs.declared.source.Script.{Script}
 use Rattle.seq_session.specs.Rising.{AreRising}
 use Rattle.seq_session.specs.Merging.{inputs_of}
 use Rattle.seq_session.specs.Sessions.{FolderContents, script_reading, session, log_of, script_clients, script_for, only_scripts}
 use Rattle.seq_session.specs.Blank.{blank, outside_lines}
+use Rattle.session_circle.specs.declared.every_end.TheConstants.{NO_END}
+use Rattle.session_circle.specs.EveryEnd.{NoneGoesBack, inputs_until}
 
 -- The owner's logs in two sessions are the same but for the outcomes at targets outside; and where
 -- the owner joins and parts nothing outside, each byte of them is.
@@ -56,3 +58,18 @@ AreOutside folder end scripts client member lines places =
     script_for client scripts ≡ Some owner →
     map (slice_get lines) places
     ≡ map Some (outside_lines member (script_reading folder end owner))
+
+-- ---- every end of the run
+
+-- Where no line goes back in time, a session until an end is what the session without one says
+-- until then. So what is shut without an end is shut for each, and no script of a stranger matters.
+pub record EveryEndLaw : Type 0 where
+  pub inputs : (folder : FolderContents) (scripts : List Script) → NoneGoesBack folder scripts →
+      (end : ℕ) → end ≤ NO_END →
+      session folder end scripts ≡ inputs_until end (session folder NO_END scripts)
+  pub shut : (folder : FolderContents) (scripts : List Script) (owner : ℕ) (member : ℕ → Bool) →
+      NoneGoesBack folder scripts →
+      IsTrue (is_shut owner member (inputs_of (session folder NO_END scripts))) →
+      (end : ℕ) → end ≤ NO_END →
+      IsTrue (is_shut owner member (inputs_of (session folder end scripts)))
+      × NoScriptMatters folder end scripts owner member

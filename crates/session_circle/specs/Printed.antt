@@ -4,12 +4,16 @@ use Rattle.std.specs.List.{flat_map, list_any}
 use Rattle.std.specs.Fmt.{decimal}
 use Rattle.node_table.specs.Text.{addr_text, queue_text}
 use Rattle.node_table.specs.declared.number.Addr.{Addr}
+use Rattle.node_table.specs.declared.number.Node.{Node}
+use Rattle.node_table.specs.declared.number.Node.TheVariants.{Port, Filter}
 use Rattle.node_table.specs.declared.number.QueueAddr.{QueueAddr}
 use Rattle.seq_state.specs.declared.input.Command.{Command}
 use Rattle.seq_state.specs.declared.input.Command.TheVariants.{CreatePort, CreateFilter, Connect, Disconnect, DeleteQueue, Start, Stop, Continue, Tempo, QueueStatus, Share, Schedule, Play}
 use Rattle.seq_state.specs.declared.input.Input.{Input}
 use Rattle.seq_circle.specs.declared.members.Joined.{Joined}
+use Rattle.seq_circle.specs.Mending.{closed_making}
 use Rattle.seq_session.specs.declared.source.Script.{Script}
+use Rattle.session_circle.specs.declared.table.OwnedCircle.{OwnedCircle}
 
 -- ---- what an input does
 
@@ -36,13 +40,27 @@ asking_text (Schedule q port due message) = use_text (codes " schedules on ") q
 asking_text (Play q port file) = use_text (codes " plays on ") q
 asking_text _ = []
 
+-- the node that a command makes, with the number of its capabilities
+abbrev pub making_of : Command → Option (Node × ℕ)
+making_of (CreatePort port name caps) = Some (Port port, caps.0)
+making_of (CreateFilter filter caps rule) = Some (Filter filter, caps.0)
+making_of _ = None
+
+abbrev pub kind_text : Node → List ℕ
+kind_text (Port n) = codes " port " ++ decimal n
+kind_text (Filter n) = codes " filter " ++ decimal n
+
+abbrev pub made_text : Option (Node × ℕ) → List ℕ
+made_text None = []
+made_text (Some made) = kind_text made.0 ++ codes " caps " ++ decimal made.1
+
 -- what a command makes, as ` port 0 caps 66`
 abbrev pub making_text : Command → List ℕ
-making_text (CreatePort port name caps) =
-    codes " port " ++ decimal port ++ codes " caps " ++ decimal caps.0
-making_text (CreateFilter filter caps rule) =
-    codes " filter " ++ decimal filter ++ codes " caps " ++ decimal caps.0
-making_text _ = []
+making_text command = made_text (making_of command)
+
+-- the same made without SUBS_WRITE, as ` port 0 caps 2`
+abbrev pub closing_text : Command → List ℕ
+closing_text command = making_text (closed_making command)
 
 -- ` line 7 of 130`
 abbrev pub line_client_text : ℕ → ℕ → List ℕ
@@ -85,20 +103,72 @@ abbrev pub apart_line : List ℕ → List Input → ℕ → List ℕ
 apart_line lines inputs place =
     codes "apart" ++ text_at asking_text lines inputs place ++ codes "\n"
 
--- `open line 3 of 129 port 0 caps 66: anyone may join it`
+-- `mend line 3 of 129 port 0 caps 2: nobody else may join it`
+abbrev pub mending_line : List ℕ → List Input → ℕ → List ℕ
+mending_line lines inputs place =
+    codes "mend" ++ text_at closing_text lines inputs place
+    ++ codes ": nobody else may join it\n"
+
+-- `open line 3 of 129 port 0 caps 66: anyone may join it`, and how that is mended
 abbrev pub opening_line : List ℕ → List Input → ℕ → List ℕ
 opening_line lines inputs place =
     codes "open" ++ text_at making_text lines inputs place ++ codes ": anyone may join it\n"
+
+abbrev pub opening_lines : List ℕ → List Input → ℕ → List ℕ
+opening_lines lines inputs place =
+    opening_line lines inputs place ++ mending_line lines inputs place
 
 -- `shut`, or `open` where there are openings
 abbrev pub verdict_line : List ℕ → List ℕ
 verdict_line [] = codes "shut\n"
 verdict_line (place ∷ openings) = codes "open\n"
 
--- the owner, the members, the outcomes that strangers may change, the openings, and the verdict
+-- the owner, the members, the outcomes that strangers may change, the openings with what mends
+-- each, and the verdict
 abbrev pub circle_text : ℕ → List Script → List ℕ → List Input → List Joined → List ℕ
     → List ℕ → List ℕ
 circle_text owner scripts lines inputs joined apart openings =
     owner_line owner ++ flat_map (member_line scripts lines inputs) joined
     ++ flat_map (apart_line lines inputs) apart
-    ++ flat_map (opening_line lines inputs) openings ++ verdict_line openings
+    ++ flat_map (opening_lines lines inputs) openings ++ verdict_line openings
+
+-- ---- a table of circles
+
+-- ` 128`
+abbrev pub client_text : ℕ → List ℕ
+client_text client = codes " " ++ decimal client
+
+-- ` 128 129`
+abbrev pub members_text : List Joined → List ℕ
+members_text joined = flat_map (λ j. client_text j.client) joined
+
+-- ` with 128 129`, or nothing where the owner is alone
+abbrev pub company_text : List Joined → List ℕ
+company_text [] = []
+company_text (j ∷ joined) = codes " with" ++ members_text (j ∷ joined)
+
+-- `, apart line 6 of 131 connects 131:p0 to 140:p0`: the first of the outcomes that strangers may
+-- change
+abbrev pub first_apart_text : List ℕ → List Input → List ℕ → List ℕ
+first_apart_text lines inputs [] = []
+first_apart_text lines inputs (place ∷ apart) =
+    codes ", apart" ++ text_at asking_text lines inputs place
+
+-- `shut with 128`
+abbrev pub shut_line : List ℕ → List Input → List Joined → List ℕ → List ℕ
+shut_line lines inputs joined apart =
+    codes "shut" ++ company_text joined ++ first_apart_text lines inputs apart ++ codes "\n"
+
+-- the first opening where there are some, and that it is shut where there are none
+abbrev pub answer_line : List ℕ → List Input → List Joined → List ℕ → List ℕ → List ℕ
+answer_line lines inputs joined apart [] = shut_line lines inputs joined apart
+answer_line lines inputs joined apart (place ∷ openings) = opening_line lines inputs place
+
+-- `130 shut with 128 129`
+abbrev pub table_line : List ℕ → List Input → OwnedCircle → List ℕ
+table_line lines inputs c =
+    (decimal c.owner ++ codes " ")
+    ++ answer_line lines inputs c.circle.joined.items c.circle.apart.items c.circle.openings.items
+
+abbrev pub table_text : List ℕ → List Input → List OwnedCircle → List ℕ
+table_text lines inputs circles = flat_map (table_line lines inputs) circles

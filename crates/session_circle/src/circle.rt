@@ -2,8 +2,9 @@
 
 ghost use Rattle.std.specs.Prelude.{◌≡◌, ◌≢◌, [], map, IfOk};
 ghost use Rattle.seq_circle.specs.Least.{is_member, IsLeastCircle, NoneIsShut, places_where, opens_circle, reaches_out};
-ghost use Rattle.seq_session.specs.Merging.{inputs_of, lines_of};
+ghost use Rattle.seq_session.specs.Merging.{inputs_of, lines_of, merge_of, AreSorted};
 ghost use Rattle.seq_session.specs.Sessions.{script_reading, session};
+ghost use Rattle.session_circle.specs.Found.{IsFoundAmong};
 ghost use Rattle.session_circle.specs.Laws.{NoScriptMatters, NoByteChanges, AreOutside};
 
 use memory::OutOfMemory;
@@ -22,7 +23,7 @@ pub struct SessionCircle {
 }
 
 /// The readings of all scripts.
-fn readings(
+pub(crate) fn readings(
     alloc: Global,
     scripts: &[Script],
     files: &NamedFiles<'_, '_>,
@@ -35,6 +36,21 @@ fn readings(
         reads.push(parse_script(alloc, one.client, one.text.as_slice(), files, until)?)?;
     }
     Ok(reads)
+}
+
+/// The least circle round a client in the session of these readings.
+pub(crate) fn circle_of_readings(
+    alloc: Global,
+    owner: ClientId,
+    reads: &[ScriptRead],
+) -> Result<SessionCircle, OutOfMemory>
+    requires { AreSorted reads.now }
+    ensures merged { IfOk result (λ c. c.merged ≡ merge_of reads.now) }
+    ensures found { IfOk result (λ c. IsFoundAmong c.merged.inputs owner c.circle) }
+{
+    let merged = merge(alloc, reads)?;
+    let circle = circle_of(alloc, owner, merged.inputs.as_slice())?;
+    Ok(SessionCircle { merged, circle })
 }
 
 /// The least circle round a client, from the scripts of a session, and whether it is shut. The files and the end, in
@@ -73,7 +89,5 @@ pub fn circle_of_scripts(
         → NoneIsShut owner c.merged.inputs) }
 {
     let reads = readings(alloc, scripts, files, until)?;
-    let merged = merge(alloc, reads.as_slice())?;
-    let circle = circle_of(alloc, owner, merged.inputs.as_slice())?;
-    Ok(SessionCircle { merged, circle })
+    circle_of_readings(alloc, owner, reads.as_slice())
 }

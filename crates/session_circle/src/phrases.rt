@@ -1,11 +1,13 @@
 //! What an input asks for or makes, as text.
 
-ghost use Rattle.std.specs.Prelude.{◌≡◌, ◌++◌, OnOk, slice_get};
-ghost use Rattle.session_circle.specs.Printed.{nodes_text, use_text, asking_text, making_text, line_client_text, input_text, text_at};
+ghost use Rattle.std.specs.Prelude.{◌≡◌, ◌++◌, Some, OnOk, slice_get};
+ghost use Rattle.std.specs.Option.{option_map};
+ghost use Rattle.session_circle.specs.Printed.{nodes_text, use_text, asking_text, making_of, made_text, making_text, closing_text, line_client_text, input_text, text_at};
 
 use bitflags::Flags;
 use memory::OutOfMemory;
-use node_table::{Addr, ClientId, QueueAddr};
+use node_table::{Addr, Caps, ClientId, Node, QueueAddr};
+use seq_circle::closed_bits;
 use seq_state::{Command, Input};
 use std::alloc::Global;
 
@@ -77,19 +79,25 @@ fn push_asks(text: &mut Vec<u8>, alloc: Global, command: &Command) -> Result<(),
     }
 }
 
-/// Adds what a command makes.
-fn push_makes(text: &mut Vec<u8>, alloc: Global, command: &Command) -> Result<(), OutOfMemory>
-    ensures { OnOk result (text.new.items ≡ text.old.items ++ making_text command.now) }
+/// A node that a command makes.
+#[derive(Clone, Copy)]
+struct Making {
+    node: Node,
+    caps: Caps,
+}
+
+fn making_of(command: &Command) -> Option<Making>
+    ensures { option_map (λ m. (m.node, m.caps.0)) result ≡ making_of command.now }
 {
-    let made = match command {
-        Command::CreatePort { port, caps, .. } => {
-            let bits = caps.bits();
-            format!(in alloc; " port {port} caps {bits}")?
-        }
-        Command::CreateFilter { filter, caps, .. } => {
-            let bits = caps.bits();
-            format!(in alloc; " filter {filter} caps {bits}")?
-        }
+    match command {
+        Command::CreatePort { port, caps, .. } => Some(Making {
+            node: Node::Port(*port),
+            caps: *caps,
+        }),
+        Command::CreateFilter { filter, caps, .. } => Some(Making {
+            node: Node::Filter(*filter),
+            caps: *caps,
+        }),
         Command::Open { .. }
         | Command::Close
         | Command::DeletePort { .. }
@@ -112,10 +120,40 @@ fn push_makes(text: &mut Vec<u8>, alloc: Global, command: &Command) -> Result<()
         | Command::Play { .. }
         | Command::DropOutput
         | Command::Receive { .. }
-        | Command::PoolStatus => return Ok(()),
+        | Command::PoolStatus => None,
+    }
+}
+
+/// Adds a node, with these bits as its capabilities.
+fn push_node(text: &mut Vec<u8>, alloc: Global, node: Node, bits: u8) -> Result<(), OutOfMemory>
+    ensures { OnOk result (text.new.items ≡ text.old.items ++ made_text (Some (node, bits))) }
+{
+    let made = match node {
+        Node::Port(port) => format!(in alloc; " port {port} caps {bits}")?,
+        Node::Filter(filter) => format!(in alloc; " filter {filter} caps {bits}")?,
     };
     text.extend_from_slice(made.as_bytes())?;
     Ok(())
+}
+
+/// Adds what a command makes.
+fn push_makes(text: &mut Vec<u8>, alloc: Global, command: &Command) -> Result<(), OutOfMemory>
+    ensures { OnOk result (text.new.items ≡ text.old.items ++ making_text command.now) }
+{
+    let Some(made) = making_of(command) else {
+        return Ok(());
+    };
+    push_node(text, alloc, made.node, made.caps.bits())
+}
+
+/// Adds what a command would make without SUBS_WRITE.
+fn push_closes(text: &mut Vec<u8>, alloc: Global, command: &Command) -> Result<(), OutOfMemory>
+    ensures { OnOk result (text.new.items ≡ text.old.items ++ closing_text command.now) }
+{
+    let Some(made) = making_of(command) else {
+        return Ok(());
+    };
+    push_node(text, alloc, made.node, closed_bits(made.caps))
 }
 
 /// Adds the line and the client that say an input.
@@ -161,6 +199,21 @@ fn push_making(
     Ok(())
 }
 
+/// Adds the line of an input, and what it would make without SUBS_WRITE.
+fn push_closing(
+    text: &mut Vec<u8>,
+    alloc: Global,
+    line: u64,
+    input: &Input,
+) -> Result<(), OutOfMemory>
+    ensures { OnOk result (text.new.items
+        ≡ text.old.items ++ input_text closing_text line input.now) }
+{
+    push_place(text, alloc, line, input.actor)?;
+    push_closes(text, alloc, &input.command)?;
+    Ok(())
+}
+
 /// Adds the line of the input at a place, and what it asks for.
 pub(crate) fn push_asking_at(
     text: &mut Vec<u8>,
@@ -199,4 +252,24 @@ pub(crate) fn push_making_at(
         return Ok(());
     };
     push_making(text, alloc, *line, input)
+}
+
+/// Adds the line of the input at a place, and what it would make without SUBS_WRITE.
+pub(crate) fn push_closing_at(
+    text: &mut Vec<u8>,
+    alloc: Global,
+    lines: &[u64],
+    inputs: &[Input],
+    place: usize,
+) -> Result<(), OutOfMemory>
+    ensures { OnOk result (text.new.items
+        ≡ text.old.items ++ text_at closing_text lines.now inputs.now place) }
+{
+    let Some(line) = lines.get(place) else {
+        return Ok(());
+    };
+    let Some(input) = inputs.get(place) else {
+        return Ok(());
+    };
+    push_closing(text, alloc, *line, input)
 }

@@ -1,7 +1,11 @@
 //! Circles of small sessions, from scripts to the printed text.
 
 use crate::circle::circle_of_scripts;
-use crate::text::circle_text;
+use crate::closing::first_reach;
+use crate::every_end::{EveryEnd, circle_for_every_end};
+use crate::table::{are_all_shut, circles_of_scripts};
+use crate::table_lines::table_text;
+use crate::text::{circle_text, reach_text};
 use memory::Items;
 use node_table::ClientId;
 use seq_session::{NamedFiles, Script};
@@ -15,8 +19,7 @@ fn client(number: u8) -> Result<ClientId, Fail> {
     Ok(ClientId::new(number).ok_or("a client number")?)
 }
 
-/// What is printed of the circle round a client.
-fn printed(alloc: Global, owner: u8, scripts: &[(u8, &str)]) -> Result<Vec<u8>, Fail> {
+fn scripts_of(alloc: Global, scripts: &[(u8, &str)]) -> Result<Vec<Script>, Fail> {
     let mut all = Vec::new(alloc);
     for (number, text) in scripts {
         let text = Items::new(Vec::from_slice(alloc, text.as_bytes())?);
@@ -25,10 +28,26 @@ fn printed(alloc: Global, owner: u8, scripts: &[(u8, &str)]) -> Result<Vec<u8>, 
             text,
         })?;
     }
+    Ok(all)
+}
+
+/// What is printed of the circle round a client, in a run with this end.
+fn printed_until(
+    alloc: Global,
+    owner: u8,
+    scripts: &[(u8, &str)],
+    until: u64,
+) -> Result<Vec<u8>, Fail> {
+    let all = scripts_of(alloc, scripts)?;
     let owner = client(owner)?;
     let files = NamedFiles::new(&[], &[]).ok_or("no files")?;
-    let found = circle_of_scripts(alloc, owner, all.as_slice(), &files, UNTIL)?;
+    let found = circle_of_scripts(alloc, owner, all.as_slice(), &files, until)?;
     Ok(circle_text(alloc, owner, all.as_slice(), &found)?)
+}
+
+/// What is printed of the circle round a client.
+fn printed(alloc: Global, owner: u8, scripts: &[(u8, &str)]) -> Result<Vec<u8>, Fail> {
+    printed_until(alloc, owner, scripts, UNTIL)
 }
 
 // ---- the studio of the examples
@@ -127,6 +146,7 @@ const SYNTHS_CIRCLE: &str = "\
 circle 129
 member 128 because line 4 of 129 connects 128:p0 to 129:p0
 open line 3 of 129 port 0 caps 66: anyone may join it
+mend line 3 of 129 port 0 caps 2: nobody else may join it
 open
 ";
 
@@ -209,8 +229,11 @@ member 140 because line 5 of 131 connects 140:p0 to 131:p0, and has no script
 apart line 3 of 131 connects 131:p0 to 130:p0
 apart line 4 of 131 connects 131:p0 to 129:f0
 open line 2 of 131 port 0 caps 99: anyone may join it
+mend line 2 of 131 port 0 caps 35: nobody else may join it
 open line 7 of 131 filter 3 caps 66: anyone may join it
+mend line 7 of 131 filter 3 caps 2: nobody else may join it
 open line 9 of 131 port 0 caps 67: anyone may join it
+mend line 9 of 131 port 0 caps 3: nobody else may join it
 open
 ";
 
@@ -260,5 +283,211 @@ shut
 fn each_verb_is_told(rt: HostRuntime) -> Result<(), Fail> {
     let text = printed(rt.alloc(), 128, &[(128, ASKER)])?;
     assert!(rt; text.as_slice() == ASKERS_CIRCLE.as_bytes());
+    Ok(())
+}
+
+// ---- every end of the run
+
+/// What is printed of the circle round a client for every end, or of the line that goes back in time.
+fn printed_for_every_end(
+    alloc: Global,
+    owner: u8,
+    scripts: &[(u8, &str)],
+) -> Result<Vec<u8>, Fail> {
+    let all = scripts_of(alloc, scripts)?;
+    let owner = client(owner)?;
+    let files = NamedFiles::new(&[], &[]).ok_or("no files")?;
+    match circle_for_every_end(alloc, owner, all.as_slice(), &files)? {
+        EveryEnd::Circle(found) => Ok(circle_text(alloc, owner, all.as_slice(), &found)?),
+        EveryEnd::GoesBack { client, line } => {
+            Ok(format!(in alloc; "line {line} of {client} goes back\n")?.into_bytes())
+        }
+    }
+}
+
+#[test]
+fn the_studio_is_shut_for_every_end(rt: HostRuntime) -> Result<(), Fail> {
+    let studio = [(128, KEYBOARD), (129, SEQUENCER), (130, SYNTHESIZER)];
+    let text = printed_for_every_end(rt.alloc(), 130, &studio)?;
+    assert!(rt; text.as_slice() == SYNTHESIZERS_CIRCLE.as_bytes());
+    Ok(())
+}
+
+// Its filter comes late, and anyone may join it.
+const SLOW: &str = "\
+0 open slow 9 9
+0 port 0 in 2
+18446744073709551615 filter 0 66 65535 1023 0 127 0
+";
+
+const SLOWS_CIRCLE: &str = "\
+circle 128
+open line 3 of 128 filter 0 caps 66: anyone may join it
+mend line 3 of 128 filter 0 caps 2: nobody else may join it
+open
+";
+
+#[test]
+fn no_opening_is_past_every_end(rt: HostRuntime) -> Result<(), Fail> {
+    let text = printed_until(rt.alloc(), 128, &[(128, SLOW)], UNTIL)?;
+    assert!(rt; text.as_slice() == KEYS_CIRCLE.as_bytes());
+    let text = printed_for_every_end(rt.alloc(), 128, &[(128, SLOW)])?;
+    assert!(rt; text.as_slice() == SLOWS_CIRCLE.as_bytes());
+    Ok(())
+}
+
+// Until 8 its port is that of line 3, and later that of line 2.
+const BACK: &str = "\
+0 open back 9 9
+9 port 0 in 2
+5 port 0 in 66
+4 unport 0
+";
+
+#[test]
+fn a_line_that_goes_back_is_told(rt: HostRuntime) -> Result<(), Fail> {
+    let text = printed_for_every_end(rt.alloc(), 128, &[(128, KEYS), (129, BACK)])?;
+    assert!(rt; text.as_slice() == "line 3 of 129 goes back\n".as_bytes());
+    Ok(())
+}
+
+// ---- a table
+
+/// What is printed of the circles round all clients, and whether all are shut.
+fn table_printed(alloc: Global, scripts: &[(u8, &str)]) -> Result<(Vec<u8>, bool), Fail> {
+    let all = scripts_of(alloc, scripts)?;
+    let files = NamedFiles::new(&[], &[]).ok_or("no files")?;
+    let found = circles_of_scripts(alloc, all.as_slice(), &files, UNTIL)?;
+    Ok((table_text(alloc, &found)?, are_all_shut(&found)))
+}
+
+const STUDIOS_TABLE: &str = "\
+128 shut with 129
+129 shut
+130 shut with 128 129
+131 open line 2 of 131 port 0 caps 99: anyone may join it
+";
+
+#[test]
+fn the_table_of_the_studio(rt: HostRuntime) -> Result<(), Fail> {
+    let studio = [
+        (128, KEYBOARD),
+        (129, SEQUENCER),
+        (130, SYNTHESIZER),
+        (131, STRANGER),
+    ];
+    let (text, all_shut) = table_printed(rt.alloc(), &studio)?;
+    assert!(rt; text.as_slice() == STUDIOS_TABLE.as_bytes());
+    assert!(rt; !all_shut);
+    Ok(())
+}
+
+const DESKS_TABLE: &str = "\
+128 shut
+129 shut with 128 140
+130 shut with 129 128 140, apart line 6 of 130 connects 130:p0 to 131:p0
+";
+
+#[test]
+fn the_first_line_apart_is_told(rt: HostRuntime) -> Result<(), Fail> {
+    let desk = [(128, KEYS), (129, MIXER), (130, DESK)];
+    let (text, all_shut) = table_printed(rt.alloc(), &desk)?;
+    assert!(rt; text.as_slice() == DESKS_TABLE.as_bytes());
+    assert!(rt; all_shut);
+    Ok(())
+}
+
+// ---- closed in one session
+
+/// What is printed of whether the circle round a client is closed in a session.
+fn reach(alloc: Global, owner: u8, scripts: &[(u8, &str)]) -> Result<Vec<u8>, Fail> {
+    let all = scripts_of(alloc, scripts)?;
+    let owner = client(owner)?;
+    let files = NamedFiles::new(&[], &[]).ok_or("no files")?;
+    let found = circle_of_scripts(alloc, owner, all.as_slice(), &files, UNTIL)?;
+    let first = first_reach(alloc, owner, all.as_slice(), &files, UNTIL, &found)?;
+    Ok(reach_text(alloc, &found, first)?)
+}
+
+const CLOSED: &str = "closed in this session\n";
+
+#[test]
+fn the_studio_is_closed_beside_a_stranger(rt: HostRuntime) -> Result<(), Fail> {
+    let studio = [
+        (128, KEYBOARD),
+        (129, SEQUENCER),
+        (130, SYNTHESIZER),
+        (131, STRANGER),
+    ];
+    let text = reach(rt.alloc(), 130, &studio)?;
+    assert!(rt; text.as_slice() == CLOSED.as_bytes());
+    Ok(())
+}
+
+const JOINER: &str = "\
+0 open joiner 9 9
+0 port 0 out 1
+1 connect 130:p0 129:p0
+";
+
+const JOINED: &str = "reached by line 3 of 130 connects 130:p0 to 129:p0\n";
+
+#[test]
+fn the_open_synth_is_reached(rt: HostRuntime) -> Result<(), Fail> {
+    let session = [(128, KEYS), (129, SYNTH), (130, JOINER)];
+    let text = reach(rt.alloc(), 129, &session)?;
+    assert!(rt; text.as_slice() == JOINED.as_bytes());
+    Ok(())
+}
+
+// The synth has no port 1, listens to the keyboard already, and never to this client. At the client's own port no one
+// is kept out.
+const REFUSED: &str = "\
+0 open refused 9 9
+0 port 0 out 99
+1 connect 130:p0 129:p1
+1 connect 128:p0 129:p0
+1 disconnect 130:p0 129:p0
+1 connect 128:p0 130:p0
+";
+
+#[test]
+fn the_open_synth_is_closed_where_all_are_refused(rt: HostRuntime) -> Result<(), Fail> {
+    let session = [(128, KEYS), (129, SYNTH), (130, REFUSED)];
+    let text = reach(rt.alloc(), 129, &session)?;
+    assert!(rt; text.as_slice() == CLOSED.as_bytes());
+    Ok(())
+}
+
+const LEAVER: &str = "\
+0 open leaver 9 9
+0 port 0 out 1
+1 connect 130:p0 129:p1
+2 connect 130:p0 129:p0
+3 disconnect 130:p0 129:p0
+";
+
+const LEFT: &str = "reached by line 4 of 130 connects 130:p0 to 129:p0\n";
+
+#[test]
+fn who_leaves_again_has_reached_in(rt: HostRuntime) -> Result<(), Fail> {
+    let session = [(128, KEYS), (129, SYNTH), (130, LEAVER)];
+    let text = reach(rt.alloc(), 129, &session)?;
+    assert!(rt; text.as_slice() == LEFT.as_bytes());
+    Ok(())
+}
+
+const PARTER: &str = "\
+0 open parter 9 9
+1 disconnect 128:p0 129:p0
+";
+
+const PARTED: &str = "reached by line 2 of 130 disconnects 128:p0 from 129:p0\n";
+
+#[test]
+fn who_parts_members_reaches_in(rt: HostRuntime) -> Result<(), Fail> {
+    let session = [(128, KEYS), (129, SYNTH), (130, PARTER)];
+    let text = reach(rt.alloc(), 129, &session)?;
+    assert!(rt; text.as_slice() == PARTED.as_bytes());
     Ok(())
 }

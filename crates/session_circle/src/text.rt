@@ -2,10 +2,11 @@
 
 ghost use Rattle.std.specs.Prelude.{◌≡◌, ◌==◌, ◌++◌, OnOk, IfOk};
 ghost use Rattle.std.specs.List.{flat_map, list_any};
-ghost use Rattle.session_circle.specs.Printed.{owner_line, silent_text, member_line, apart_line, opening_line, verdict_line, circle_text};
+ghost use Rattle.session_circle.specs.Printed.{owner_line, silent_text, member_line, apart_line, opening_line, mending_line, opening_lines, verdict_line, circle_text};
+ghost use Rattle.session_circle.specs.Closing.{reach_text};
 
 use crate::circle::SessionCircle;
-use crate::phrases::{push_asking_at, push_making_at};
+use crate::phrases::{push_asking_at, push_closing_at, push_making_at};
 use memory::OutOfMemory;
 use node_table::ClientId;
 use seq_circle::Joined;
@@ -108,7 +109,7 @@ fn push_all_apart(
 }
 
 /// Adds the line of an input that leaves the circle open.
-fn push_opening(
+pub(crate) fn push_opening(
     text: &mut Vec<u8>,
     alloc: Global,
     lines: &[u64],
@@ -124,6 +125,23 @@ fn push_opening(
     Ok(())
 }
 
+/// Adds how an input that leaves the circle open is mended.
+fn push_mending(
+    text: &mut Vec<u8>,
+    alloc: Global,
+    lines: &[u64],
+    inputs: &[Input],
+    place: usize,
+) -> Result<(), OutOfMemory>
+    ensures { OnOk result (text.new.items
+        ≡ text.old.items ++ mending_line lines.now inputs.now place) }
+{
+    text.extend_from_slice(b"mend")?;
+    push_closing_at(text, alloc, lines, inputs, place)?;
+    text.extend_from_slice(b": nobody else may join it\n")?;
+    Ok(())
+}
+
 fn push_openings(
     text: &mut Vec<u8>,
     alloc: Global,
@@ -132,10 +150,11 @@ fn push_openings(
     places: &[usize],
 ) -> Result<(), OutOfMemory>
     ensures { OnOk result (text.new.items
-        ≡ text.old.items ++ flat_map (opening_line lines.now inputs.now) places.now) }
+        ≡ text.old.items ++ flat_map (opening_lines lines.now inputs.now) places.now) }
 {
     for place in places {
         push_opening(text, alloc, lines, inputs, *place)?;
+        push_mending(text, alloc, lines, inputs, *place)?;
     }
     Ok(())
 }
@@ -151,8 +170,9 @@ fn push_verdict(text: &mut Vec<u8>, openings: &[usize]) -> Result<(), OutOfMemor
 }
 
 /// The circle as text: a line for its owner; one for each other member, with the line that asks for it, and that it has
-/// no script where these have none of it; one for each outcome that strangers may change; one for each input that
-/// leaves it open; and at last `shut`, or `open` where there is such an input. Each line ends with a line feed.
+/// no script where these have none of it; one for each outcome that strangers may change; two for each input that
+/// leaves it open, of which the second mends it; and at last `shut`, or `open` where there is such an input. Each line
+/// ends with a line feed.
 pub fn circle_text(
     alloc: Global,
     owner: ClientId,
@@ -179,5 +199,25 @@ pub fn circle_text(
     push_all_apart(&mut text, alloc, lines, inputs, circle.apart.as_slice())?;
     push_openings(&mut text, alloc, lines, inputs, circle.openings.as_slice())?;
     push_verdict(&mut text, circle.openings.as_slice())?;
+    Ok(text)
+}
+
+/// Whether the circle is closed in its session, as text, where this is its `first_reach`: a line, with its line feed.
+pub fn reach_text(
+    alloc: Global,
+    found: &SessionCircle,
+    first: Option<usize>,
+) -> Result<Vec<u8>, OutOfMemory>
+    ensures { IfOk result (λ t. t.items
+        ≡ reach_text found.now.merged.lines found.now.merged.inputs first) }
+{
+    let Some(place) = first else {
+        return Ok(Vec::from_slice(alloc, b"closed in this session\n")?);
+    };
+    let lines = found.merged.lines.as_slice();
+    let inputs = found.merged.inputs.as_slice();
+    let mut text = Vec::from_slice(alloc, b"reached by")?;
+    push_asking_at(&mut text, alloc, lines, inputs, place)?;
+    text.push(b'\n')?;
     Ok(text)
 }

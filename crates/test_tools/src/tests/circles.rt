@@ -6,7 +6,7 @@ use byte_io::{DeviceFault, MemSink, MemSource};
 use file_store::FileStore;
 use memory::OutOfMemory;
 use node_table::ClientId;
-use program_tasks::{CircleAnswer, Ended, Notes, ProgramFault, Session, circle, finish};
+use program_tasks::{CircleAnswer, Ended, Notes, ProgramFault, Session, circle, circles, finish};
 use std::alloc::Global;
 use std::fmt::Display;
 use std::process::Abort;
@@ -67,6 +67,10 @@ impl FileStore for MemFiles {
         Err(DeviceFault::Broken)
     }
 
+    fn open_regular(&self, path: &str) -> Result<MemSource, DeviceFault> {
+        self.open(path)
+    }
+
     fn names(&self, _alloc: Global, _folder: &str) -> Result<Vec<String>, DeviceFault> {
         Err(DeviceFault::Broken)
     }
@@ -119,11 +123,15 @@ const FILES: &[(&str, &[u8])] = &[
         "open.txt",
         b"0 open synth 100 100\n0 port 0 in 66\n0 connect 128:p0 129:p0\n",
     ),
+    ("back.txt", b"5 open keys 16 16\n3 port 0 keys 33\n"),
     (BROKEN, b"0 open keys 100 100\n"),
 ];
 
 /// The moment at which the sessions end.
 const UNTIL: &str = "1000";
+
+/// No moment is greater.
+const NO_END: &str = "18446744073709551615";
 
 fn sink(alloc: Global) -> Result<MemSink, OutOfMemory>
     ensures { IfOk result (λ s. s.broken ≡ false) }
@@ -131,11 +139,12 @@ fn sink(alloc: Global) -> Result<MemSink, OutOfMemory>
     MemSink::new(alloc, 0)
 }
 
-/// Prints the circle round a client. No line is told beside it.
+/// Prints the circle round a client, or without one those round all clients. No line is told beside it.
 fn print(
     rt: &impl Abort,
     alloc: Global,
-    owner: ClientId,
+    owner: Option<ClientId>,
+    until: &'static str,
     words: &[&'static str],
     out: &mut MemSink,
 ) -> Result<CircleAnswer, ProgramFault<'static>>
@@ -146,8 +155,11 @@ fn print(
         files: FILES,
     };
     let mut notes = Counted { lines: 0 };
-    let session = Session::of_words(alloc, UNTIL, None, words)?;
-    let answer = circle(alloc, &store, &session, owner, out, &mut notes);
+    let session = Session::of_words(alloc, until, None, words)?;
+    let answer = match owner {
+        Some(owner) => circle(alloc, &store, &session, owner, out, &mut notes),
+        None => circles(alloc, &store, &session, out, &mut notes),
+    };
     assert!(rt; notes.lines == 0);
     answer
 }
@@ -161,9 +173,9 @@ fn check(
     text: &str,
     answer: CircleAnswer,
 ) -> Result<(), Fail> {
-    let owner = ClientId::new(owner).ok_or("a client number")?;
+    let owner = Some(ClientId::new(owner).ok_or("a client number")?);
     let mut out = sink(alloc)?;
-    assert!(rt; print(rt, alloc, owner, words, &mut out) == Ok(answer));
+    assert!(rt; print(rt, alloc, owner, UNTIL, words, &mut out) == Ok(answer));
     assert!(rt; out.bytes() == text.as_bytes());
     Ok(())
 }
@@ -184,11 +196,43 @@ fn prints_circles(rt: HostRuntime) -> Result<(), Fail> {
 }
 
 #[test]
+fn prints_all_circles(rt: HostRuntime) -> Result<(), Fail> {
+    let mut out = sink(rt.alloc())?;
+    let printed = print(&rt, rt.alloc(), None, UNTIL, &STUDIO, &mut out);
+    assert!(rt; printed == Ok(CircleAnswer::Shut));
+    assert!(rt; out.bytes() == "128 shut with 129\n129 shut\n130 shut with 128 129\n".as_bytes());
+    let mut out = sink(rt.alloc())?;
+    let printed = print(&rt, rt.alloc(), None, UNTIL, &["129=open.txt"], &mut out);
+    assert!(rt; printed == Ok(CircleAnswer::Open));
+    assert!(rt;
+        out.bytes() == "129 open line 2 of 129 port 0 caps 66: anyone may join it\n".as_bytes()
+    );
+    Ok(())
+}
+
+#[test]
+fn answers_for_every_end(rt: HostRuntime) -> Result<(), Fail> {
+    let owner = Some(ClientId::new(129).ok_or("a client number")?);
+    let mut out = sink(rt.alloc())?;
+    let words = ["129=sequencer.txt", "128=back.txt"];
+    let printed = print(&rt, rt.alloc(), owner, NO_END, &words, &mut out);
+    let (client, line) = (128, 2);
+    assert!(rt; printed == Err(ProgramFault::GoesBack { client, line }));
+    assert!(rt; out.bytes().is_empty());
+    let mut out = sink(rt.alloc())?;
+    let printed = print(&rt, rt.alloc(), owner, NO_END, &words[..1], &mut out);
+    assert!(rt; printed == Ok(CircleAnswer::Shut));
+    assert!(rt; out.bytes() == "circle 129\nshut\n".as_bytes());
+    Ok(())
+}
+
+#[test]
 fn prints_a_circle_that_is_open(rt: HostRuntime) -> Result<(), Fail> {
     let words = ["129=open.txt", "128=keyboard.txt"];
     let open = "circle 129\n\
         member 128 because line 3 of 129 connects 128:p0 to 129:p0\n\
-        open line 2 of 129 port 0 caps 66: anyone may join it\nopen\n";
+        open line 2 of 129 port 0 caps 66: anyone may join it\n\
+        mend line 2 of 129 port 0 caps 2: nobody else may join it\nopen\n";
     check(&rt, rt.alloc(), 129, &words, open, CircleAnswer::Open)
 }
 
@@ -211,14 +255,14 @@ fn tells_who_has_no_script(rt: HostRuntime) -> Result<(), Fail> {
 // All scripts are opened before the first is read.
 #[test]
 fn prints_nothing_where_a_script_cannot_be_read(rt: HostRuntime) -> Result<(), Fail> {
-    let owner = ClientId::new(128).ok_or("a client number")?;
+    let owner = Some(ClientId::new(128).ok_or("a client number")?);
     for (words, path) in [
         (["128=keyboard.txt", "129=none.txt"], "none.txt"),
         (["128=broken.txt", "129=open.txt"], "broken.txt"),
         (["128=broken.txt", "129=none.txt"], "none.txt"),
     ] {
         let mut out = sink(rt.alloc())?;
-        let printed = print(&rt, rt.alloc(), owner, &words, &mut out);
+        let printed = print(&rt, rt.alloc(), owner, UNTIL, &words, &mut out);
         assert!(rt; printed == Err(ProgramFault::CannotRead(path)));
         assert!(rt; out.bytes().is_empty());
     }
@@ -227,10 +271,10 @@ fn prints_nothing_where_a_script_cannot_be_read(rt: HostRuntime) -> Result<(), F
 
 #[test]
 fn tells_that_nothing_more_is_taken(rt: HostRuntime) -> Result<(), Fail> {
-    let owner = ClientId::new(130).ok_or("a client number")?;
+    let owner = Some(ClientId::new(130).ok_or("a client number")?);
     let mut out = sink(rt.alloc())?;
     out.fail_at(0);
-    let printed = print(&rt, rt.alloc(), owner, &STUDIO, &mut out);
+    let printed = print(&rt, rt.alloc(), owner, UNTIL, &STUDIO, &mut out);
     assert!(rt; printed == Err(ProgramFault::CannotWrite("-")));
     assert!(rt; out.bytes().is_empty());
     Ok(())

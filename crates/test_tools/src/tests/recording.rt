@@ -6,6 +6,7 @@ use node_table::{ClientId, PortAddr, PortNo};
 use program_tasks::record_file;
 use seq_engine::RunLog;
 use seq_session::{NamedFiles, ScriptSource, clients_rise, readers_are_sound, run_scripts};
+use smf_files::WriteFault;
 use std::alloc::Global;
 use std::process::Abort;
 use std::test::Fail;
@@ -15,7 +16,8 @@ struct Recording {
     /// What client 128 says, and what client 129 says.
     scripts: [&'static str; 2],
     client: u8,
-    file: &'static [u8],
+    /// Or the place of the message that can't be written.
+    file: Result<&'static [u8], usize>,
 }
 
 /// Client 129 sends a note and a clock as soon as it is joined to client 128, and ends the note a second later.
@@ -31,26 +33,45 @@ const FIRST_NOTE: [&str; 2] = [
     "0 open b 8 8\n0 port 0 in 66\n0 connect 128:p0 129:p0\n",
 ];
 
+/// Client 129 sends a clock and two notes, the second 268,800,000 ticks behind the first.
+const DAYS_APART: [&str; 2] = [
+    "0 open b 8 8\n0 port 0 in 66\n",
+    "0 open a 8 8\n0 port 0 out 33\n0 connect 129:p0 128:p0\n0 bytes 0 F8 90 3C 40\n\
+        280000000000000 send 0 90 3C 00\n",
+];
+
 const RECORDINGS: &[Recording] = &[
     // 960 ticks are 87 40 as a delta time.
     Recording {
         scripts: WHOLE_NOTE,
         client: 128,
-        file: b"MThd\x00\x00\x00\x06\x00\x00\x00\x01\x01\xE0MTrk\x00\x00\x00\x14\
+        file: Ok(
+            b"MThd\x00\x00\x00\x06\x00\x00\x00\x01\x01\xE0MTrk\x00\x00\x00\x14\
             \x00\xFF\x51\x03\x07\xA1\x20\x00\x90\x3C\x40\x87\x40\x90\x3C\x00\x00\xFF\x2F\x00",
+        ),
     },
     // Nothing comes to the port that sends.
     Recording {
         scripts: WHOLE_NOTE,
         client: 129,
-        file: b"MThd\x00\x00\x00\x06\x00\x00\x00\x01\x01\xE0MTrk\x00\x00\x00\x0B\
+        file: Ok(
+            b"MThd\x00\x00\x00\x06\x00\x00\x00\x01\x01\xE0MTrk\x00\x00\x00\x0B\
             \x00\xFF\x51\x03\x07\xA1\x20\x00\xFF\x2F\x00",
+        ),
     },
     Recording {
         scripts: FIRST_NOTE,
         client: 129,
-        file: b"MThd\x00\x00\x00\x06\x00\x00\x00\x01\x01\xE0MTrk\x00\x00\x00\x0F\
+        file: Ok(
+            b"MThd\x00\x00\x00\x06\x00\x00\x00\x01\x01\xE0MTrk\x00\x00\x00\x0F\
             \x00\xFF\x51\x03\x07\xA1\x20\x00\x90\x3C\x40\x00\xFF\x2F\x00",
+        ),
+    },
+    // A delta time is at most 268,435,455 ticks.
+    Recording {
+        scripts: DAYS_APART,
+        client: 128,
+        file: Err(1),
     },
 ];
 
@@ -69,11 +90,19 @@ fn assert_recorded(rt: &impl Abort, alloc: Global, recording: &Recording) -> Res
         client: client(recording.client)?,
         port: PortNo::new(0).ok_or("a port number")?,
     };
-    assert!(rt; record_file(alloc, &log, port)?.as_slice() == recording.file);
+    assert!(rt; is_as_told(&recording.file, record_file(alloc, &log, port)));
     Ok(())
 }
 
-/// A run of the two scripts up to a second.
+fn is_as_told(told: &Result<&[u8], usize>, recorded: Result<Vec<u8>, WriteFault>) -> bool {
+    match (told, recorded) {
+        (Ok(told), Ok(file)) => file.as_slice() == *told,
+        (Err(place), Err(WriteFault::BadEvent { index })) => index == *place,
+        _ => false,
+    }
+}
+
+/// A run of the two scripts, to the last of their lines.
 fn ran(alloc: Global, first: &str, second: &str) -> Result<RunLog, Fail> {
     let mut scripts = [
         script_of(alloc, 128, first)?,
@@ -88,7 +117,7 @@ fn ran(alloc: Global, first: &str, second: &str) -> Result<RunLog, Fail> {
         &mut scripts,
         &files,
         HeapAgenda::new(alloc),
-        1_000_000_000,
+        280_000_000_000_000,
     );
     Ok(log.ok().ok_or("a run")?)
 }

@@ -1,21 +1,45 @@
-use Rattle.std.proofs.Common.{◌≡◌, ◌∙◌, ap, inr, rules}
+use Rattle.std.proofs.Common.{◌≡◌, Some, None, inl, inr, rules}
 use Rattle.std.specs.Prelude.{codes}
 use Rattle.std.proofs.lemmas.Result.{IfErr-weaker, IfOk-weaker}
-use Rattle.clap.specs.Matches.{found_of}
-use Rattle.script_text.specs.Numbers as says
-use Rattle.midiseq.specs.Given.{text_of}
+use Rattle.clap.specs.Matches.{found_of, first_value}
+use Rattle.midiseq.proofs.Asked.{with_word, without_word}
 use Rattle.midiseq.proofs.sessions.circle.Goals as goal
+
+pub returns-in_default-clause-printed : goal.returns-in_default-clause-printed
+returns-in_default-clause-printed g c =
+    let none : first_value (found_of c.args.found.now) (codes "owner") ≡ None = search rules in
+    IfOk-weaker c.circles.result _ _
+    (λ answer printed. record {
+      session = c.in_ok-session.session;
+      given = c.in_ok-session.ensures.given;
+      printed = without_word _ _ _ none printed;
+    })
+    c.circles.ensures.printed
+
+pub returns-in_default-clause-fault : goal.returns-in_default-clause-fault
+returns-in_default-clause-fault g c =
+    IfErr-weaker c.circles.result _ _
+    (λ e why. inr (inr (record {
+      session = c.in_ok-session.session;
+      given = c.in_ok-session.ensures.given;
+      why = elim why [
+        | inl listing ↦ inl listing
+        | inr rest ↦ inr (elim rest [
+          | inl scripts ↦ inl scripts
+          | inr out ↦ inr (inr out)
+        ])
+      ];
+    })))
+    c.circles.ensures.fault
 
 pub returns-clause-printed : goal.returns-clause-printed
 returns-clause-printed g c =
-    let word : c.unwrap_or-word.result.now ≡ text_of (found_of c.args.found.now) (codes "owner") = search rules in
+    let some : first_value (found_of c.args.found.now) (codes "owner") ≡ Some c.in-Some.word.now = search rules in
     IfOk-weaker c.circle.result _ _
     (λ answer printed. record {
       session = c.in_ok-session.session;
       given = c.in_ok-session.ensures.given;
-      owner = c.in-Some.owner;
-      client = c.in-Some.ensures ∙ ap says.client_number word;
-      printed = printed;
+      printed = with_word _ _ _ c.in-Some.word.now some (record { owner = c.in-Some-client_named.owner; client = c.in-Some-client_named.ensures; printed = printed });
     })
     c.circle.ensures.printed
 

@@ -1,4 +1,4 @@
-use Rattle.std.proofs.Common.{◌≡◌, ℕ, List, [], map, rules}
+use Rattle.std.proofs.Common.{◌≡◌, [], map, rules}
 use Rattle.std.specs.Prelude.{codes, unwrap_or}
 use Rattle.std.specs.Option.{option_map}
 use Rattle.clap.specs.Matches.{found_of, matched_of, raw_values}

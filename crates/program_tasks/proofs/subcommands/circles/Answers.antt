@@ -1,0 +1,13 @@
+use Rattle.std.proofs.lemmas.Result.{IfOk-weaker}
+use Rattle.program_tasks.proofs.Said.{are_files}
+use Rattle.program_tasks.proofs.subcommands.circles.Goals as goal
+
+pub returns-clause-printed : goal.returns-clause-printed
+returns-clause-printed g c = IfOk-weaker c.print_circles.result _ _
+    (λ answer printed. record {
+      files = c.named.result;
+      are = are_files g.N.Notes.HasTold g.S.FileStore.IsOpened g.S.Reader.Source.HasLeft g.S.FileStore.CannotOpen g.S.Reader.Source.failed g.S.FileStore.HasNames _ _ _ c.in_ok-folder.folder c.in_ok-opened.opened c.named.result
+          c.in_ok-folder.ensures.read c.in_ok-opened.ensures.opened c.in_ok-opened.ensures.told c.named.ensures.names c.named.ensures.files;
+      printed = printed;
+    })
+    c.print_circles.ensures.printed

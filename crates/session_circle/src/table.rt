@@ -1,0 +1,80 @@
+//! The circles round all clients of a session.
+
+ghost use Rattle.std.specs.Prelude.{◌≡◌, ◌↔◌, [], IsTrue, IfOk};
+ghost use Rattle.std.specs.List.{All};
+ghost use Rattle.seq_session.specs.Merging.{inputs_of, lines_of};
+ghost use Rattle.seq_session.specs.Sessions.{session};
+ghost use Rattle.session_circle.specs.Found.{AreFoundAmong, AreCirclesOf};
+
+use crate::circle::readings;
+use memory::OutOfMemory;
+use node_table::ClientId;
+use seq_circle::{Circle, circle_of};
+use seq_session::{Merged, NamedFiles, Script, merge};
+use seq_state::Input;
+use std::alloc::Global;
+
+/// A client, and the least circle round it.
+#[derive(Drop)]
+pub struct OwnedCircle {
+    pub owner: ClientId,
+    pub circle: Circle,
+}
+
+/// The least circles round the clients of a session.
+#[derive(Drop)]
+pub struct SessionCircles {
+    /// The inputs of the session, with their lines.
+    pub merged: Merged,
+    /// One for each script, in their order, with places among these inputs.
+    pub circles: Vec<OwnedCircle>,
+}
+
+/// The least circle round the client of each script.
+fn circles_among(
+    alloc: Global,
+    scripts: &[Script],
+    inputs: &[Input],
+) -> Result<Vec<OwnedCircle>, OutOfMemory>
+    ensures { IfOk result (λ v. AreFoundAmong inputs.now scripts.now v.items) }
+{
+    let mut circles = Vec::new(alloc);
+    for script in scripts {
+        let owner = script.client;
+        let circle = circle_of(alloc, owner, inputs)?;
+        circles.push(OwnedCircle { owner, circle })?;
+    }
+    Ok(circles)
+}
+
+/// The least circle round each client that has a script, and whether it is shut: what `circle_of_scripts` says of each.
+/// The inputs are gone over for each circle anew.
+pub fn circles_of_scripts(
+    alloc: Global,
+    scripts: &[Script],
+    files: &NamedFiles<'_, '_>,
+    until: u64,
+) -> Result<SessionCircles, OutOfMemory>
+    ensures inputs { IfOk result (λ s. s.merged.inputs
+        ≡ inputs_of (session files.now until scripts.now)) }
+    ensures lines { IfOk result (λ s. s.merged.lines
+        ≡ lines_of (session files.now until scripts.now)) }
+    ensures circles { IfOk result (λ s.
+        AreCirclesOf files.now until scripts.now s.circles.items) }
+{
+    let reads = readings(alloc, scripts, files, until)?;
+    let merged = merge(alloc, reads.as_slice())?;
+    let circles = circles_among(alloc, scripts, merged.inputs.as_slice())?;
+    Ok(SessionCircles { merged, circles })
+}
+
+/// Whether each of the circles is shut.
+pub fn are_all_shut(found: &SessionCircles) -> bool
+    ensures { IsTrue result
+        ↔ All (λ c. c.circle.openings.items ≡ []) found.now.circles.items }
+{
+    found
+        .circles
+        .iter()
+        .all(|one| one.circle.openings.is_empty())
+}
