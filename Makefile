@@ -40,6 +40,7 @@ check: build
 	test/refused-memory
 	test/hostile --program $(PROGRAM)
 	test/random-nets $(PROGRAM)
+	test/random-circles --count 1000 $(PROGRAM)
 
 # Builds, and compares every command that the pages show with what it prints.
 check-docs: build
