@@ -131,11 +131,13 @@ owner's ports or to a member's filters, parts such a pair, or names a queue of
 it. In a circle that is shut, no script of anybody else can change what comes
 to the owner's ports, or when.
 
-With --until N the run until N is meant. Without it the answer is for every N;
-then no line of a script may go back in time. Without --owner there is a line
-for each client that has a script: `CLIENT shut`, with the other members of its
-circle, or `CLIENT open` with the first line that leaves it open; status 0
-where all are shut.
+With --until N the run until N is meant. Without it the run has no end: what is
+shut then is shut for every N, and no line of a script may go back in time.
+
+Without --owner there is a line for each client that has a script: `CLIENT
+shut`, with the other members of its circle, or `CLIENT open` with the first
+line that leaves it open; status 0 where all are shut. Lines that go back in
+time are not looked for, so give --until if there may be some.
 
 The lines, in this order:
   circle CLIENT
@@ -231,7 +233,7 @@ fn until_or_always<'a>(alloc: Global) -> Arg<'a> {
         .default_value("18446744073709551615")
         .hide_default_value(true)
         .value_name("N")
-        .help("the moment at which the run ends; without it the answer is for every end")
+        .help("the moment at which the run ends; without it the run has no end")
 }
 
 fn dir<'a>(alloc: Global) -> Arg<'a> {
