@@ -1,6 +1,7 @@
 -- What is left when the edges of a node go, one after another.
 use Rattle.std.proofs.Common.{◌≡◌, inl, inr, ℕ, zero, suc, ◌+◌, ◌*◌, ◌-◌, ◌<◌, ◌≤◌, Bool, true, false, not, cond, eqb, ◌&&◌, ◌||◌, List, [], ◌∷◌, map, length, Option, Some, None, refl, ap, sym, subst, ◌∙◌, arith}
 use Rattle.std.specs.List.{filter, list_any, slice_get}
+use Rattle.std.specs.Option.{is_some, IfSome, IfNone}
 use Rattle.std.proofs.lemmas.Bool.Decides.{nat_tests}
 use Rattle.std.proofs.lemmas.Bool.{false≢true, cases_eq, or_cases, eqb-true}
 use Rattle.node_table.specs.Addresses.{same}
@@ -9,7 +10,7 @@ use Rattle.node_table.specs.declared.number.Addr.{Addr}
 use Rattle.node_table.specs.declared.number.Node.{Node}
 use Rattle.node_table.specs.declared.number.Node.TheVariants.{Port, Filter}
 use Rattle.patch_graph.specs.declared.edge.Edge.{Edge}
-use Rattle.patch_graph.specs.Edges.{is_edge, has_edge, touches, touches_client, ends_at_client}
+use Rattle.patch_graph.specs.Edges.{edge, is_edge, has_edge, without_edge, touches, touches_client, ends_at_client}
 use Rattle.patch_graph.specs.Index.{targets_of, origins_of, LosesOne, HasPlace}
 use Rattle.patch_graph.proofs.Lists.{and_both, not_by, not_true, refuted, filter-none, filter-outside, list_any-filter}
 use Rattle.patch_graph.proofs.Same.{same-is, same-refl, place-is}
@@ -131,7 +132,7 @@ same_client a b client e h = subst (λ n. eqb b.client n ≡ true) (ap (λ x. x.
     eqb-refl : (n : ℕ) → eqb n n ≡ true
     eqb-refl n = grind (arith, nat_tests)
 
-touched : (a : Addr) (client : ℕ) (e : Edge) → a.client ≡ client → touches a e ≡ true → touches_client client e ≡ true
+pub touched : (a : Addr) (client : ℕ) (e : Edge) → a.client ≡ client → touches a e ≡ true → touches_client client e ≡ true
 touched a client e is h = elim (or_cases (same a e.source) (same a e.target) h) [
   | inl k ↦ let s : eqb e.source.client client ≡ true = same_client a e.source client is k in ap (λ b. b || eqb e.target.client client) s
   | inr k ↦ let t : eqb e.target.client client ≡ true = same_client a e.target client is k in or_true (eqb e.source.client client) (eqb e.target.client client) t
@@ -236,3 +237,14 @@ module _ (client row : ℕ) (edges : List Edge) (is : client ≡ 128 + row) (h :
 
   pub endless-end : list_any (ends_at_client client) edges ≡ false
   endless-end = none_there (ends_at_client client) edges ends
+
+-- ---- a source at a time
+
+-- an edge to the node that was there is gone
+pub loses_source : (old new : List Edge) (node : Addr) (source : Option Addr) → is_some source ≡ true → IfSome source (λ s. has_edge old s node ≡ true) → IfSome source (λ s. new ≡ without_edge old s node) → LosesOne node old new
+loses_source old new node None some there rest = absurd (false≢true some)
+loses_source old new node (Some s) some there rest = (edge s node, there, or_true (same node s) (same node node) (same-refl node), rest)
+
+pub where_none : {P : Type 0} (source : Option Addr) → is_some source ≡ false → IfNone source P → P
+where_none None none p = p
+where_none (Some s) none p = absurd (false≢true (sym none))

@@ -291,7 +291,7 @@ impl PatchGraph {
     }
 
     /// Removes the youngest edge that begins at a node, and says whether there was one.
-    // As `pop_source` not by `disconnect`, which would look for the age.
+    // Not by `disconnect`, which would look for the age. So `pop_source` too.
     fn pop_target(&mut self, source: &Addr) -> bool
         ensures gone { OnTrue result (LosesOne source.now self.old self.new) }
         ensures none { OnFalse result (targets_of self.old source.now ≡ []) }
@@ -305,18 +305,21 @@ impl PatchGraph {
         true
     }
 
-    /// Removes the youngest edge that ends at a node, and says whether there was one.
-    fn pop_source(&mut self, target: &Addr) -> bool
-        ensures gone { OnTrue result (LosesOne target.now self.old self.new) }
-        ensures none { OnFalse result (origins_of self.old target.now ≡ []) }
-        ensures kept { OnFalse result (self.new ≡ self.old) }
+    /// Removes the youngest edge that ends at a node, and gives the node at which it began. It takes no memory.
+    pub fn pop_source(&mut self, target: &Addr) -> Option<Addr>
+        ensures there { IfSome result (λ source.
+            has_edge self.old source target.now ≡ true) }
+        ensures rest { IfSome result (λ source.
+            self.new ≡ without_edge self.old source target.now) }
+        ensures none { IfNone result (origins_of self.old target.now ≡ []) }
+        ensures kept { IfNone result (self.new ≡ self.old) }
     {
         let Some((source, age)) = last_at(&self.sources, target) else {
-            return false;
+            return None;
         };
         unlink(&mut self.targets, &mut self.sources, &source, target, age);
         self.count -= 1;
-        true
+        Some(source)
     }
 
     /// Removes the edges that begin or end at a node, and looks at no others but those of its neighbours. It takes no
@@ -325,7 +328,7 @@ impl PatchGraph {
         ensures { self.new ≡ filter (λ e. not (touches node.now e)) self.old }
     {
         while self.pop_target(node) {}
-        while self.pop_source(node) {}
+        while self.pop_source(node).is_some() {}
     }
 
     /// Removes the edges that begin or end at a node of a client, as `remove_node` does for each of its nodes. It takes

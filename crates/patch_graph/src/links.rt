@@ -1,7 +1,7 @@
 //! What stands at one place of the tables of a graph.
 
 ghost use Rattle.std.specs.Prelude.{◌≡◌, ◌==◌, ◌<◌, ◌-◌, ◌≤◌, ℕ, not, List, [], ◌∷◌, ◌++◌, length, map, slice_index, vec_len, vec_capacity, OnOk, OnErr, IfOk, IfSome, IfNone};
-ghost use Rattle.std.specs.List.{filter};
+ghost use Rattle.std.specs.List.{filter, remove};
 ghost use Rattle.std.specs.List.Sorted.{IsNonDecreasing};
 ghost use Rattle.std.specs.Map.{lookup};
 ghost use Rattle.node_table.specs.Addresses.{same};
@@ -67,6 +67,18 @@ fn push_within<T: Copy>(items: &mut Vec<T>, item: &T)
     items.push(*item).ok().unwrap();
 }
 
+/// Removes what stands at a place. The last goes most often, and then nothing moves.
+fn remove_from<T: Copy>(items: &mut Vec<T>, place: usize)
+    requires { place < length items.old.items }
+    ensures { items.new.items ≡ remove items.old.items place }
+{
+    if place + 1 == items.len() {
+        items.pop();
+    } else {
+        items.remove(place);
+    }
+}
+
 impl Links {
     pub fn new(alloc: Global) -> Links
         ensures { result ≡ [] }
@@ -111,8 +123,8 @@ impl Links {
         ensures { self.new ≡ filter (λ x. not (x.1 == age)) self.old }
     {
         if let Some(place) = place_of_age(&self.ages, age) {
-            self.nodes.remove(place);
-            self.ages.remove(place);
+            remove_from(&mut self.nodes, place);
+            remove_from(&mut self.ages, place);
         }
     }
 

@@ -14,10 +14,11 @@ use Rattle.patch_graph.specs.declared.edge.Edge.{Edge}
 use Rattle.patch_graph.proofs.Lists.{refuted, not_by, not_true, filter-outside}
 use Rattle.patch_graph.proofs.Same.{same-is, same-refl}
 use Rattle.patch_graph.proofs.Indexed.{same_edge}
-use Rattle.patch_graph.proofs.Removed.{or_true, loses_length}
+use Rattle.patch_graph.proofs.Removed.{or_true, loses_length, touched}
 use Rattle.seq_state.specs.State.{Client, with_entry}
 use Rattle.seq_sending.specs.Changes.{AgreeBut}
 use Rattle.seq_sending.proofs.Agreeing.{agree-trans}
+use Rattle.seq_patchbay.specs.Network.{Network}
 use Rattle.seq_patchbay.proofs.Changed.{but-client, not-source}
 
 -- ---- the targets of others
@@ -94,3 +95,32 @@ into-kept client old new e is into =
     ∙ filter-outside (λ x. not (touches_client client x)) (λ x. not (is_edge e.source e.target x))
     (λ x away. not_by (is_edge e.source e.target x) (λ its. false≢true (sym (not_true (touches_client client x) away)
     ∙ or_true (eqb x.source.client client) (eqb x.target.client client) (ap (λ (y : Edge). eqb y.target.client client) (same_edge e.source e.target x its) ∙ ap (λ n. eqb n client) into ∙ grind (arith, nat_tests))))) old
+
+-- ---- the nodes of a client, one by one
+
+-- the clients are as they were, and so are the edges that do not touch this one
+pub record IsAsBefore (client : ℕ) (old now : Network) : Type 0 where
+  pub same_clients : now.clients ≡ old.clients
+  pub others : filter (λ e. not (touches_client client e)) now.graph ≡ filter (λ e. not (touches_client client e)) old.graph
+
+pub before-start : (client : ℕ) (old : Network) → IsAsBefore client old old
+before-start client old = record { same_clients = refl; others = refl }
+
+-- what a node of the client loses touches the client
+pub before-node : (client : ℕ) (old now new : Network) (node : Addr) → node.client ≡ client → IsAsBefore client old now → new.clients ≡ now.clients →
+    filter (λ e. not (touches node e)) new.graph ≡ filter (λ e. not (touches node e)) now.graph → IsAsBefore client old new
+before-node client old now new node is h clients rest = record {
+  same_clients = clients ∙ h.same_clients;
+  others = sym (both new.graph) ∙ ap (filter (λ e. not (touches_client client e))) rest ∙ both now.graph ∙ h.others;
+}
+  where
+    both : (es : List Edge) → filter (λ e. not (touches_client client e)) (filter (λ e. not (touches node e)) es) ≡ filter (λ e. not (touches_client client e)) es
+    both es = filter-outside (λ e. not (touches_client client e)) (λ e. not (touches node e))
+        (λ e away. not_by (touches node e) (λ its. false≢true (sym (not_true (touches_client client e) away) ∙ touched node client e is its))) es
+
+pub before-edge : (client : ℕ) (old now new : Network) (e : Edge) → IsAsBefore client old now → new.clients ≡ now.clients → new.graph ≡ without_edge now.graph e.source e.target → e.target.client ≡ client →
+    IsAsBefore client old new
+before-edge client old now new e h clients is into = record {
+  same_clients = clients ∙ h.same_clients;
+  others = into-kept client now.graph new.graph e is into ∙ h.others;
+}

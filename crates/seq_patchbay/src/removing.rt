@@ -1,17 +1,19 @@
 //! Nodes and clients that go with their subscriptions: the ways that hang on others stay known.
 
-ghost use Rattle.std.specs.Prelude.{◌≡◌, false, not, None};
+ghost use Rattle.std.specs.Prelude.{◌≡◌, false, not, [], None};
+ghost use Rattle.std.specs.Bool.{OnTrue, OnFalse};
 ghost use Rattle.std.specs.FinMap.{get};
 ghost use Rattle.std.specs.List as list;
 ghost use Rattle.std.specs.List.{list_any};
 ghost use Rattle.node_table.specs.Addresses.{same};
+ghost use Rattle.patch_graph.specs.Index.{origins_of, LosesOne};
 ghost use Rattle.patch_graph.specs.Edges.{touches, touches_client, ends_at_client};
 ghost use Rattle.seq_state.specs.Effect.{with_change, put_port, put_filter};
 ghost use Rattle.seq_state.specs.Step.{port_addr, filter_addr};
 ghost use Rattle.seq_clients.specs.Roster.{with_client, with_pool};
 
 use crate::patchbay::Patchbay;
-use node_table::{Addr, ClientId, FilterNo, Node, PortNo};
+use node_table::{Addr, ClientId, FilterNo, MOST_FILTERS, MOST_PORTS, Node, PortNo};
 
 impl Patchbay {
     /// Closes a client, with its subscriptions. It takes no memory.
@@ -70,9 +72,21 @@ impl Patchbay {
             ≡ list.filter (λ e. not (touches node.now e)) self.old.graph }
         ensures none { list_any (λ e. same node.now e.target) self.new.graph ≡ false }
     {
-        while let Some(source) = self.graph.origins(node).last().copied() {
-            self.disconnect(&source, node);
-        }
+        while self.end_youngest_into(node) {}
+    }
+
+    /// Ends the youngest subscription to a node, and says whether there was one.
+    fn end_youngest_into(&mut self, node: &Addr) -> bool
+        ensures clients { self.new.clients ≡ self.old.clients }
+        ensures gone { OnTrue result (LosesOne node.now self.old.graph self.new.graph) }
+        ensures none { OnFalse result (origins_of self.old.graph node.now ≡ []) }
+        ensures kept { OnFalse result (self.new.graph ≡ self.old.graph) }
+    {
+        let Some(source) = self.graph.pop_source(node) else {
+            return false;
+        };
+        self.ways.forget_client(source.client);
+        true
     }
 
     /// Ends the subscriptions to a client's nodes, as `end_into` does.
@@ -82,6 +96,19 @@ impl Patchbay {
             ≡ list.filter (λ e. not (touches_client client e)) self.old.graph }
         ensures none { list_any (ends_at_client client) self.new.graph ≡ false }
     {
+        // Node by node, since `edge_into` looks at all nodes of the client for each edge. None is left for it.
+        for number in 0..MOST_PORTS {
+            if let Some(port) = PortNo::new(number) {
+                let node = Node::Port(port);
+                self.end_into(&Addr { client, node });
+            }
+        }
+        for number in 0..MOST_FILTERS {
+            if let Some(filter) = FilterNo::new(number) {
+                let node = Node::Filter(filter);
+                self.end_into(&Addr { client, node });
+            }
+        }
         while let Some(edge) = self.graph.edge_into(client) {
             self.disconnect(&edge.source, &edge.target);
         }

@@ -9,9 +9,9 @@ pub place_of_age-requires : goal.place_of_age-requires
 place_of_age-requires c i j d l m =
     subst (λ xs. get_or xs i d ≤ get_or xs j d) (sym c.deref.ensures.value) (rising_ages 0 c.self.inside.nodes.items c.self.inside.ages.items (2 ^ 64) i j d c.self.invariant.0 c.self.invariant.1 l (subst (λ xs. j < length xs) c.deref.ensures.value m))
 
-left : (c : goal.After-remove-in-Some) → zip c.remove.new.self.items c.remove-in-Some.new.self.items ≡ without_age c.args.age (zip c.self.inside.nodes.items c.self.inside.ages.items)
+left : (c : goal.After-remove_from-in-Some) → zip c.remove_from.new.items.items c.remove_from-in-Some.new.items.items ≡ without_age c.args.age (zip c.self.inside.nodes.items c.self.inside.ages.items)
 left c =
-    (λ j. zip (c.remove.ensures.items j) (c.remove-in-Some.ensures.items j))
+    (λ j. zip (c.remove_from.ensures j) (c.remove_from-in-Some.ensures j))
     ∙ removed_link _ _ _ c.args.age c.self.invariant.0 c.self.invariant.1 (subst (λ xs. c.in-Some.place < length xs) c.deref.ensures.value c.in-Some.ensures.there.0) (ap (λ xs. get_or xs c.in-Some.place 0) (sym c.deref.ensures.value) ∙ c.in-Some.ensures.there.1)
 
 pub invariant_of-self : goal.invariant_of-self
@@ -20,8 +20,8 @@ invariant_of-self c =
     let ages : length (remove c.self.inside.ages.items c.in-Some.place) + 1 ≡ length c.self.inside.ages.items = length-remove c.self.inside.ages.items c.in-Some.place in_ages in
     let in_nodes : c.in-Some.place < length c.self.inside.nodes.items = omega (arith, in_ages, c.self.invariant.0) in
     let nodes : length (remove c.self.inside.nodes.items c.in-Some.place) + 1 ≡ length c.self.inside.nodes.items = length-remove c.self.inside.nodes.items c.in-Some.place in_nodes in
-    let e : length c.remove-in-Some.new.self.items ≡ length (remove c.self.inside.ages.items c.in-Some.place) = ap length c.remove-in-Some.ensures.items in
-    let f : length c.remove.new.self.items ≡ length (remove c.self.inside.nodes.items c.in-Some.place) = ap length c.remove.ensures.items in
+    let e : length c.remove_from-in-Some.new.items.items ≡ length (remove c.self.inside.ages.items c.in-Some.place) = ap length c.remove_from-in-Some.ensures in
+    let f : length c.remove_from.new.items.items ≡ length (remove c.self.inside.nodes.items c.in-Some.place) = ap length c.remove_from.ensures in
     (omega (arith, ages, nodes, e, f, c.self.invariant.0), subst (λ xs. IsRising 0 xs (2 ^ 64)) (sym (left c)) (rising-filter _ 0 _ (2 ^ 64) c.self.invariant.1))
 
 pub returns-in-Some : goal.returns-in-Some
