@@ -5,3 +5,4 @@ pub mod Opened
 pub mod Passes
 pub mod Places
 pub mod Shut
+pub mod Whole

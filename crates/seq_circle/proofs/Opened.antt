@@ -4,7 +4,7 @@ use Rattle.std.specs.Prelude.{is_some, nat_le}
 use Rattle.std.specs.List.{filter, list_all}
 use Rattle.std.specs.Ordering.{nat_cmp}
 use Rattle.std.specs.FinMap
-use Rattle.std.proofs.lemmas.Bool.{false≢true, eqb-true, eq-eqb}
+use Rattle.std.proofs.lemmas.Bool.{false≢true, not-true, eqb-true, ne_eqb}
 use Rattle.route_filter.specs.Rules.{is_rule}
 use Rattle.route_filter.specs.declared.rule_args.RuleArgs.{RuleArgs}
 use Rattle.node_table.specs.Names.{is_name}
@@ -23,8 +23,8 @@ use Rattle.seq_state.specs.declared.refusal.Refusal.{Refusal}
 use Rattle.smf_grammar.specs.Played.{PlayedFile}
 use Rattle.seq_state.specs.State.{PortInfo, FilterInfo, Client, State, start}
 use Rattle.seq_state.specs.Effect.{Effect, with_change, port_of, filter_of, has_port, has_filter, port_caps, filter_caps, node_caps, put_port, put_filter, new_port, new_filter, new_client}
-use Rattle.seq_state.specs.Table.{CommandView, Condition, first_refusal, command_row, is_permitted, bad_name, port_exists, filter_exists, bad_rule}
-use Rattle.seq_state.specs.Step.{Stepped, unless, view_of, row_of, refusal_of, effect_of, command_step, caps_at, step, settle, state_after, IsRefusal, port_addr}
+use Rattle.seq_state.specs.Table.{Condition, first_refusal, command_row, is_permitted}
+use Rattle.seq_state.specs.Step.{Stepped, unless, row_of, refusal_of, effect_of, command_step, caps_at, step, settle, state_after, IsRefusal, port_addr}
 use Rattle.seq_state.specs.Changes.{IsLowest, client_after}
 use Rattle.seq_state.specs.Laws.{EndsThere, has_ends, is_there}
 use Rattle.seq_state.specs.Circle.{is_inner, IsClosedFrom}
@@ -32,18 +32,9 @@ use Rattle.seq_state.proofs.Lists.{both_left, both_right, filter-never, filter-t
 use Rattle.seq_state.proofs.Effects.{get-put}
 use Rattle.seq_state.proofs.Ends.{get-put_port, get-put_filter, ends_law}
 use Rattle.seq_state.proofs.Lowest.{lowest_law}
-use Rattle.seq_state.proofs.Changes.{others_law, edges_law}
+use Rattle.seq_state.proofs.Changes.{same_number, others_law, edges_law}
 use Rattle.seq_circle.specs.Shut.{is_joinable, opens}
 use Rattle.seq_circle.specs.Laws.{OpenLaw, node_made, input_of_client, joining_inputs}
-
-not_true : (x : Bool) → not x ≡ true → x ≡ false
-not_true x h = grind arith
-
-not_false : (x : Bool) → not x ≡ false → x ≡ true
-not_false x h = grind arith
-
-same_number : (n : ℕ) → eqb n n ≡ true
-same_number n = eq-eqb n n refl
 
 -- ---- commands that are not refused
 
@@ -79,8 +70,12 @@ record Made (s t : State) (a : Addr) : Type 0 where
   joinable : is_joinable caps.0 ≡ true
   edges : t.edges ≡ s.edges
 
-two_nots : (x : Bool) → not (not x) ≡ true → x ≡ true
-two_nots x h = grind arith
+-- of three conditions none holds: it is open, and nothing is there
+open_and_new : (client good there : Bool) → (not (not client) && (not (not good) && (not there && true))) ≡ true → (client ≡ true) × (there ≡ false)
+open_and_new client good there h = (grind arith, grind arith)
+
+kept_edges : (t s : State) → t.edges ≡ filter (λ e. true) s.edges ++ [] → t.edges ≡ s.edges
+kept_edges t s e = e ∙ append-nil (filter (λ e. true) s.edges) ∙ filter-true s.edges
 
 port_there : (o : Option Client) (n : ℕ) (name : List ℕ) (caps : Caps) → is_some o ≡ true → port_caps (port_of (with_change o (put_port n (Some (new_port name caps)))) n) ≡ Some caps
 port_there None n name caps h = absurd (false≢true h)
@@ -103,32 +98,24 @@ unfolding command_row
 made files owner s moment actor (CreatePort port name caps) o r =
     let c : Command = CreatePort port name caps in
     let client : Option Client = FinMap.get s.clients actor in
-    let a : CommandView = view_of files s moment actor c in
-    let h = none_holds files s moment actor c r in
-    let later : Bool = list_all (λ d. not d.1) (port_exists a port ∷ []) in
-    let last = both_right (not (not (is_name name))) later (both_right (not (not (is_some client))) (list_all (λ d. not d.1) (bad_name name ∷ port_exists a port ∷ [])) h) in
+    let h = open_and_new (is_some client) (is_name name) (has_port client port) (none_holds files s moment actor c r) in
     record {
       caps = caps;
-      new = no_port_caps (port_of client port) (not_true (has_port client port) (both_left (not (has_port client port)) true last));
-      there = ap (λ x. port_caps (port_of x port)) (actor_done files s moment actor c r)
-          ∙ port_there client port name caps (two_nots (is_some client) (both_left (not (not (is_some client))) (list_all (λ d. not d.1) (bad_name name ∷ port_exists a port ∷ [])) h));
+      new = no_port_caps (port_of client port) h.1;
+      there = ap (λ x. port_caps (port_of x port)) (actor_done files s moment actor c r) ∙ port_there client port name caps h.0;
       joinable = both_right (eqb actor owner) (is_joinable caps.0) o;
-      edges = edges_law files s moment actor c r ∙ append-nil (filter (λ e. true) s.edges) ∙ filter-true s.edges;
+      edges = kept_edges (command_step files s moment actor c).state s (edges_law files s moment actor c r);
     }
 made files owner s moment actor (CreateFilter n caps rule) o r =
     let c : Command = CreateFilter n caps rule in
     let client : Option Client = FinMap.get s.clients actor in
-    let a : CommandView = view_of files s moment actor c in
-    let h = none_holds files s moment actor c r in
-    let later : Bool = list_all (λ d. not d.1) (filter_exists a n ∷ []) in
-    let last = both_right (not (not (is_rule rule))) later (both_right (not (not (is_some client))) (list_all (λ d. not d.1) (bad_rule rule ∷ filter_exists a n ∷ [])) h) in
+    let h = open_and_new (is_some client) (is_rule rule) (has_filter client n) (none_holds files s moment actor c r) in
     record {
       caps = caps;
-      new = no_filter_caps (filter_of client n) (not_true (has_filter client n) (both_left (not (has_filter client n)) true last));
-      there = ap (λ x. filter_caps (filter_of x n)) (actor_done files s moment actor c r)
-          ∙ filter_there client n caps rule (two_nots (is_some client) (both_left (not (not (is_some client))) (list_all (λ d. not d.1) (bad_rule rule ∷ filter_exists a n ∷ [])) h));
+      new = no_filter_caps (filter_of client n) h.1;
+      there = ap (λ x. filter_caps (filter_of x n)) (actor_done files s moment actor c r) ∙ filter_there client n caps rule h.0;
       joinable = o;
-      edges = edges_law files s moment actor c r ∙ append-nil (filter (λ e. true) s.edges) ∙ filter-true s.edges;
+      edges = kept_edges (command_step files s moment actor c).state s (edges_law files s moment actor c r);
     }
 made files owner s moment actor command o r = absurd (false≢true o)
 
@@ -227,10 +214,10 @@ unfolding command_row
 its_port files s moment actor r = actor_done files s moment actor (CreatePort 0 name reads) r
 
 same_edges_open : (files : List PlayedFile) (s : State) (moment actor : ℕ) → refusal_of files s moment actor (Open name 1 1) ≡ None → (command_step files s moment actor (Open name 1 1)).state.edges ≡ s.edges
-same_edges_open files s moment actor r = edges_law files s moment actor (Open name 1 1) r ∙ append-nil (filter (λ e. true) s.edges) ∙ filter-true s.edges
+same_edges_open files s moment actor r = kept_edges (command_step files s moment actor (Open name 1 1)).state s (edges_law files s moment actor (Open name 1 1) r)
 
 same_edges_port : (files : List PlayedFile) (s : State) (moment actor : ℕ) → refusal_of files s moment actor (CreatePort 0 name reads) ≡ None → (command_step files s moment actor (CreatePort 0 name reads)).state.edges ≡ s.edges
-same_edges_port files s moment actor r = edges_law files s moment actor (CreatePort 0 name reads) r ∙ append-nil (filter (λ e. true) s.edges) ∙ filter-true s.edges
+same_edges_port files s moment actor r = kept_edges (command_step files s moment actor (CreatePort 0 name reads)).state s (edges_law files s moment actor (CreatePort 0 name reads) r)
 
 -- ---- before
 
@@ -239,7 +226,7 @@ absent files stranger s [] e h = e
 absent files stranger s (j ∷ before) e h =
     let rest : Bool = list_all (λ k. not (eqb stranger k.actor)) before in
     absent files stranger (step files s j).state before
-    (others_law.clients files (settle s j.moment).state j.moment j.actor j.command stranger (not_true (eqb stranger j.actor) (both_left (not (eqb stranger j.actor)) rest h)) ∙ e)
+    (others_law.clients files (settle s j.moment).state j.moment j.actor j.command stranger (not-true (eqb stranger j.actor) (both_left (not (eqb stranger j.actor)) rest h)) ∙ e)
     (both_right (not (eqb stranger j.actor)) rest h)
 
 ends_after : (files : List PlayedFile) (s : State) (before : List Input) → EndsThere s → EndsThere (state_after files s before)
@@ -251,18 +238,10 @@ closed_after files owner member s [] after c = c
 closed_after files owner member s (j ∷ before) after c = closed_after files owner member (step files s j).state before after c.2
 
 apart : (member : ℕ → Bool) (a b : ℕ) → member a ≡ true → member b ≡ false → eqb a b ≡ false
-apart member a b m n = go (eqb a b) refl
-  where
-    go : (t : Bool) → eqb a b ≡ t → eqb a b ≡ false
-    go true e = absurd (false≢true (sym n ∙ ap member (sym (eqb-true a b e)) ∙ m))
-    go false e = e
+apart member a b m n = ne_eqb a b (λ e. false≢true (sym n ∙ ap member (sym e) ∙ m))
 
 apart' : (member : ℕ → Bool) (a b : ℕ) → member a ≡ true → member b ≡ false → eqb b a ≡ false
-apart' member a b m n = go (eqb b a) refl
-  where
-    go : (t : Bool) → eqb b a ≡ t → eqb b a ≡ false
-    go true e = absurd (false≢true (sym n ∙ ap member (eqb-true b a e) ∙ m))
-    go false e = e
+apart' member a b m n = ne_eqb b a (λ e. false≢true (sym n ∙ ap member e ∙ m))
 
 pub open_law : OpenLaw
 open_law files owner member before after i stranger silent m n o done closed =

@@ -13,18 +13,24 @@ use Rattle.seq_circle.proofs.Least.{filter_passes}
 
 module _ {X : Type 0} (p : X → Bool) where
   -- one more
-  pub places-front : (n : ℕ) (xs : List X) (x : X) → places_from p n (xs ++ x ∷ []) ≡ places_from p n xs ++ place_if (p x) (n + length xs)
+  places-front : (n : ℕ) (xs : List X) (x : X) → places_from p n (xs ++ x ∷ []) ≡ places_from p n xs ++ place_if (p x) (n + length xs)
   places-front n [] x = append-nil (place_if (p x) n) ∙ ap (place_if (p x)) (omega arith)
   places-front n (y ∷ ys) x =
       ap (λ ks. place_if (p y) n ++ ks) (places-front (n + 1) ys x)
       ∙ sym (append_assoc (place_if (p y) n) (places_from p (n + 1) ys) (place_if (p x) (n + 1 + length ys)))
       ∙ ap (λ k. (place_if (p y) n ++ places_from p (n + 1) ys) ++ place_if (p x) k) (omega arith)
 
-  pub places-more : (xs : List X) (k : ℕ) (x : X) → k < length xs → x ≡ get_or xs k x → places_where p (take (k + 1) xs) ≡ places_where p (take k xs) ++ place_if (p x) k
+  places-more : (xs : List X) (k : ℕ) (x : X) → k < length xs → x ≡ get_or xs k x → places_where p (take (k + 1) xs) ≡ places_where p (take k xs) ++ place_if (p x) k
   places-more xs k x l e =
       ap (places_from p 0) (take_more xs k x l ∙ ap (λ y. take k xs ++ y ∷ []) (sym e))
       ∙ places-front 0 (take k xs) x
       ∙ ap (λ n. places_from p 0 (take k xs) ++ place_if (p x) n) (omega (arith, length-take-le k xs (omega arith)))
+
+  -- the places so far, and that of one more where it passes
+  pub places-pushed : (xs : List X) (k : ℕ) (x : X) (b : Bool) (before after : List ℕ) → k < length xs → x ≡ get_or xs k x → b ≡ p x → before ≡ places_where p (take k xs) → after ≡ before ++ place_if b k →
+      after ≡ places_where p (take (k + 1) xs)
+  places-pushed xs k x b before after l e f g h =
+      h ∙ ap (λ ks. ks ++ place_if b k) g ∙ ap (λ c. places_where p (take k xs) ++ place_if c k) f ∙ sym (places-more xs k x l e)
 
   -- where no place is, none passes
   pub none_passes : (n : ℕ) (xs : List X) → places_from p n xs ≡ [] → list_all (λ x. not (p x)) xs ≡ true

@@ -4,7 +4,7 @@ use Rattle.std.specs.Prelude.{is_some}
 use Rattle.std.specs.List.{list_all}
 use Rattle.std.specs.Ordering.{nat_cmp}
 use Rattle.std.specs.FinMap
-use Rattle.std.proofs.lemmas.Bool.{false≢true, eqb-true, eq-eqb}
+use Rattle.std.proofs.lemmas.Bool.{false≢true, not-true, eqb-true, ne_eqb}
 use Rattle.route_filter.specs.declared.rule_args.RuleArgs.{RuleArgs}
 use Rattle.tempo_clock.specs.Clocks.{running_from_zero, at_rest, running_on, with_tempo}
 use Rattle.node_table.specs.Capabilities.{can, read_bit, write_bit, subs_read_bit, subs_write_bit, no_export_bit}
@@ -20,29 +20,24 @@ use Rattle.seq_state.specs.declared.refusal.Refusal.TheVariants as refusal
 use Rattle.smf_grammar.specs.Played.{PlayedFile}
 use Rattle.seq_state.specs.State.{PortInfo, FilterInfo, Queue, Client, State, start, with_entry}
 use Rattle.seq_state.specs.Effect.{Effect, with_change, port_of, filter_of, queue_of, port_caps, filter_caps, node_caps, put_port, put_filter, put_queue, port_fed, filter_ruled, queue_map, new_port, new_filter, held_queue, one_tempo, file_queue, file_at, with_clock, public}
-use Rattle.seq_state.specs.Table.{CommandView, Condition, first_refusal, command_row, queue_named, is_permitted, not_open, no_sender, no_dest, already_connected, not_connected, sources_full, cycle}
+use Rattle.seq_state.specs.Table.{CommandView, Condition, first_refusal, command_row, is_permitted, not_open, no_sender, no_dest, already_connected, not_connected, sources_full, cycle}
 use Rattle.seq_state.specs.Step.{Stepped, unless, view_of, row_of, refusal_of, effect_of, command_step, caps_at, step, settle, IsRefusal}
 use Rattle.seq_state.specs.Changes.{client_after}
-use Rattle.seq_state.specs.Circle.{only, is_inner, inner_node, IsClosedAt, NamesWithin, IsClosedFrom}
+use Rattle.seq_state.specs.Circle.{only, is_inner, inner_node, IsClosedFrom}
 use Rattle.seq_state.proofs.Lists.{both_left, both_right, and_both}
 use Rattle.seq_state.proofs.Effects.{get-put}
 use Rattle.seq_state.proofs.Ends.{get-put_port, get-put_filter, filters-put_port, ports-put_filter, ports-put_queue, filters-put_queue}
 use Rattle.seq_state.proofs.Paths.{inner_member}
-use Rattle.seq_state.proofs.Changes.{others_law}
+use Rattle.seq_state.proofs.Changes.{same_number, others_law}
 use Rattle.seq_state.proofs.Heard.{agree_law}
-use Rattle.seq_circle.specs.Shut.{is_joinable, opens, joined_client, asked_client, is_met, stays_within, is_whole_circle, lets_none_in, is_shut}
+use Rattle.seq_circle.specs.Shut.{is_joinable, opens, target_of, joined_client, asked_client, is_met, stays_within, is_whole_circle, lets_none_in, is_shut}
 use Rattle.seq_circle.specs.Laws.{ShutLaw, StrangersLaw, ShutMeetLaw}
+use Rattle.seq_circle.proofs.Whole.{first_passes, IsKeptOut, closed_from}
 
 -- ---- tests
 
 second_fails : (x y : Bool) → (x && y) ≡ false → x ≡ true → y ≡ false
 second_fails x y h k = grind arith
-
-not_true : (x : Bool) → not x ≡ true → x ≡ false
-not_true x h = grind arith
-
-same_number : (n : ℕ) → eqb n n ≡ true
-same_number n = eq-eqb n n refl
 
 -- ---- nodes that no stranger may join
 
@@ -176,11 +171,7 @@ module _ (files : List PlayedFile) (owner : ℕ) (member : ℕ → Bool) (o : me
       is_permitted actor source (caps_at s source) target (caps_at s target) ≡ false
   stranger_refused s moment actor source target sh m i =
       let inside : member target.client ≡ true = inner_member owner member o target i in
-      not_permitted_there actor source target (caps_at s source) (caps_at s target) (go (eqb actor target.client) refl inside) (sh target.client inside target.node i)
-    where
-      go : (b : Bool) → eqb actor target.client ≡ b → member target.client ≡ true → eqb actor target.client ≡ false
-      go true e k = absurd (false≢true (sym m ∙ ap member (eqb-true actor target.client e) ∙ k))
-      go false e k = e
+      not_permitted_there actor source target (caps_at s source) (caps_at s target) (ne_eqb actor target.client (λ e. false≢true (sym m ∙ ap member e ∙ inside))) (sh target.client inside target.node i)
 
   connect_refused : (s : State) (moment actor : ℕ) (source target : Addr) → AreShut s → member actor ≡ false → is_inner owner member target ≡ true → IsRefusal (command_step files s moment actor (Connect source target)).reply
   unfolding command_row
@@ -198,60 +189,25 @@ module _ (files : List PlayedFile) (owner : ℕ) (member : ℕ → Bool) (o : me
       (fourth_holds (not_open a) (no_sender a source) (no_dest a target) refusal.NotPermitted (is_permitted actor source (caps_at s source) target (caps_at s target))
       (not_connected a source target ∷ []) (stranger_refused s moment actor source target sh m i))
 
-  -- ---- each input
-
-  joins_met : (source target : Addr) → is_met member (joined_client owner member source target) ≡ true → is_inner owner member target ≡ true → member source.client ≡ true
-  joins_met source target h i = go (is_inner owner member target) i h
-    where
-      go : (b : Bool) → b ≡ true → is_met member (cond b (Some source.client) None) ≡ true → member source.client ≡ true
-      go true e k = k
-      go false e k = absurd (false≢true e)
-
-  closed_at : (s : State) (moment actor : ℕ) (command : Command) → AreShut s → (member actor ≡ true → is_met member (asked_client owner member command) ≡ true) → IsClosedAt owner member actor command (command_step files s moment actor command).reply
-  closed_at s moment actor (Connect source target) sh k = λ i. (λ m. joins_met source target (k m) i, λ m. connect_refused s moment actor source target sh m i)
-  closed_at s moment actor (Disconnect source target) sh k = λ i. (λ m. joins_met source target (k m) i, λ m. disconnect_refused s moment actor source target sh m i)
-  closed_at s moment actor command sh k = tt
-
-  named_at : (actor : ℕ) (command : Command) → (member actor ≡ true → is_met member (asked_client owner member command) ≡ true) → NamesWithin member actor (queue_named command)
-  named_at actor (DeleteQueue q) k = k
-  named_at actor (Start q) k = k
-  named_at actor (Stop q) k = k
-  named_at actor (Continue q) k = k
-  named_at actor (Tempo q tempo) k = k
-  named_at actor (QueueStatus q) k = k
-  named_at actor (Share q) k = k
-  named_at actor (Schedule q port due message) k = k
-  named_at actor (Play q port file) k = k
-  named_at actor command k = tt
+  kept_out : (s : State) (moment actor : ℕ) (command : Command) → AreShut s → IsKeptOut owner member actor (command_step files s moment actor command).reply (target_of command)
+  kept_out s moment actor (Connect source target) sh = connect_refused s moment actor source target sh
+  kept_out s moment actor (Disconnect source target) sh = disconnect_refused s moment actor source target sh
+  kept_out s moment actor command sh = tt
 
   -- ---- all inputs
 
-  abbrev Stay : List Input → Type 0
-  Stay inputs = (list_all (stays_within owner member) (only member inputs) ≡ true) × (lets_none_in owner member inputs ≡ true)
+  -- no member has a node inside that anyone may join, or makes one
+  abbrev StayShut : State → List Input → Type 0
+  StayShut s inputs = AreShut s × (lets_none_in owner member inputs ≡ true)
 
-  -- what a member says, and what comes after
-  first_says : (i : Input) (inputs : List Input) → Stay (i ∷ inputs) → (member i.actor ≡ true → (stays_within owner member i ≡ true) × (opens owner i.actor i.command ≡ false)) × Stay inputs
-  first_says i inputs h = go (member i.actor) h
-    where
-      go : (b : Bool) → (list_all (stays_within owner member) (cond b (i ∷ only member inputs) (only member inputs)) ≡ true) × (list_all (λ j. not (opens owner j.actor j.command)) (cond b (i ∷ only member inputs) (only member inputs)) ≡ true) →
-          (b ≡ true → (stays_within owner member i ≡ true) × (opens owner i.actor i.command ≡ false)) × Stay inputs
-      go true k =
-          let x : Bool = list_all (stays_within owner member) (only member inputs) in
-          let y : Bool = lets_none_in owner member inputs in (
-            λ m. (both_left (stays_within owner member i) x k.0, not_true (opens owner i.actor i.command) (both_left (not (opens owner i.actor i.command)) y k.1)),
-            (both_right (stays_within owner member i) x k.0, both_right (not (opens owner i.actor i.command)) y k.1),
-          )
-      go false k = (λ m. absurd (false≢true m), k)
+  stay_shut : (s : State) (i : Input) (inputs : List Input) → StayShut s (i ∷ inputs) → StayShut (step files s i).state inputs
+  stay_shut s i inputs h =
+      let f = first_passes member (λ j. not (opens owner j.actor j.command)) i inputs h.1 in
+      (command_shut (settle s i.moment).state i.moment i.actor i.command h.0 (λ m. not-true (opens owner i.actor i.command) (f.0 m)), f.1)
 
-  closed_from : (inputs : List Input) (s : State) → AreShut s → Stay inputs → IsClosedFrom files owner member s inputs
-  closed_from [] s sh h = tt
-  closed_from (i ∷ inputs) s sh h =
-      let f = first_says i inputs h in
-      let u : State = (settle s i.moment).state in (
-        closed_at u i.moment i.actor i.command sh (λ m. (f.0 m).0),
-        named_at i.actor i.command (λ m. (f.0 m).0),
-        closed_from inputs (step files s i).state (command_shut u i.moment i.actor i.command sh (λ m. (f.0 m).1)) f.1,
-      )
+  shut_from : (inputs : List Input) (s : State) → AreShut s → list_all (stays_within owner member) (only member inputs) ≡ true → lets_none_in owner member inputs ≡ true → IsClosedFrom files owner member s inputs
+  shut_from inputs s sh w n =
+      closed_from owner member files StayShut (λ s i inputs h. kept_out (settle s i.moment).state i.moment i.actor i.command h.0) stay_shut inputs s (sh, n) w
 
 -- a circle that is shut in one list is shut in each where its members say the same
 same_shut : (owner : ℕ) (member : ℕ → Bool) (mine inputs : List Input) → only member inputs ≡ only member mine → is_shut owner member mine ≡ true → is_shut owner member inputs ≡ true
@@ -264,8 +220,8 @@ shut_law files owner member mine inputs h e =
     let whole : is_whole_circle owner member inputs ≡ true = both_left (is_whole_circle owner member inputs) (lets_none_in owner member inputs) k in
     let o : member owner ≡ true = both_left (member owner) (list_all (stays_within owner member) (only member inputs)) whole in (
       o,
-      closed_from files owner member o inputs start (at_first files owner member o)
-          (both_right (member owner) (list_all (stays_within owner member) (only member inputs)) whole, both_right (is_whole_circle owner member inputs) (lets_none_in owner member inputs) k),
+      shut_from files owner member o inputs start (at_first files owner member o) (both_right (member owner) (list_all (stays_within owner member) (only member inputs)) whole)
+          (both_right (is_whole_circle owner member inputs) (lets_none_in owner member inputs) k),
     )
 
 pub strangers_law : StrangersLaw

@@ -1,7 +1,9 @@
 -- Definition: How a circle that is open is shut: by makings without SUBS_WRITE.
-use Rattle.std.specs.Prelude.{ℕ, ◌-◌, Bool, ◌&&◌, if◌then◌else◌}
+use Rattle.std.specs.Prelude.{ℕ, ◌-◌, Bool, ◌&&◌, if◌then◌else◌, Option, Some, None}
 use Rattle.std.specs.Int.RustNames.{bit_and}
 use Rattle.node_table.specs.Capabilities.{known_bits, subs_write_bit}
+use Rattle.node_table.specs.declared.number.Node.{Node}
+use Rattle.node_table.specs.declared.number.Node.TheVariants.{Port, Filter}
 use Rattle.seq_state.specs.declared.input.Command.{Command}
 use Rattle.seq_state.specs.declared.input.Command.TheVariants.{CreatePort, CreateFilter}
 use Rattle.seq_state.specs.declared.input.Input.{Input}
@@ -10,6 +12,12 @@ use Rattle.seq_circle.specs.Shut.{opens}
 -- capabilities without SUBS_WRITE
 abbrev pub closed_caps : ℕ → ℕ
 closed_caps caps = bit_and caps (known_bits - subs_write_bit)
+
+-- the node that a command makes, with the number of its capabilities
+abbrev pub making_of : Command → Option (Node × ℕ)
+making_of (CreatePort port name caps) = Some (Port port, caps.0)
+making_of (CreateFilter filter caps rule) = Some (Filter filter, caps.0)
+making_of _ = None
 
 -- the same node made without SUBS_WRITE
 abbrev pub closed_making : Command → Command

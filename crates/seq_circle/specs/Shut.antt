@@ -21,6 +21,12 @@ opens owner actor (CreatePort port name caps) = (actor == owner) && is_joinable 
 opens owner actor (CreateFilter filter caps rule) = is_joinable caps.0
 opens owner actor _ = false
 
+-- the target of a Connect or Disconnect
+abbrev pub target_of : Command → Option Addr
+target_of (Connect source target) = Some target
+target_of (Disconnect source target) = Some target
+target_of _ = None
+
 -- the client that a member's Connect or Disconnect asks into the circle: the source's, where the
 -- target is inside
 abbrev pub joined_client : ℕ → (ℕ → Bool) → Addr → Addr → Option ℕ

@@ -10,7 +10,7 @@ mod finding;
 mod laws;
 mod members;
 
-pub use asking::closed_bits;
+pub use asking::{Making, closed_bits, is_inner, making_of, target_of};
 pub use circle::{Circle, circle_of};
 pub use laws::{
     line_more_keeps_shut, mended_is_shut, no_stranger_matters, open_can_be_joined,

@@ -13,8 +13,9 @@ use Rattle.seq_session.specs.Sessions.{FolderContents, script_reading, session, 
 use Rattle.session_circle.specs.declared.circle.SessionCircle.{SessionCircle}
 use Rattle.session_circle.specs.declared.every_end.TheConstants.{NO_END}
 use Rattle.session_circle.specs.declared.table.OwnedCircle.{OwnedCircle}
-use Rattle.session_circle.specs.EveryEnd.{NoneGoesBack}
-use Rattle.session_circle.specs.Found.{IsFoundAmong, IsCircleOf, AreFoundAmong, AreCirclesOf, IsForEveryEnd}
+use Rattle.session_circle.specs.declared.table.SessionCircles.{SessionCircles}
+use Rattle.session_circle.specs.EveryEnd.{NoneGoesBack, AreForward}
+use Rattle.session_circle.specs.Found.{IsFoundAmong, IsCircleOf, AreFoundAmong, AreCirclesOf, IsOfEveryEnd, IsForEveryEnd, AreForEveryEnd}
 use Rattle.session_circle.specs.Laws.{NoScriptMatters, AreOutside}
 use Rattle.session_circle.proofs.Scripts.{none_matters, outside_at, no_byte}
 use Rattle.session_circle.proofs.Ends.{matters-until, among-until, no_byte-until}
@@ -53,22 +54,29 @@ module _ (folder : FolderContents) (end : ℕ) (scripts : List Script) (reads : 
   pub outside_of_read : (owner : ℕ) (c : Circle) → IsFoundAmong m.inputs owner c → AreOutside folder end scripts owner (is_member owner c.joined.items) m.lines c.apart.items
   outside_of_read owner c f = subst (λ ls. AreOutside folder end scripts owner (is_member owner c.joined.items) ls c.apart.items) (sym merged_lines) (circle_of_read owner c f).outside
 
-pub for_every_end : (folder : FolderContents) (scripts : List Script) (owner : ℕ) (c : SessionCircle) → NoneGoesBack folder scripts →
-    c.merged.inputs ≡ inputs_of (session folder NO_END scripts) → c.merged.lines ≡ lines_of (session folder NO_END scripts) → IsFoundAmong c.merged.inputs owner c.circle → IsForEveryEnd folder scripts owner c
-for_every_end folder scripts owner c h i l f =
-    let found : IsFoundAmong (inputs_of (session folder NO_END scripts)) owner c.circle = subst (λ is. IsFoundAmong is owner c.circle) i f in
-    let is : IsCircleOf folder NO_END scripts owner c.circle = circle_of_found folder NO_END scripts owner c.circle found in
-    let matters : c.circle.openings.items ≡ [] → (end : ℕ) → end ≤ NO_END → NoScriptMatters folder end scripts owner (is_member owner c.circle.joined.items) =
-    λ none. matters-until folder scripts owner (is_member owner c.circle.joined.items) h (found.shut none) in
+-- ---- for every end
+
+of_every_end : (folder : FolderContents) (scripts : List Script) (owner : ℕ) (c : Circle) → NoneGoesBack folder scripts → IsCircleOf folder NO_END scripts owner c → IsOfEveryEnd folder scripts owner c
+of_every_end folder scripts owner c h is =
+    let matters : c.openings.items ≡ [] → (end : ℕ) → end ≤ NO_END → NoScriptMatters folder end scripts owner (is_member owner c.joined.items) =
+    λ none. matters-until folder scripts owner (is_member owner c.joined.items) h (is.found.shut none) in
     record {
-      none_goes_back = h;
-      inputs = i;
-      lines = l;
-      circle = is;
       shut = matters;
-      among = among-until folder scripts owner (is_member owner c.circle.joined.items) h;
+      among = among-until folder scripts owner (is_member owner c.joined.items) h;
       every_byte = λ none nothing end e.
-          no_byte-until folder scripts owner (is_member owner c.circle.joined.items) (lines_of (session folder NO_END scripts)) c.circle.apart.items h is.outside nothing end e (matters none end e);
+          no_byte-until folder scripts owner (is_member owner c.joined.items) (lines_of (session folder NO_END scripts)) c.apart.items h is.outside nothing end e (matters none end e);
+    }
+
+pub for_every_end : (folder : FolderContents) (scripts : List Script) (owner : ℕ) (c : SessionCircle) (reads : List ScriptRead) → AreForward folder scripts reads → c.merged ≡ merge_of reads →
+    IsFoundAmong c.merged.inputs owner c.circle → IsForEveryEnd folder scripts owner c
+for_every_end folder scripts owner c reads a m f =
+    let is : IsCircleOf folder NO_END scripts owner c.circle = circle_of_read folder NO_END scripts reads a.reads_are c.merged m owner c.circle f in
+    record {
+      none_goes_back = a.none_goes_back;
+      inputs = merged_inputs folder NO_END scripts reads a.reads_are c.merged m;
+      lines = merged_lines folder NO_END scripts reads a.reads_are c.merged m;
+      circle = is;
+      every_end = of_every_end folder scripts owner c.circle a.none_goes_back is;
     }
 
 -- ---- round each client
@@ -98,3 +106,21 @@ circles_of_found folder end scripts circles h = record {
       all-become (λ (x : OwnedCircle). IsFoundAmong (inputs_of (session folder end scripts)) x.owner x.circle) (λ (x : OwnedCircle). IsCircleOf folder end scripts x.owner x.circle)
       (λ x f. circle_of_found folder end scripts x.owner x.circle f) circles h.each;
 }
+
+module _ (folder : FolderContents) (end : ℕ) (scripts : List Script) (reads : List ScriptRead) (e : reads ≡ map (script_reading folder end) scripts) where
+  pub circles_of_read : (s : SessionCircles) → s.merged ≡ merge_of reads → AreFoundAmong s.merged.inputs scripts s.circles.items → AreCirclesOf folder end scripts s.circles.items
+  circles_of_read s m f = circles_of_found folder end scripts s.circles.items (subst (λ is. AreFoundAmong is scripts s.circles.items) (merged_inputs folder end scripts reads e s.merged m) f)
+
+pub all_for_every_end : (folder : FolderContents) (scripts : List Script) (s : SessionCircles) (reads : List ScriptRead) → AreForward folder scripts reads → s.merged ≡ merge_of reads →
+    AreFoundAmong s.merged.inputs scripts s.circles.items → AreForEveryEnd folder scripts s
+all_for_every_end folder scripts s reads a m f =
+    let are : AreCirclesOf folder NO_END scripts s.circles.items = circles_of_read folder NO_END scripts reads a.reads_are s m f in
+    record {
+      none_goes_back = a.none_goes_back;
+      inputs = merged_inputs folder NO_END scripts reads a.reads_are s.merged m;
+      lines = merged_lines folder NO_END scripts reads a.reads_are s.merged m;
+      circles = are;
+      every_end =
+          all-become (λ (x : OwnedCircle). IsCircleOf folder NO_END scripts x.owner x.circle) (λ (x : OwnedCircle). IsOfEveryEnd folder scripts x.owner x.circle)
+          (λ x is. of_every_end folder scripts x.owner x.circle a.none_goes_back is) s.circles.items are.each;
+    }

@@ -1,26 +1,25 @@
 -- Where a circle is closed in a run.
-use Rattle.std.proofs.Common.{◌≡◌, ℕ, zero, suc, ◌+◌, ◌<◌, ◌≤◌, Bool, true, false, not, cond, ◌&&◌, ◌↔◌, ◌⊎◌, inl, inr, List, [], ◌∷◌, length, take, get_or, Option, Some, None, refl, sym, ap, subst, ◌∙◌, arith}
+use Rattle.std.proofs.Common.{◌≡◌, ℕ, zero, suc, ◌+◌, ◌<◌, ◌≤◌, Bool, true, false, not, ◌&&◌, ◌↔◌, ◌⊎◌, inl, inr, List, [], ◌∷◌, length, take, get_or, Option, Some, None, refl, sym, ap, subst, ◌∙◌, arith}
 use Rattle.std.specs.Prelude.{slice_get, Result}
 use Rattle.std.specs.List.{list_all}
 use Rattle.std.specs.Result.{IfOk}
-use Rattle.std.proofs.lemmas.Bool.{cases_lt, false≢true}
+use Rattle.std.proofs.lemmas.Bool.{cases_lt, false≢true, not-true}
 use Rattle.std.proofs.lemmas.Option.{slice_get_read, slice_get_within}
-use Rattle.node_table.specs.declared.number.Addr.{Addr}
 use Rattle.seq_state.specs.declared.input.Command.{Command}
-use Rattle.seq_state.specs.declared.input.Command.TheVariants.{Connect, Disconnect, DeleteQueue, Start, Stop, Continue, Tempo, QueueStatus, Share, Schedule, Play}
+use Rattle.seq_state.specs.declared.input.Command.TheVariants.{Connect, Disconnect}
 use Rattle.seq_state.specs.declared.input.Input.{Input}
 use Rattle.seq_state.specs.declared.log.Reply.{Reply}
 use Rattle.seq_state.specs.declared.log.Reply.TheVariants.{Done, Messages, Queue, Received, Pools, Refused}
 use Rattle.smf_grammar.specs.Played.{PlayedFile}
 use Rattle.seq_state.specs.State.{State, start}
 use Rattle.seq_state.specs.Step.{step, state_after, IsRefusal}
-use Rattle.seq_state.specs.Table.{queue_named}
-use Rattle.seq_state.specs.Circle.{only, is_inner, IsClosedAt, NamesWithin, IsClosedFrom, IsClosed}
+use Rattle.seq_state.specs.Circle.{only, is_inner, IsClosedAt, IsClosedFrom, IsClosed}
 use Rattle.seq_state.proofs.Lists.{both_left, both_right, and_both}
 use Rattle.seq_state.proofs.Effects.{none_some}
 use Rattle.seq_circle.specs.declared.members.Joined.{Joined}
 use Rattle.seq_circle.specs.Least.{is_member}
-use Rattle.seq_circle.specs.Shut.{joined_client, asked_client, is_met, stays_within, is_whole_circle}
+use Rattle.seq_circle.specs.Shut.{target_of, stays_within, is_whole_circle}
+use Rattle.seq_circle.proofs.Whole.{IsKeptOut, closed_from}
 use Rattle.session_circle.specs.Closing.{aims_inside, reaches_in, IsReached, IsReachedAt, IsFirstReach}
 
 -- what can't be other than a refusal is one
@@ -32,66 +31,29 @@ refusal_when (Queue running tick nanos) h = h (λ x. x)
 refusal_when (Received arrivals) h = h (λ x. x)
 refusal_when (Pools waiting lost used) h = h (λ x. x)
 
-not_true : (b : Bool) → not b ≡ true → b ≡ false
-not_true b h = grind arith
-
 module _ (owner : ℕ) (member : ℕ → Bool) where
   -- ---- one input
 
-  joins_met : (source target : Addr) → is_met member (joined_client owner member source target) ≡ true → is_inner owner member target ≡ true → member source.client ≡ true
-  joins_met source target h i = ap (λ b. is_met member (cond b (Some source.client) None)) (sym i) ∙ h
-
-  closed_at : (actor : ℕ) (command : Command) (reply : Reply) → (member actor ≡ true → is_met member (asked_client owner member command) ≡ true) →
-      ((not (member actor) && aims_inside owner member command) ≡ true → IsRefusal reply) → IsClosedAt owner member actor command reply
-  closed_at actor (Connect source target) reply k r = λ i. (λ m. joins_met source target (k m) i, λ m. r (and_both (not (member actor)) (is_inner owner member target) (ap not m) i))
-  closed_at actor (Disconnect source target) reply k r = λ i. (λ m. joins_met source target (k m) i, λ m. r (and_both (not (member actor)) (is_inner owner member target) (ap not m) i))
-  closed_at actor command reply k r = tt
-
-  named_at : (actor : ℕ) (command : Command) → (member actor ≡ true → is_met member (asked_client owner member command) ≡ true) → NamesWithin member actor (queue_named command)
-  named_at actor (DeleteQueue q) k = k
-  named_at actor (Start q) k = k
-  named_at actor (Stop q) k = k
-  named_at actor (Continue q) k = k
-  named_at actor (Tempo q tempo) k = k
-  named_at actor (QueueStatus q) k = k
-  named_at actor (Share q) k = k
-  named_at actor (Schedule q port due message) k = k
-  named_at actor (Play q port file) k = k
-  named_at actor command k = tt
+  kept_out : (actor : ℕ) (command : Command) (reply : Reply) → ((not (member actor) && aims_inside owner member command) ≡ true → IsRefusal reply) → IsKeptOut owner member actor reply (target_of command)
+  kept_out actor (Connect source target) reply r = λ m i. r (and_both (not (member actor)) (is_inner owner member target) (ap not m) i)
+  kept_out actor (Disconnect source target) reply r = λ m i. r (and_both (not (member actor)) (is_inner owner member target) (ap not m) i)
+  kept_out actor command reply r = tt
 
   refused_at : (actor : ℕ) (command : Command) (reply : Reply) → IsClosedAt owner member actor command reply → (not (member actor) && aims_inside owner member command) ≡ true → IsRefusal reply
   refused_at actor (Connect source target) reply c h =
-      (c (both_right (not (member actor)) (is_inner owner member target) h)).1 (not_true (member actor) (both_left (not (member actor)) (is_inner owner member target) h))
+      (c (both_right (not (member actor)) (is_inner owner member target) h)).1 (not-true (member actor) (both_left (not (member actor)) (is_inner owner member target) h))
   refused_at actor (Disconnect source target) reply c h =
-      (c (both_right (not (member actor)) (is_inner owner member target) h)).1 (not_true (member actor) (both_left (not (member actor)) (is_inner owner member target) h))
+      (c (both_right (not (member actor)) (is_inner owner member target) h)).1 (not-true (member actor) (both_left (not (member actor)) (is_inner owner member target) h))
   refused_at actor command reply c h = absurd (false≢true (both_right (not (member actor)) false h))
 
   -- ---- all inputs
 
-  -- whom a member asks for, and what comes after
-  first_stays : (i : Input) (inputs : List Input) → list_all (stays_within owner member) (only member (i ∷ inputs)) ≡ true →
-      (member i.actor ≡ true → stays_within owner member i ≡ true) × (list_all (stays_within owner member) (only member inputs) ≡ true)
-  first_stays i inputs h = go (member i.actor) h
-    where
-      go : (b : Bool) → list_all (stays_within owner member) (cond b (i ∷ only member inputs) (only member inputs)) ≡ true →
-          (b ≡ true → stays_within owner member i ≡ true) × (list_all (stays_within owner member) (only member inputs) ≡ true)
-      go true k =
-          let rest : Bool = list_all (stays_within owner member) (only member inputs) in
-          (λ m. both_left (stays_within owner member i) rest k, both_right (stays_within owner member i) rest k)
-      go false k = (λ m. absurd (false≢true m), k)
-
   module _ (files : List PlayedFile) where
-    closed_from : (inputs : List Input) (s : State) → list_all (stays_within owner member) (only member inputs) ≡ true →
-        ((k : ℕ) (i : Input) → slice_get inputs k ≡ Some i → IsReached owner member i (step files (state_after files s (take k inputs)) i).reply → ⊥) → IsClosedFrom files owner member s inputs
-    closed_from [] s w n = tt
-    closed_from (i ∷ inputs) s w n =
-        let f = first_stays i inputs w in (
-          closed_at i.actor i.command (step files s i).reply f.0 (λ h. refusal_when (step files s i).reply (λ no. n zero i refl (h, no))),
-          named_at i.actor i.command f.0,
-          closed_from inputs (step files s i).state f.1 (λ k j e r. n (suc k) j e r),
-        )
+    -- by none of these inputs does a stranger reach in
+    abbrev NoneReaches : State → List Input → Type 0
+    NoneReaches s inputs = (k : ℕ) (i : Input) → slice_get inputs k ≡ Some i → IsReached owner member i (step files (state_after files s (take k inputs)) i).reply → ⊥
 
-    none_reached : (inputs : List Input) (s : State) → IsClosedFrom files owner member s inputs → (k : ℕ) (i : Input) → slice_get inputs k ≡ Some i → IsReached owner member i (step files (state_after files s (take k inputs)) i).reply → ⊥
+    none_reached : (inputs : List Input) (s : State) → IsClosedFrom files owner member s inputs → NoneReaches s inputs
     none_reached [] s c k i e r = none_some i e
     none_reached (x ∷ inputs) s c zero i e r =
         let same : x ≡ i = cc in
@@ -102,8 +64,11 @@ module _ (owner : ℕ) (member : ℕ → Bool) where
     pub closed_when : (inputs : List Input) → is_whole_circle owner member inputs ≡ true → (first : Option ℕ) → IsFirstReach files owner member inputs first → first ≡ None → IsClosed files owner member inputs
     closed_when inputs w first f e =
         let rest : Bool = list_all (stays_within owner member) (only member inputs) in
-        let none : IsFirstReach files owner member inputs None = subst (IsFirstReach files owner member inputs) e f in
-        (both_left (member owner) rest w, closed_from inputs start (both_right (member owner) rest w) (λ k i there r. none k (record { input = i; there = there; reached = r })))
+        let none : IsFirstReach files owner member inputs None = subst (IsFirstReach files owner member inputs) e f in (
+          both_left (member owner) rest w,
+          closed_from owner member files NoneReaches (λ s i inputs n. kept_out i.actor i.command (step files s i).reply (λ h. refusal_when (step files s i).reply (λ no. n zero i refl (h, no))))
+              (λ s i inputs n k j e. n (suc k) j e) inputs start (λ k i there r. none k (record { input = i; there = there; reached = r })) (both_right (member owner) rest w),
+        )
 
     -- and in no other
     pub open_when : (inputs : List Input) (first : Option ℕ) → IsFirstReach files owner member inputs first → (first ≡ None → ⊥) → IsClosed files owner member inputs → ⊥

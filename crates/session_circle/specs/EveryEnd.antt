@@ -1,5 +1,5 @@
 -- Definition: A session without an end, and lines that go back in time.
-use Rattle.std.specs.Prelude.{◌≡◌, ℕ, ◌==◌, nat_le, Bool, true, false, IsTrue, IsFalse, List, [], ◌∷◌, ◌++◌, Option, Some, None}
+use Rattle.std.specs.Prelude.{◌≡◌, ◌≤◌, ℕ, ◌==◌, nat_le, Bool, true, false, IsTrue, IsFalse, List, [], ◌∷◌, ◌++◌, map, Option, Some, None}
 use Rattle.std.specs.List.{filter, find, list_all, list_any}
 use Rattle.std.specs.Option.{option_map}
 use Rattle.script_text.specs.declared.reading.ScriptInput.{ScriptInput}
@@ -8,7 +8,8 @@ use Rattle.script_text.specs.declared.reading.Skip.{Skip}
 use Rattle.script_text.specs.declared.reading.SkipReason.{SkipReason}
 use Rattle.script_text.specs.declared.reading.SkipReason.TheVariants.{Late}
 use Rattle.seq_session.specs.declared.source.Script.{Script}
-use Rattle.seq_session.specs.Sessions.{FolderContents, script_reading}
+use Rattle.seq_session.specs.Blank.{outside_lines}
+use Rattle.seq_session.specs.Sessions.{FolderContents, script_reading, script_for}
 use Rattle.session_circle.specs.declared.every_end.TheConstants.{NO_END}
 
 -- ---- the session without an end
@@ -38,6 +39,12 @@ line_back skips = option_map (λ s. s.line) (find (λ s. is_back s.why) skips)
 abbrev pub NoneGoesBack : FolderContents → List Script → Type 0
 NoneGoesBack folder scripts = IsFalse (list_any (λ s. goes_back (whole_reading folder s)) scripts)
 
+-- no line of the scripts goes back in time, and these are their readings without an end
+pub record AreForward (folder : FolderContents) (scripts : List Script)
+    (reads : List ScriptRead) : Type 0 where
+  pub none_goes_back : NoneGoesBack folder scripts
+  pub reads_are : reads ≡ map (whole_reading folder) scripts
+
 -- the client and the line, where there is one; else what comes later
 abbrev pub back_or_later : ℕ → Option ℕ → Option (ℕ × ℕ) → Option (ℕ × ℕ)
 back_or_later client None later = later
@@ -61,6 +68,17 @@ pub record IsFirstBack (folder : FolderContents) (scripts : List Script) (client
   pub line_is : line_back (whole_reading folder script).skips ≡ Some line
   pub goes : NoneGoesBack folder scripts → ⊥
 
+-- ---- lines apart
+
 -- each of the first numbers is one of the others
 abbrev pub AreAmong : List ℕ → List ℕ → Type 0
 AreAmong xs ys = IsTrue (list_all (λ x. list_any (λ y. y == x) ys) xs)
+
+-- whatever the end, the lines of the client's script whose outcomes strangers may change are among
+-- those of the session without an end
+abbrev pub AreApartForEveryEnd : FolderContents → List Script → ℕ → (ℕ → Bool) → Type 0
+AreApartForEveryEnd folder scripts client member =
+    (owner : Script) → script_for client scripts ≡ Some owner →
+    (end : ℕ) → end ≤ NO_END →
+    AreAmong (outside_lines member (script_reading folder end owner))
+    (outside_lines member (whole_reading folder owner))

@@ -1,20 +1,20 @@
 -- Definition: The circles that are found in a session.
-use Rattle.std.specs.Prelude.{◌≡◌, ◌≢◌, ◌≤◌, ℕ, IsTrue, List, [], map, Some}
+use Rattle.std.specs.Prelude.{◌≡◌, ◌≢◌, ◌≤◌, ℕ, IsTrue, List, [], map}
 use Rattle.std.specs.List.{AllByRecursion}
 use Rattle.seq_state.specs.declared.input.Input.{Input}
 use Rattle.seq_circle.specs.declared.circle.Circle.{Circle}
 use Rattle.seq_circle.specs.Shut.{is_shut}
 use Rattle.seq_circle.specs.Least.{is_member, IsLeastCircle, NoneIsShut, places_where, opens_circle, reaches_out}
 use Rattle.seq_session.specs.declared.source.Script.{Script}
-use Rattle.seq_session.specs.Blank.{outside_lines}
 use Rattle.seq_session.specs.Merging.{inputs_of, lines_of}
-use Rattle.seq_session.specs.Sessions.{FolderContents, script_reading, session, script_clients, script_for}
+use Rattle.seq_session.specs.Sessions.{FolderContents, session, script_clients}
 use Rattle.session_circle.specs.declared.circle.SessionCircle.{SessionCircle}
 use Rattle.session_circle.specs.declared.every_end.EveryEnd.{EveryEnd}
-use Rattle.session_circle.specs.declared.every_end.EveryEnd.TheVariants.{Circle as Found, GoesBack}
+use Rattle.session_circle.specs.declared.every_end.EveryEnd.TheVariants.{Found, GoesBack}
 use Rattle.session_circle.specs.declared.every_end.TheConstants.{NO_END}
 use Rattle.session_circle.specs.declared.table.OwnedCircle.{OwnedCircle}
-use Rattle.session_circle.specs.EveryEnd.{NoneGoesBack, IsFirstBack, AreAmong, whole_reading}
+use Rattle.session_circle.specs.declared.table.SessionCircles.{SessionCircles}
+use Rattle.session_circle.specs.EveryEnd.{NoneGoesBack, IsFirstBack, AreApartForEveryEnd}
 use Rattle.session_circle.specs.Laws.{NoScriptMatters, NoByteChanges, AreOutside}
 
 -- The least circle round the owner among these inputs, with the places of all its openings and of
@@ -55,27 +55,40 @@ pub record AreCirclesOf (folder : FolderContents) (end : ℕ) (scripts : List Sc
 
 -- ---- for every end of the run
 
--- No line goes back in time, and it is the least circle in the session without an end. Where it is
--- shut, no script of a stranger matters, whatever the end; and the lines whose outcomes strangers
--- may change until then are among those of the session without an end.
+-- What is said of the circle is so for every end of the run: where it has no openings without an
+-- end, no script of a stranger matters; the lines apart are among those of the session without an
+-- end; and where there are none of these, no byte changes.
+pub record IsOfEveryEnd (folder : FolderContents) (scripts : List Script) (owner : ℕ)
+    (c : Circle) : Type 0 where
+  pub shut : c.openings.items ≡ [] → (end : ℕ) → end ≤ NO_END
+      → NoScriptMatters folder end scripts owner (is_member owner c.joined.items)
+  pub among : AreApartForEveryEnd folder scripts owner (is_member owner c.joined.items)
+  pub every_byte : c.openings.items ≡ [] → c.apart.items ≡ [] → (end : ℕ) → end ≤ NO_END
+      → NoByteChanges folder end scripts owner (is_member owner c.joined.items)
+
+-- No line goes back in time, and it is the least circle in the session without an end, with what is
+-- said of it for every end.
 pub record IsForEveryEnd (folder : FolderContents) (scripts : List Script) (owner : ℕ)
     (c : SessionCircle) : Type 0 where
   pub none_goes_back : NoneGoesBack folder scripts
   pub inputs : c.merged.inputs ≡ inputs_of (session folder NO_END scripts)
   pub lines : c.merged.lines ≡ lines_of (session folder NO_END scripts)
   pub circle : IsCircleOf folder NO_END scripts owner c.circle
-  pub shut : c.circle.openings.items ≡ [] → (end : ℕ) → end ≤ NO_END
-      → NoScriptMatters folder end scripts owner (is_member owner c.circle.joined.items)
-  pub among : (s : Script) → script_for owner scripts ≡ Some s → (end : ℕ) → end ≤ NO_END
-      → AreAmong
-      (outside_lines (is_member owner c.circle.joined.items) (script_reading folder end s))
-      (outside_lines (is_member owner c.circle.joined.items) (whole_reading folder s))
-  pub every_byte : c.circle.openings.items ≡ [] → c.circle.apart.items ≡ []
-      → (end : ℕ) → end ≤ NO_END
-      → NoByteChanges folder end scripts owner (is_member owner c.circle.joined.items)
+  pub every_end : IsOfEveryEnd folder scripts owner c.circle
 
--- the circle, or else the first line that goes back in time
-abbrev pub IsToldForEveryEnd : FolderContents → List Script → ℕ → EveryEnd → Type 0
-IsToldForEveryEnd folder scripts owner (Found c) = IsForEveryEnd folder scripts owner c
-IsToldForEveryEnd folder scripts owner (GoesBack client line) =
+-- The same of the circles round the clients of the scripts.
+pub record AreForEveryEnd (folder : FolderContents) (scripts : List Script)
+    (s : SessionCircles) : Type 0 where
+  pub none_goes_back : NoneGoesBack folder scripts
+  pub inputs : s.merged.inputs ≡ inputs_of (session folder NO_END scripts)
+  pub lines : s.merged.lines ≡ lines_of (session folder NO_END scripts)
+  pub circles : AreCirclesOf folder NO_END scripts s.circles.items
+  pub every_end : AllByRecursion (λ c. IsOfEveryEnd folder scripts c.owner c.circle)
+      s.circles.items
+
+-- what was found is so, or else the line is the first that goes back in time
+abbrev pub IsToldForEveryEnd : {T : Type 0} → FolderContents → List Script → (T → Type 0)
+    → EveryEnd T → Type 0
+IsToldForEveryEnd folder scripts IsSo (Found x) = IsSo x
+IsToldForEveryEnd folder scripts IsSo (GoesBack client line) =
     IsFirstBack folder scripts client line

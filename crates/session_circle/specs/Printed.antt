@@ -8,11 +8,13 @@ use Rattle.node_table.specs.declared.number.Node.{Node}
 use Rattle.node_table.specs.declared.number.Node.TheVariants.{Port, Filter}
 use Rattle.node_table.specs.declared.number.QueueAddr.{QueueAddr}
 use Rattle.seq_state.specs.declared.input.Command.{Command}
-use Rattle.seq_state.specs.declared.input.Command.TheVariants.{CreatePort, CreateFilter, Connect, Disconnect, DeleteQueue, Start, Stop, Continue, Tempo, QueueStatus, Share, Schedule, Play}
+use Rattle.seq_state.specs.declared.input.Command.TheVariants.{Connect, Disconnect, DeleteQueue, Start, Stop, Continue, Tempo, QueueStatus, Share, Schedule, Play}
 use Rattle.seq_state.specs.declared.input.Input.{Input}
 use Rattle.seq_circle.specs.declared.members.Joined.{Joined}
-use Rattle.seq_circle.specs.Mending.{closed_making}
+use Rattle.seq_circle.specs.Mending.{making_of, closed_making}
 use Rattle.seq_session.specs.declared.source.Script.{Script}
+use Rattle.session_circle.specs.declared.phrases.Deed.{Deed}
+use Rattle.session_circle.specs.declared.phrases.Deed.TheVariants.{Asks, Makes, Closes}
 use Rattle.session_circle.specs.declared.table.OwnedCircle.{OwnedCircle}
 
 -- ---- what an input does
@@ -40,12 +42,6 @@ asking_text (Schedule q port due message) = use_text (codes " schedules on ") q
 asking_text (Play q port file) = use_text (codes " plays on ") q
 asking_text _ = []
 
--- the node that a command makes, with the number of its capabilities
-abbrev pub making_of : Command → Option (Node × ℕ)
-making_of (CreatePort port name caps) = Some (Port port, caps.0)
-making_of (CreateFilter filter caps rule) = Some (Filter filter, caps.0)
-making_of _ = None
-
 abbrev pub kind_text : Node → List ℕ
 kind_text (Port n) = codes " port " ++ decimal n
 kind_text (Filter n) = codes " filter " ++ decimal n
@@ -62,24 +58,30 @@ making_text command = made_text (making_of command)
 abbrev pub closing_text : Command → List ℕ
 closing_text command = making_text (closed_making command)
 
+-- what is said of a command
+abbrev pub deed_text : Deed → Command → List ℕ
+deed_text Asks = asking_text
+deed_text Makes = making_text
+deed_text Closes = closing_text
+
 -- ` line 7 of 130`
 abbrev pub line_client_text : ℕ → ℕ → List ℕ
 line_client_text line actor = codes " line " ++ decimal line ++ codes " of " ++ decimal actor
 
 -- and what its command does
 abbrev pub input_text : (Command → List ℕ) → ℕ → Input → List ℕ
-input_text deed line i = line_client_text line i.actor ++ deed i.command
+input_text told line i = line_client_text line i.actor ++ told i.command
 
 -- the same where both are there
 abbrev pub line_text : (Command → List ℕ) → Option ℕ → Option Input → List ℕ
-line_text deed None i = []
-line_text deed (Some line) None = []
-line_text deed (Some line) (Some i) = input_text deed line i
+line_text told None i = []
+line_text told (Some line) None = []
+line_text told (Some line) (Some i) = input_text told line i
 
 -- the input at a place, with its line
 abbrev pub text_at : (Command → List ℕ) → List ℕ → List Input → ℕ → List ℕ
-text_at deed lines inputs place =
-    line_text deed (slice_get lines place) (slice_get inputs place)
+text_at told lines inputs place =
+    line_text told (slice_get lines place) (slice_get inputs place)
 
 -- ---- the lines
 

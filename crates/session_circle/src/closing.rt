@@ -3,7 +3,7 @@
 ghost use Rattle.std.specs.Prelude.{◌≡◌, ◌≢◌, ◌==◌, ◌≤◌, ◌<◌, ◌+◌, ◌-◌, ◌^◌, ◌↔◌, ℕ, not, ◌&&◌, None, IsTrue, IfOk, OnOk};
 ghost use Rattle.std.specs.List.{list_any};
 ghost use Rattle.seq_state.specs.Step.{step, IsTimed, IsRefusal};
-ghost use Rattle.seq_state.specs.Circle.{is_inner, IsClosed};
+ghost use Rattle.seq_state.specs.Circle.{IsClosed};
 ghost use Rattle.seq_engine.specs.Begun.{seen_at_start};
 ghost use Rattle.seq_circle.specs.Least.{is_member, IsLeastCircle};
 ghost use Rattle.seq_session.specs.Merging.{inputs_of};
@@ -13,8 +13,8 @@ ghost use Rattle.session_circle.specs.Closing.{aims_inside, reaches_in, IsFirstR
 use crate::circle::SessionCircle;
 use agenda_heap::{Agenda, HeapAgenda};
 use memory::OutOfMemory;
-use node_table::{Addr, ClientId, Node};
-use seq_circle::Joined;
+use node_table::ClientId;
+use seq_circle::{Joined, is_inner, target_of};
 use seq_engine::Engine;
 use seq_session::{NamedFiles, Script};
 use seq_state::{Command, Input, Reply};
@@ -32,47 +32,13 @@ fn is_member(owner: ClientId, joined: &[Joined], client: ClientId) -> bool
     client == owner || has_joined(joined, client)
 }
 
-/// Whether it is a port of the owner, or a filter of a member.
-fn is_inner(owner: ClientId, joined: &[Joined], node: &Addr) -> bool
-    ensures { result ≡ is_inner owner (is_member owner joined.now) node.now }
-{
-    match node.node {
-        Node::Port(_) => node.client == owner,
-        Node::Filter(_) => is_member(owner, joined, node.client),
-    }
-}
-
 /// Whether a command joins or parts at a target inside.
 fn aims_inside(owner: ClientId, joined: &[Joined], command: &Command) -> bool
     ensures { result ≡ aims_inside owner (is_member owner joined.now) command.now }
 {
-    match command {
-        Command::Connect { target, .. } | Command::Disconnect { target, .. } => {
-            is_inner(owner, joined, target)
-        }
-        Command::Open { .. }
-        | Command::Close
-        | Command::CreatePort { .. }
-        | Command::DeletePort { .. }
-        | Command::CreateFilter { .. }
-        | Command::SetFilter { .. }
-        | Command::DeleteFilter { .. }
-        | Command::Bytes { .. }
-        | Command::Send { .. }
-        | Command::CreateQueue { .. }
-        | Command::CreateQueueFrom { .. }
-        | Command::DeleteQueue { .. }
-        | Command::Start { .. }
-        | Command::Stop { .. }
-        | Command::Continue { .. }
-        | Command::Tempo { .. }
-        | Command::QueueStatus { .. }
-        | Command::Share { .. }
-        | Command::Schedule { .. }
-        | Command::Play { .. }
-        | Command::DropOutput
-        | Command::Receive { .. }
-        | Command::PoolStatus => false,
+    match target_of(command) {
+        Some(target) => is_inner(owner, &target, is_member(owner, joined, target.client)),
+        None => false,
     }
 }
 

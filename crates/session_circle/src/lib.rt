@@ -19,7 +19,7 @@ mod text;
 
 pub use circle::{SessionCircle, circle_of_scripts};
 pub use closing::first_reach;
-pub use every_end::{EveryEnd, NO_END, circle_for_every_end};
+pub use every_end::{EveryEnd, NO_END, circle_for_every_end, circles_for_every_end};
 pub use laws::{no_script_matters, shut_for_every_end};
 pub use table::{OwnedCircle, SessionCircles, are_all_shut, circles_of_scripts};
 pub use table_lines::table_text;

@@ -1,13 +1,12 @@
 //! What an input asks for or makes, as text.
 
 ghost use Rattle.std.specs.Prelude.{◌≡◌, ◌++◌, Some, OnOk, slice_get};
-ghost use Rattle.std.specs.Option.{option_map};
-ghost use Rattle.session_circle.specs.Printed.{nodes_text, use_text, asking_text, making_of, made_text, making_text, closing_text, line_client_text, input_text, text_at};
+ghost use Rattle.session_circle.specs.Printed.{nodes_text, use_text, asking_text, made_text, making_text, closing_text, deed_text, line_client_text, input_text, text_at};
 
 use bitflags::Flags;
 use memory::OutOfMemory;
-use node_table::{Addr, Caps, ClientId, Node, QueueAddr};
-use seq_circle::closed_bits;
+use node_table::{Addr, ClientId, Node, QueueAddr};
+use seq_circle::{closed_bits, making_of};
 use seq_state::{Command, Input};
 use std::alloc::Global;
 
@@ -79,51 +78,6 @@ fn push_asks(text: &mut Vec<u8>, alloc: Global, command: &Command) -> Result<(),
     }
 }
 
-/// A node that a command makes.
-#[derive(Clone, Copy)]
-struct Making {
-    node: Node,
-    caps: Caps,
-}
-
-fn making_of(command: &Command) -> Option<Making>
-    ensures { option_map (λ m. (m.node, m.caps.0)) result ≡ making_of command.now }
-{
-    match command {
-        Command::CreatePort { port, caps, .. } => Some(Making {
-            node: Node::Port(*port),
-            caps: *caps,
-        }),
-        Command::CreateFilter { filter, caps, .. } => Some(Making {
-            node: Node::Filter(*filter),
-            caps: *caps,
-        }),
-        Command::Open { .. }
-        | Command::Close
-        | Command::DeletePort { .. }
-        | Command::SetFilter { .. }
-        | Command::DeleteFilter { .. }
-        | Command::Connect { .. }
-        | Command::Disconnect { .. }
-        | Command::Bytes { .. }
-        | Command::Send { .. }
-        | Command::CreateQueue { .. }
-        | Command::CreateQueueFrom { .. }
-        | Command::DeleteQueue { .. }
-        | Command::Start { .. }
-        | Command::Stop { .. }
-        | Command::Continue { .. }
-        | Command::Tempo { .. }
-        | Command::QueueStatus { .. }
-        | Command::Share { .. }
-        | Command::Schedule { .. }
-        | Command::Play { .. }
-        | Command::DropOutput
-        | Command::Receive { .. }
-        | Command::PoolStatus => None,
-    }
-}
-
 /// Adds a node, with these bits as its capabilities.
 fn push_node(text: &mut Vec<u8>, alloc: Global, node: Node, bits: u8) -> Result<(), OutOfMemory>
     ensures { OnOk result (text.new.items ≡ text.old.items ++ made_text (Some (node, bits))) }
@@ -169,61 +123,60 @@ fn push_place(
     Ok(())
 }
 
-/// Adds the line of an input, and what it asks for.
-fn push_asking(
+/// What is said of an input.
+#[derive(Clone, Copy)]
+pub(crate) enum Deed {
+    /// What it asks for.
+    Asks,
+    /// What it makes.
+    Makes,
+    /// What it would make without SUBS_WRITE.
+    Closes,
+}
+
+/// Adds what is said of a command.
+fn push_deed(
     text: &mut Vec<u8>,
     alloc: Global,
+    deed: Deed,
+    command: &Command,
+) -> Result<(), OutOfMemory>
+    ensures { OnOk result (text.new.items ≡ text.old.items ++ deed_text deed command.now) }
+{
+    match deed {
+        Deed::Asks => push_asks(text, alloc, command),
+        Deed::Makes => push_makes(text, alloc, command),
+        Deed::Closes => push_closes(text, alloc, command),
+    }
+}
+
+/// Adds the line and the client of an input, and what is said of it.
+fn push_input(
+    text: &mut Vec<u8>,
+    alloc: Global,
+    deed: Deed,
     line: u64,
     input: &Input,
 ) -> Result<(), OutOfMemory>
     ensures { OnOk result (text.new.items
-        ≡ text.old.items ++ input_text asking_text line input.now) }
+        ≡ text.old.items ++ input_text (deed_text deed) line input.now) }
 {
     push_place(text, alloc, line, input.actor)?;
-    push_asks(text, alloc, &input.command)?;
+    push_deed(text, alloc, deed, &input.command)?;
     Ok(())
 }
 
-/// Adds the line of an input, and what it makes.
-fn push_making(
+/// Adds the line and the client of the input at a place, and what is said of it.
+pub(crate) fn push_at(
     text: &mut Vec<u8>,
     alloc: Global,
-    line: u64,
-    input: &Input,
-) -> Result<(), OutOfMemory>
-    ensures { OnOk result (text.new.items
-        ≡ text.old.items ++ input_text making_text line input.now) }
-{
-    push_place(text, alloc, line, input.actor)?;
-    push_makes(text, alloc, &input.command)?;
-    Ok(())
-}
-
-/// Adds the line of an input, and what it would make without SUBS_WRITE.
-fn push_closing(
-    text: &mut Vec<u8>,
-    alloc: Global,
-    line: u64,
-    input: &Input,
-) -> Result<(), OutOfMemory>
-    ensures { OnOk result (text.new.items
-        ≡ text.old.items ++ input_text closing_text line input.now) }
-{
-    push_place(text, alloc, line, input.actor)?;
-    push_closes(text, alloc, &input.command)?;
-    Ok(())
-}
-
-/// Adds the line of the input at a place, and what it asks for.
-pub(crate) fn push_asking_at(
-    text: &mut Vec<u8>,
-    alloc: Global,
+    deed: Deed,
     lines: &[u64],
     inputs: &[Input],
     place: usize,
 ) -> Result<(), OutOfMemory>
     ensures { OnOk result (text.new.items
-        ≡ text.old.items ++ text_at asking_text lines.now inputs.now place) }
+        ≡ text.old.items ++ text_at (deed_text deed) lines.now inputs.now place) }
 {
     let Some(line) = lines.get(place) else {
         return Ok(());
@@ -231,45 +184,5 @@ pub(crate) fn push_asking_at(
     let Some(input) = inputs.get(place) else {
         return Ok(());
     };
-    push_asking(text, alloc, *line, input)
-}
-
-/// Adds the line of the input at a place, and what it makes.
-pub(crate) fn push_making_at(
-    text: &mut Vec<u8>,
-    alloc: Global,
-    lines: &[u64],
-    inputs: &[Input],
-    place: usize,
-) -> Result<(), OutOfMemory>
-    ensures { OnOk result (text.new.items
-        ≡ text.old.items ++ text_at making_text lines.now inputs.now place) }
-{
-    let Some(line) = lines.get(place) else {
-        return Ok(());
-    };
-    let Some(input) = inputs.get(place) else {
-        return Ok(());
-    };
-    push_making(text, alloc, *line, input)
-}
-
-/// Adds the line of the input at a place, and what it would make without SUBS_WRITE.
-pub(crate) fn push_closing_at(
-    text: &mut Vec<u8>,
-    alloc: Global,
-    lines: &[u64],
-    inputs: &[Input],
-    place: usize,
-) -> Result<(), OutOfMemory>
-    ensures { OnOk result (text.new.items
-        ≡ text.old.items ++ text_at closing_text lines.now inputs.now place) }
-{
-    let Some(line) = lines.get(place) else {
-        return Ok(());
-    };
-    let Some(input) = inputs.get(place) else {
-        return Ok(());
-    };
-    push_closing(text, alloc, *line, input)
+    push_input(text, alloc, deed, *line, input)
 }

@@ -2,7 +2,7 @@
 
 ghost use Rattle.std.specs.Prelude.{◌≡◌, ◌↔◌, [], IsTrue, IfOk};
 ghost use Rattle.std.specs.List.{All};
-ghost use Rattle.seq_session.specs.Merging.{inputs_of, lines_of};
+ghost use Rattle.seq_session.specs.Merging.{inputs_of, lines_of, merge_of, AreSorted};
 ghost use Rattle.seq_session.specs.Sessions.{session};
 ghost use Rattle.session_circle.specs.Found.{AreFoundAmong, AreCirclesOf};
 
@@ -10,7 +10,7 @@ use crate::circle::readings;
 use memory::OutOfMemory;
 use node_table::ClientId;
 use seq_circle::{Circle, circle_of};
-use seq_session::{Merged, NamedFiles, Script, merge};
+use seq_session::{Merged, NamedFiles, Script, ScriptRead, merge};
 use seq_state::Input;
 use std::alloc::Global;
 
@@ -47,6 +47,22 @@ fn circles_among(
     Ok(circles)
 }
 
+/// The least circle round the client of each script, in the session of these readings.
+pub(crate) fn circles_of_readings(
+    alloc: Global,
+    scripts: &[Script],
+    reads: &[ScriptRead],
+) -> Result<SessionCircles, OutOfMemory>
+    requires { AreSorted reads.now }
+    ensures merged { IfOk result (λ s. s.merged ≡ merge_of reads.now) }
+    ensures found { IfOk result (λ s.
+        AreFoundAmong s.merged.inputs scripts.now s.circles.items) }
+{
+    let merged = merge(alloc, reads)?;
+    let circles = circles_among(alloc, scripts, merged.inputs.as_slice())?;
+    Ok(SessionCircles { merged, circles })
+}
+
 /// The least circle round each client that has a script, and whether it is shut: what `circle_of_scripts` says of each.
 /// The inputs are gone over for each circle anew.
 pub fn circles_of_scripts(
@@ -63,9 +79,7 @@ pub fn circles_of_scripts(
         AreCirclesOf files.now until scripts.now s.circles.items) }
 {
     let reads = readings(alloc, scripts, files, until)?;
-    let merged = merge(alloc, reads.as_slice())?;
-    let circles = circles_among(alloc, scripts, merged.inputs.as_slice())?;
-    Ok(SessionCircles { merged, circles })
+    circles_of_readings(alloc, scripts, reads.as_slice())
 }
 
 /// Whether each of the circles is shut.

@@ -4,7 +4,7 @@ ghost use Rattle.std.specs.Prelude.{◌≡◌, ◌++◌, OnOk, IfOk};
 ghost use Rattle.std.specs.List.{flat_map};
 ghost use Rattle.session_circle.specs.Printed.{client_text, company_text, members_text, first_apart_text, shut_line, answer_line, table_line, table_text};
 
-use crate::phrases::push_asking_at;
+use crate::phrases::{Deed, push_at};
 use crate::table::{OwnedCircle, SessionCircles};
 use crate::text::push_opening;
 use memory::OutOfMemory;
@@ -55,7 +55,7 @@ fn push_first_apart(
         return Ok(());
     };
     text.extend_from_slice(b", apart")?;
-    push_asking_at(text, alloc, lines, inputs, *place)
+    push_at(text, alloc, Deed::Asks, lines, inputs, *place)
 }
 
 /// Adds what is told of a circle that is shut.

@@ -2,7 +2,7 @@
 
 use crate::circle::circle_of_scripts;
 use crate::closing::first_reach;
-use crate::every_end::{EveryEnd, circle_for_every_end};
+use crate::every_end::{EveryEnd, circle_for_every_end, circles_for_every_end};
 use crate::table::{are_all_shut, circles_of_scripts};
 use crate::table_lines::table_text;
 use crate::text::{circle_text, reach_text};
@@ -298,7 +298,7 @@ fn printed_for_every_end(
     let owner = client(owner)?;
     let files = NamedFiles::new(&[], &[]).ok_or("no files")?;
     match circle_for_every_end(alloc, owner, all.as_slice(), &files)? {
-        EveryEnd::Circle(found) => Ok(circle_text(alloc, owner, all.as_slice(), &found)?),
+        EveryEnd::Found(found) => Ok(circle_text(alloc, owner, all.as_slice(), &found)?),
         EveryEnd::GoesBack { client, line } => {
             Ok(format!(in alloc; "line {line} of {client} goes back\n")?.into_bytes())
         }
@@ -394,6 +394,32 @@ fn the_first_line_apart_is_told(rt: HostRuntime) -> Result<(), Fail> {
     let (text, all_shut) = table_printed(rt.alloc(), &desk)?;
     assert!(rt; text.as_slice() == DESKS_TABLE.as_bytes());
     assert!(rt; all_shut);
+    Ok(())
+}
+
+/// What is printed of the circles round all clients for every end, or of the line that goes back in time.
+fn table_for_every_end(alloc: Global, scripts: &[(u8, &str)]) -> Result<Vec<u8>, Fail> {
+    let all = scripts_of(alloc, scripts)?;
+    let files = NamedFiles::new(&[], &[]).ok_or("no files")?;
+    match circles_for_every_end(alloc, all.as_slice(), &files)? {
+        EveryEnd::Found(found) => Ok(table_text(alloc, &found)?),
+        EveryEnd::GoesBack { client, line } => {
+            Ok(format!(in alloc; "line {line} of {client} goes back\n")?.into_bytes())
+        }
+    }
+}
+
+const SLOWS_TABLE: &str = "\
+128 open line 3 of 128 filter 0 caps 66: anyone may join it
+129 open line 3 of 129 port 0 caps 66: anyone may join it
+";
+
+#[test]
+fn the_table_for_every_end(rt: HostRuntime) -> Result<(), Fail> {
+    let text = table_for_every_end(rt.alloc(), &[(128, SLOW), (129, SYNTH)])?;
+    assert!(rt; text.as_slice() == SLOWS_TABLE.as_bytes());
+    let text = table_for_every_end(rt.alloc(), &[(128, KEYS), (129, BACK)])?;
+    assert!(rt; text.as_slice() == "line 3 of 129 goes back\n".as_bytes());
     Ok(())
 }
 

@@ -6,7 +6,7 @@ ghost use Rattle.session_circle.specs.Printed.{owner_line, silent_text, member_l
 ghost use Rattle.session_circle.specs.Closing.{reach_text};
 
 use crate::circle::SessionCircle;
-use crate::phrases::{push_asking_at, push_closing_at, push_making_at};
+use crate::phrases::{Deed, push_at};
 use memory::OutOfMemory;
 use node_table::ClientId;
 use seq_circle::Joined;
@@ -52,7 +52,7 @@ fn push_member(
 {
     let client = joined.client;
     text.extend_from_slice(format!(in alloc; "member {client} because")?.as_bytes())?;
-    push_asking_at(text, alloc, lines, inputs, joined.place)?;
+    push_at(text, alloc, Deed::Asks, lines, inputs, joined.place)?;
     push_silent(text, scripts, client)?;
     text.push(b'\n')?;
     Ok(())
@@ -87,7 +87,7 @@ fn push_apart(
         ≡ text.old.items ++ apart_line lines.now inputs.now place) }
 {
     text.extend_from_slice(b"apart")?;
-    push_asking_at(text, alloc, lines, inputs, place)?;
+    push_at(text, alloc, Deed::Asks, lines, inputs, place)?;
     text.push(b'\n')?;
     Ok(())
 }
@@ -120,7 +120,7 @@ pub(crate) fn push_opening(
         ≡ text.old.items ++ opening_line lines.now inputs.now place) }
 {
     text.extend_from_slice(b"open")?;
-    push_making_at(text, alloc, lines, inputs, place)?;
+    push_at(text, alloc, Deed::Makes, lines, inputs, place)?;
     text.extend_from_slice(b": anyone may join it\n")?;
     Ok(())
 }
@@ -137,7 +137,7 @@ fn push_mending(
         ≡ text.old.items ++ mending_line lines.now inputs.now place) }
 {
     text.extend_from_slice(b"mend")?;
-    push_closing_at(text, alloc, lines, inputs, place)?;
+    push_at(text, alloc, Deed::Closes, lines, inputs, place)?;
     text.extend_from_slice(b": nobody else may join it\n")?;
     Ok(())
 }
@@ -217,7 +217,7 @@ pub fn reach_text(
     let lines = found.merged.lines.as_slice();
     let inputs = found.merged.inputs.as_slice();
     let mut text = Vec::from_slice(alloc, b"reached by")?;
-    push_asking_at(&mut text, alloc, lines, inputs, place)?;
+    push_at(&mut text, alloc, Deed::Asks, lines, inputs, place)?;
     text.push(b'\n')?;
     Ok(text)
 }

@@ -1,12 +1,8 @@
-use Rattle.std.proofs.Common.{◌++◌, ◌∙◌, ap, sym, take}
-use Rattle.seq_circle.specs.Least.{place_if, places_where, reaches_out}
-use Rattle.seq_circle.proofs.Places.{places-more}
+use Rattle.seq_circle.specs.Least.{reaches_out}
+use Rattle.seq_circle.proofs.Places.{places-pushed}
 use Rattle.seq_circle.proofs.circle.apart_of.Goals as goal
 
 pub loop-place-preserved : goal.loop-place-preserved
 loop-place-preserved c =
-    let passes = reaches_out c.args.members.now.owner c.args.members.now.joined.items in
+    places-pushed (reaches_out c.args.members.now.owner c.args.members.now.joined.items) c.args.inputs.now c.loop-place.place _ _ _ _ c.loop-place-test.true c.index-inputs-place.is c.reaches_out.ensures c.loop-place.invariant
     c.in_ok-push_if.ensures
-    ∙ ap (λ places. places ++ place_if c.reaches_out.result c.loop-place.place) c.loop-place.invariant
-    ∙ ap (λ b. places_where passes (take c.loop-place.place c.args.inputs.now) ++ place_if b c.loop-place.place) c.reaches_out.ensures
-    ∙ sym (places-more passes c.args.inputs.now c.loop-place.place c.index-inputs-place.result c.loop-place-test.true c.index-inputs-place.is)

@@ -10,6 +10,6 @@ returns c =
     let between = text_at closing_text c.args.lines.now c.args.inputs.now c.args.place in
     let end = codes ": nobody else may join it\n" in
     let first : c.extend_from_slice.new.self.items ≡ c.args.text.now.items ++ start = search rules in
-    let second : c.push_closing_at.new.text.items ≡ c.extend_from_slice.new.self.items ++ between = search rules in
+    let second : c.push_at.new.text.items ≡ c.extend_from_slice.new.self.items ++ between = search rules in
     c.in_ok-extend_from_slice-2.ensures.items
     ∙ ap (λ xs. xs ++ end) (second ∙ ap (λ xs. xs ++ between) first) ∙ append_assoc (c.args.text.now.items ++ start) between end ∙ append_assoc c.args.text.now.items start (between ++ end)
