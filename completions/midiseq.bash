@@ -49,7 +49,7 @@ _midiseq() {
             if [[ $word == -* ]]; then
                 local options='--until --dir --list --help'
                 [[ $sub == record ]] && options='--until --dir --raw --port --out --help'
-                [[ $sub == circle ]] && options='--until --dir --owner --help'
+                [[ $sub == circle ]] && options='--until --dir --owner --session --help'
                 mapfile -t COMPREPLY < <(compgen -W "$options" -- "$word")
             elif [[ $word == *=* ]]; then
                 _midiseq_files "${word#*=}"

@@ -7,10 +7,11 @@ use Rattle.script_text.specs.Numbers as says
 use Rattle.program_tasks.specs.declared.answer.CircleAnswer.{CircleAnswer}
 use Rattle.program_tasks.specs.declared.ending.Ended.{Ended}
 use Rattle.program_tasks.specs.declared.ending.Ended.TheVariants.{Done, Answered}
+use Rattle.program_tasks.specs.declared.question.CircleQuestion.TheVariants.{Of, OfAll}
 use Rattle.program_tasks.specs.Words.{port_named, scripts_named, scripts_seen}
 use Rattle.program_tasks.specs.declared.recording.Recording.{Recording}
 use Rattle.program_tasks.specs.declared.session.Session.{Session}
-use Rattle.program_tasks.specs.Subcommands.{IsRunPrinted, IsCircleAnswered, AreCirclesAnswered, IsRunRecorded}
+use Rattle.program_tasks.specs.Subcommands.{IsRunPrinted, IsCircleAnswered, IsRunRecorded}
 use Rattle.program_tasks.specs.Tasks.{IsDone}
 use Rattle.program_tasks.specs.declared.choice.Task.{Task}
 use Rattle.program_tasks.specs.Program.{tool_name, IsNamedBy}
@@ -48,14 +49,17 @@ module _ {R W : Type 0} (IsOpened : List ℕ → R → Type 0) (HasLeft : R → 
         listed
         old new before after
 
-  -- The circle round the client that the word names was printed, and the answer is that circle's.
+  -- The circle round the client that the word names was printed, with --session also whether it is
+  -- closed in the session, and the answer is that circle's.
   pub record IsAnsweredRound {N : Type 0} (HasTaken : W → List ℕ → Type 0)
-      (HasTold : N → List ℕ → Type 0) (session : Session) (answer : CircleAnswer)
+      (HasTold : N → List ℕ → Type 0) (found : Found) (session : Session) (answer : CircleAnswer)
       (old new : W) (before after : N) (word : List ℕ) : Type 0 where
     pub owner : ℕ
     pub client : Some owner ≡ says.client_number word
+    pub in_session : Bool
+    pub flag : IsFlag found (codes "session") in_session
     pub printed : IsCircleAnswered IsOpened HasLeft CannotOpen failed HasNames HasTaken HasTold
-        session owner answer
+        session (Of owner in_session) answer
         old new before after
 
   -- The circle round the client of --owner in the session of these words was printed, and the
@@ -66,9 +70,9 @@ module _ {R W : Type 0} (IsOpened : List ℕ → R → Type 0) (HasLeft : R → 
     pub session : Session
     pub given : IsGiven found session
     pub printed : MatchOption (first_value found (codes "owner"))
-        (AreCirclesAnswered IsOpened HasLeft CannotOpen failed HasNames HasTaken HasTold session
-        answer old new before after)
-        (IsAnsweredRound HasTaken HasTold session answer old new before after)
+        (IsCircleAnswered IsOpened HasLeft CannotOpen failed HasNames HasTaken HasTold session
+        OfAll answer old new before after)
+        (IsAnsweredRound HasTaken HasTold found session answer old new before after)
 
   -- The session of these words was recorded: the port of --port, as --raw says, to the file of
   -- --out.

@@ -12,7 +12,7 @@ use byte_io::Sink;
 use clap::ArgMatches;
 use file_store::FileStore;
 use program_tasks::{
-    CircleAnswer, Notes, ProgramFault, Recording, Session, client_named, port_named,
+    CircleAnswer, CircleQuestion, Notes, ProgramFault, Recording, Session, client_named, port_named,
 };
 use std::alloc::Global;
 
@@ -77,8 +77,8 @@ pub(crate) fn record<'a, S: FileStore, N: Notes>(
     program_tasks::record(alloc, store, &session, &recording, notes)
 }
 
-/// Prints the circle round the client of --owner, and tells whether it is shut; without --owner those round all
-/// clients, and whether all are.
+/// Prints the circle round the client of --owner, with --session also whether it is closed there, and tells whether it
+/// is shut; without --owner those round all clients, and whether all are.
 pub(crate) fn circle<'a, S: FileStore, W: Sink, N: Notes>(
     alloc: Global,
     store: &S,
@@ -98,10 +98,13 @@ pub(crate) fn circle<'a, S: FileStore, W: Sink, N: Notes>(
 {
     let session = session_of(alloc, found)?;
     let Some(word) = found.get_str("owner") else {
-        return program_tasks::circles(alloc, store, &session, out, notes);
+        let question = CircleQuestion::OfAll;
+        return program_tasks::circle(alloc, store, &session, question, out, notes);
     };
     let Some(owner) = client_named(word) else {
         return Err(ProgramFault::NotAClient(word));
     };
-    program_tasks::circle(alloc, store, &session, owner, out, notes)
+    let in_session = found.get_flag("session");
+    let question = CircleQuestion::Of { owner, in_session };
+    program_tasks::circle(alloc, store, &session, question, out, notes)
 }

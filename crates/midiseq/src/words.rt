@@ -124,20 +124,19 @@ Example:
       129=synth.txt";
 
 const CIRCLE_HELP: &str = "\
-The scripts are read as by `midiseq run`, and nothing is run. The circle of a
-client is the client, all whom its script asks for, all whom theirs ask for,
-and so on. A script asks for a client by a line that joins a node of it to the
-owner's ports or to a member's filters, parts such a pair, or names a queue of
-it. In a circle that is shut, no script of anybody else can change what comes
-to the owner's ports, or when.
+The scripts are read as by `midiseq run`, and nothing is run but by --session.
+The circle of a client is the client, all whom its script asks for, all whom
+theirs ask for, and so on. A script asks for a client by a line that joins a
+node of it to the owner's ports or to a member's filters, parts such a pair, or
+names a queue of it. In a circle that is shut, no script of anybody else can
+change what comes to the owner's ports, or when.
 
 With --until N the run until N is meant. Without it the run has no end: what is
 shut then is shut for every N, and no line of a script may go back in time.
 
 Without --owner there is a line for each client that has a script: `CLIENT
 shut`, with the other members of its circle, or `CLIENT open` with the first
-line that leaves it open; status 0 where all are shut. Lines that go back in
-time are not looked for, so give --until if there may be some.
+line that leaves it open; status 0 where all are shut.
 
 The lines, in this order:
   circle CLIENT
@@ -155,6 +154,9 @@ The lines, in this order:
       behind each of these, the same without SUBS_WRITE
   shut, or open
       the answer: status 0 for shut, 3 for open
+  closed in this session, or reached by line LINE of CLIENT ..
+      last of all, with --session: whether a stranger among these scripts does
+      reach in, and by which line first
 
 Example, with the lines of `midiseq run --help`:
   midiseq circle --owner 129 128=keys.txt 129=synth.txt
@@ -215,6 +217,7 @@ fn circle<'a>(alloc: Global) -> Result<Command<'a>, AllocError> {
         .arg(until_or_always(alloc))?
         .arg(dir(alloc))?
         .arg(owner(alloc))?
+        .arg(session(alloc)?)?
         .arg(scripts(alloc))
 }
 
@@ -269,6 +272,14 @@ fn owner<'a>(alloc: Global) -> Arg<'a> {
         .long("owner")
         .value_name("CLIENT")
         .help("the client whose circle it is, 128 to 191; without it a line for each")
+}
+
+fn session<'a>(alloc: Global) -> Result<Arg<'a>, AllocError> {
+    Arg::new(alloc, "session")
+        .long("session")
+        .action(ArgAction::SetTrue)
+        .help("also say whether the circle is closed in the run of these very scripts")
+        .requires_arg("owner")
 }
 
 fn out<'a>(alloc: Global) -> Arg<'a> {

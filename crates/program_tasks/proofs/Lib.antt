@@ -11,6 +11,7 @@ pub mod Fronts
 pub mod Ordered
 pub mod Places
 pub mod Endless
+pub mod InSession
 pub mod PrintedLogs
 pub mod WordsTold
 pub mod Ticks

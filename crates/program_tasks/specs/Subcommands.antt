@@ -13,7 +13,8 @@ use Rattle.program_tasks.specs.declared.session.Session.{Session}
 use Rattle.program_tasks.specs.Faults.{IsOfRefusal, IsOfScripts, IsOfSharing, IsOfWriting}
 use Rattle.program_tasks.specs.Opened.{IsFolder}
 use Rattle.program_tasks.specs.declared.answer.CircleAnswer.{CircleAnswer}
-use Rattle.program_tasks.specs.Circles.{IsCirclePrinted, AreCirclesPrinted, IsOfTime}
+use Rattle.program_tasks.specs.declared.question.CircleQuestion.{CircleQuestion}
+use Rattle.program_tasks.specs.Circles.{IsCirclePrinted, IsOfTime}
 use Rattle.program_tasks.specs.Printed.{IsSessionPrinted}
 use Rattle.program_tasks.specs.Recorded.{IsSessionRecorded}
 
@@ -44,27 +45,15 @@ module _ {R : Type 0} (IsOpened : List ℕ → R → Type 0) (HasLeft : R → Li
         IsSessionPrinted IsOpened HasLeft HasTaken files session.until listed session.scripts.items
         old new
 
-  -- The sink took the least circle round the owner in the session, and the answer is that circle's.
+  -- The sink took the circles of the session that are asked for, and the answer is theirs.
   pub record IsCircleAnswered {W N : Type 0} (HasTaken : W → List ℕ → Type 0)
       (HasTold : N → List ℕ → Type 0)
-      (session : Session) (owner : ℕ) (answer : CircleAnswer) (old new : W)
+      (session : Session) (question : CircleQuestion) (answer : CircleAnswer) (old new : W)
       (before after : N) : Type 0 where
     pub files : FolderContents
     pub are : AreFilesOf HasTold (option_map (λ d. d.now) session.dir) before after files
     pub printed :
-        IsCirclePrinted IsOpened HasLeft HasTaken files session.until session.scripts.items owner
-        answer old new
-
-  -- The sink took the lines of the least circles round all clients of the session, and the answer
-  -- is whether each is shut.
-  pub record AreCirclesAnswered {W N : Type 0} (HasTaken : W → List ℕ → Type 0)
-      (HasTold : N → List ℕ → Type 0)
-      (session : Session) (answer : CircleAnswer) (old new : W)
-      (before after : N) : Type 0 where
-    pub files : FolderContents
-    pub are : AreFilesOf HasTold (option_map (λ d. d.now) session.dir) before after files
-    pub printed :
-        AreCirclesPrinted IsOpened HasLeft HasTaken files session.until session.scripts.items
+        IsCirclePrinted IsOpened HasLeft HasTaken files session.until session.scripts.items question
         answer old new
 
   -- A line goes back in time in the session, which has no end.

@@ -3,7 +3,7 @@
 ghost use Rattle.std.specs.Prelude.{◌≡◌};
 ghost use Rattle.program_tasks.specs.Program.{answer_status};
 
-/// Whether the least circle round a client is shut.
+/// Whether the least circle round a client is shut, or of all circles whether each is.
 #[derive(Clone, Copy, Debug, PartialEq, Eq)]
 pub enum CircleAnswer {
     Shut,
@@ -20,4 +20,11 @@ impl CircleAnswer {
             CircleAnswer::Open => 3,
         }
     }
+}
+
+/// What is asked of circles as text, with the answer.
+#[derive(Drop)]
+pub(crate) struct CircleTold {
+    pub(crate) text: Vec<u8>,
+    pub(crate) answer: CircleAnswer,
 }

@@ -7,6 +7,7 @@
 #![tactic(auto)]
 
 mod answer;
+mod answering;
 mod apart;
 mod choice;
 mod circling;
@@ -20,6 +21,7 @@ mod opening;
 mod port_file;
 mod printing;
 mod program_fault;
+mod question;
 mod reading;
 mod recording;
 mod rows;
@@ -31,8 +33,8 @@ mod words;
 mod writing;
 
 pub use answer::CircleAnswer;
+pub use answering::print_circle;
 pub use choice::{STANDARD, Stream, Task, Tool};
-pub use circling::print_circle;
 pub use ending::{Ended, finish};
 pub use folder::{Folder, named};
 pub use logs::print_logs;
@@ -42,12 +44,12 @@ pub use opening::{FolderFiles, open_files};
 pub use port_file::record_file;
 pub use printing::print_session;
 pub use program_fault::{FaultLine, LeftOut, ProgramFault};
+pub use question::CircleQuestion;
 pub use reading::read_scripts;
 pub use recording::{Recording, record_session, recorded};
 pub use rows::worked_recording;
 pub use session::Session;
-pub use subcommands::{circle, circles, record, run};
-pub use tabling::print_circles;
+pub use subcommands::{circle, record, run};
 pub use task::perform;
 pub use words::{ScriptWord, client_named, port_named, scripts_named, until_named};
 pub use writing::write_file;

@@ -5,20 +5,19 @@ ghost use Rattle.std.specs.Option.{option_map};
 ghost use Rattle.seq_session.specs.Rising.{AreRising};
 ghost use Rattle.program_tasks.specs.Faults.{IsOfListing, IsOfScripts, IsOfOutput, IsStuck};
 ghost use Rattle.program_tasks.specs.Sessions.{owners};
-ghost use Rattle.program_tasks.specs.Subcommands.{IsRunPrinted, IsCircleAnswered, AreCirclesAnswered, IsTimeless, IsRunRecorded, IsRecordingStopped};
+ghost use Rattle.program_tasks.specs.Subcommands.{IsRunPrinted, IsCircleAnswered, IsTimeless, IsRunRecorded, IsRecordingStopped};
 
 use crate::answer::CircleAnswer;
-use crate::circling::print_circle;
+use crate::answering::print_circle;
 use crate::folder::{Folder, named};
 use crate::notes::Notes;
 use crate::printing::print_session;
 use crate::program_fault::ProgramFault;
+use crate::question::CircleQuestion;
 use crate::recording::{Recording, record_session};
 use crate::session::Session;
-use crate::tabling::print_circles;
 use byte_io::Sink;
 use file_store::FileStore;
-use node_table::ClientId;
 use std::alloc::Global;
 
 /// Runs the scripts of a session, and prints each client's log and, where `listed` says so, the listing at the end.
@@ -48,21 +47,22 @@ pub fn run<'a, S: FileStore, W: Sink, N: Notes>(
     print_session(alloc, store, session, &named(&opened), listed, out)
 }
 
-/// Prints the least circle round a client in a session, and tells whether it is shut. Nothing is run.
+/// Prints the circles that are asked for of a session, and tells whether each is shut. Nothing is run, but where a
+/// circle is asked for in its session.
 ///
 /// Tells which files of the folder are left out.
 pub fn circle<'a, S: FileStore, W: Sink, N: Notes>(
     alloc: Global,
     store: &S,
     session: &Session<'a>,
-    owner: ClientId,
+    question: CircleQuestion,
     out: &mut W,
     notes: &mut N,
 ) -> Result<CircleAnswer, ProgramFault<'a>>
     requires rising { AreRising (owners session.now.scripts.items) }
     requires sound { W.failed out.old ≡ false }
     ensures printed { IfOk result (λ answer. IsCircleAnswered S.IsOpened S.Reader.HasLeft S.CannotOpen
-        S.Reader.failed S.HasNames W.HasTaken N.HasTold session.now owner answer
+        S.Reader.failed S.HasNames W.HasTaken N.HasTold session.now question answer
         out.old out.new notes.old notes.new) }
     ensures fault { IfErr result (λ e.
         IsOfListing S.CannotList (option_map (λ d. d.now) session.now.dir) e
@@ -74,33 +74,7 @@ pub fn circle<'a, S: FileStore, W: Sink, N: Notes>(
 {
     let folder = Folder::read(alloc, store, session.dir)?;
     let opened = folder.open(alloc, notes)?;
-    print_circle(alloc, store, session, &named(&opened), owner, out)
-}
-
-/// Prints a line for the least circle round each client of a session, and tells whether each is shut. Nothing is run.
-///
-/// Tells which files of the folder are left out.
-pub fn circles<'a, S: FileStore, W: Sink, N: Notes>(
-    alloc: Global,
-    store: &S,
-    session: &Session<'a>,
-    out: &mut W,
-    notes: &mut N,
-) -> Result<CircleAnswer, ProgramFault<'a>>
-    requires rising { AreRising (owners session.now.scripts.items) }
-    requires sound { W.failed out.old ≡ false }
-    ensures printed { IfOk result (λ answer. AreCirclesAnswered S.IsOpened S.Reader.HasLeft S.CannotOpen
-        S.Reader.failed S.HasNames W.HasTaken N.HasTold session.now answer
-        out.old out.new notes.old notes.new) }
-    ensures fault { IfErr result (λ e.
-        IsOfListing S.CannotList (option_map (λ d. d.now) session.now.dir) e
-        ⊎ (IsOfScripts S.IsOpened S.Reader.HasLeft S.CannotOpen S.Reader.failed
-        session.now.scripts.items e
-        ⊎ IsOfOutput (IsStuck W.failed W.takes_some out.old out.new) e)) }
-{
-    let folder = Folder::read(alloc, store, session.dir)?;
-    let opened = folder.open(alloc, notes)?;
-    print_circles(alloc, store, session, &named(&opened), out)
+    print_circle(alloc, store, session, &named(&opened), question, out)
 }
 
 /// Runs the scripts of a session, and writes what came to a port to a file, once all else is done.

@@ -6,7 +6,9 @@ use byte_io::{DeviceFault, MemSink, MemSource};
 use file_store::FileStore;
 use memory::OutOfMemory;
 use node_table::ClientId;
-use program_tasks::{CircleAnswer, Ended, Notes, ProgramFault, Session, circle, circles, finish};
+use program_tasks::{
+    CircleAnswer, CircleQuestion, Ended, Notes, ProgramFault, Session, circle, finish,
+};
 use std::alloc::Global;
 use std::fmt::Display;
 use std::process::Abort;
@@ -104,7 +106,8 @@ impl Notes for Counted {
     }
 }
 
-/// The scripts of a studio, a synthesizer that anyone may join, and a file that can't be read.
+/// The scripts of a studio, a synthesizer that anyone may join, one who joins it and one who finds no port there, and a
+/// file that can't be read.
 const FILES: &[(&str, &[u8])] = &[
     (
         "keyboard.txt",
@@ -123,6 +126,14 @@ const FILES: &[(&str, &[u8])] = &[
         "open.txt",
         b"0 open synth 100 100\n0 port 0 in 66\n0 connect 128:p0 129:p0\n",
     ),
+    (
+        "joiner.txt",
+        b"0 open joiner 9 9\n0 port 0 out 1\n1 connect 130:p0 129:p0\n",
+    ),
+    (
+        "refused.txt",
+        b"0 open refused 9 9\n0 port 0 out 1\n1 connect 130:p0 129:p1\n",
+    ),
     ("back.txt", b"5 open keys 16 16\n3 port 0 keys 33\n"),
     (BROKEN, b"0 open keys 100 100\n"),
 ];
@@ -139,11 +150,17 @@ fn sink(alloc: Global) -> Result<MemSink, OutOfMemory>
     MemSink::new(alloc, 0)
 }
 
-/// Prints the circle round a client, or without one those round all clients. No line is told beside it.
+/// Asks for the circle round a client, and whether it is closed in its session.
+fn round(owner: u8, in_session: bool) -> Result<CircleQuestion, Fail> {
+    let owner = ClientId::new(owner).ok_or("a client number")?;
+    Ok(CircleQuestion::Of { owner, in_session })
+}
+
+/// Prints the circles that are asked for. No line is told beside them.
 fn print(
     rt: &impl Abort,
     alloc: Global,
-    owner: Option<ClientId>,
+    question: CircleQuestion,
     until: &'static str,
     words: &[&'static str],
     out: &mut MemSink,
@@ -156,26 +173,22 @@ fn print(
     };
     let mut notes = Counted { lines: 0 };
     let session = Session::of_words(alloc, until, None, words)?;
-    let answer = match owner {
-        Some(owner) => circle(alloc, &store, &session, owner, out, &mut notes),
-        None => circles(alloc, &store, &session, out, &mut notes),
-    };
+    let answer = circle(alloc, &store, &session, question, out, &mut notes);
     assert!(rt; notes.lines == 0);
     answer
 }
 
-/// The circle of a client in the session of these words is printed so, and answered so.
+/// What is asked of the session of these words is printed so, and answered so.
 fn check(
     rt: &impl Abort,
     alloc: Global,
-    owner: u8,
+    question: CircleQuestion,
     words: &[&'static str],
     text: &str,
     answer: CircleAnswer,
 ) -> Result<(), Fail> {
-    let owner = Some(ClientId::new(owner).ok_or("a client number")?);
     let mut out = sink(alloc)?;
-    assert!(rt; print(rt, alloc, owner, UNTIL, words, &mut out) == Ok(answer));
+    assert!(rt; print(rt, alloc, question, UNTIL, words, &mut out) == Ok(answer));
     assert!(rt; out.bytes() == text.as_bytes());
     Ok(())
 }
@@ -192,37 +205,55 @@ fn prints_circles(rt: HostRuntime) -> Result<(), Fail> {
     let shut = "circle 130\n\
         member 128 because line 4 of 130 connects 128:p0 to 130:f0\n\
         member 129 because line 5 of 130 connects 129:p0 to 130:f0\nshut\n";
-    check(&rt, rt.alloc(), 130, &STUDIO, shut, CircleAnswer::Shut)
+    check(
+        &rt,
+        rt.alloc(),
+        round(130, false)?,
+        &STUDIO,
+        shut,
+        CircleAnswer::Shut,
+    )
 }
 
 #[test]
 fn prints_all_circles(rt: HostRuntime) -> Result<(), Fail> {
-    let mut out = sink(rt.alloc())?;
-    let printed = print(&rt, rt.alloc(), None, UNTIL, &STUDIO, &mut out);
-    assert!(rt; printed == Ok(CircleAnswer::Shut));
-    assert!(rt; out.bytes() == "128 shut with 129\n129 shut\n130 shut with 128 129\n".as_bytes());
-    let mut out = sink(rt.alloc())?;
-    let printed = print(&rt, rt.alloc(), None, UNTIL, &["129=open.txt"], &mut out);
-    assert!(rt; printed == Ok(CircleAnswer::Open));
-    assert!(rt;
-        out.bytes() == "129 open line 2 of 129 port 0 caps 66: anyone may join it\n".as_bytes()
-    );
-    Ok(())
+    let shut = "128 shut with 129\n129 shut\n130 shut with 128 129\n";
+    let open = "129 open line 2 of 129 port 0 caps 66: anyone may join it\n";
+    check(
+        &rt,
+        rt.alloc(),
+        CircleQuestion::OfAll,
+        &STUDIO,
+        shut,
+        CircleAnswer::Shut,
+    )?;
+    check(
+        &rt,
+        rt.alloc(),
+        CircleQuestion::OfAll,
+        &["129=open.txt"],
+        open,
+        CircleAnswer::Open,
+    )
 }
 
 #[test]
 fn answers_for_every_end(rt: HostRuntime) -> Result<(), Fail> {
-    let owner = Some(ClientId::new(129).ok_or("a client number")?);
-    let mut out = sink(rt.alloc())?;
     let words = ["129=sequencer.txt", "128=back.txt"];
-    let printed = print(&rt, rt.alloc(), owner, NO_END, &words, &mut out);
-    let (client, line) = (128, 2);
-    assert!(rt; printed == Err(ProgramFault::GoesBack { client, line }));
-    assert!(rt; out.bytes().is_empty());
-    let mut out = sink(rt.alloc())?;
-    let printed = print(&rt, rt.alloc(), owner, NO_END, &words[..1], &mut out);
-    assert!(rt; printed == Ok(CircleAnswer::Shut));
-    assert!(rt; out.bytes() == "circle 129\nshut\n".as_bytes());
+    for (question, shut) in [
+        (round(129, false)?, "circle 129\nshut\n"),
+        (CircleQuestion::OfAll, "129 shut\n"),
+    ] {
+        let mut out = sink(rt.alloc())?;
+        let printed = print(&rt, rt.alloc(), question, NO_END, &words, &mut out);
+        let (client, line) = (128, 2);
+        assert!(rt; printed == Err(ProgramFault::GoesBack { client, line }));
+        assert!(rt; out.bytes().is_empty());
+        let mut out = sink(rt.alloc())?;
+        let printed = print(&rt, rt.alloc(), question, NO_END, &words[..1], &mut out);
+        assert!(rt; printed == Ok(CircleAnswer::Shut));
+        assert!(rt; out.bytes() == shut.as_bytes());
+    }
     Ok(())
 }
 
@@ -233,7 +264,48 @@ fn prints_a_circle_that_is_open(rt: HostRuntime) -> Result<(), Fail> {
         member 128 because line 3 of 129 connects 128:p0 to 129:p0\n\
         open line 2 of 129 port 0 caps 66: anyone may join it\n\
         mend line 2 of 129 port 0 caps 2: nobody else may join it\nopen\n";
-    check(&rt, rt.alloc(), 129, &words, open, CircleAnswer::Open)
+    check(
+        &rt,
+        rt.alloc(),
+        round(129, false)?,
+        &words,
+        open,
+        CircleAnswer::Open,
+    )
+}
+
+/// Whether the circle of the open synthesizer is closed in the session of these words is told so.
+fn check_in_session(
+    rt: &impl Abort,
+    alloc: Global,
+    words: &[&'static str],
+    told: &str,
+) -> Result<(), Fail> {
+    let open = format!(in alloc;
+        "circle 129\n\
+        member 128 because line 3 of 129 connects 128:p0 to 129:p0\n\
+        open line 2 of 129 port 0 caps 66: anyone may join it\n\
+        mend line 2 of 129 port 0 caps 2: nobody else may join it\nopen\n{told}\n"
+    )?;
+    check(
+        rt,
+        alloc,
+        round(129, true)?,
+        words,
+        open.as_str(),
+        CircleAnswer::Open,
+    )
+}
+
+#[test]
+fn tells_whether_it_is_closed_in_its_session(rt: HostRuntime) -> Result<(), Fail> {
+    let words = ["129=open.txt", "128=keyboard.txt", "130=joiner.txt"];
+    let closed = "closed in this session";
+    check_in_session(&rt, rt.alloc(), &words[..2], closed)?;
+    let reached = "reached by line 3 of 130 connects 130:p0 to 129:p0";
+    check_in_session(&rt, rt.alloc(), &words, reached)?;
+    let words = ["129=open.txt", "128=keyboard.txt", "130=refused.txt"];
+    check_in_session(&rt, rt.alloc(), &words, closed)
 }
 
 #[test]
@@ -241,11 +313,18 @@ fn tells_who_has_no_script(rt: HostRuntime) -> Result<(), Fail> {
     let words = ["128=keyboard.txt"];
     let silent = "circle 128\n\
         member 129 because line 4 of 128 schedules on 129:q0, and has no script\nshut\n";
-    check(&rt, rt.alloc(), 128, &words, silent, CircleAnswer::Shut)?;
     check(
         &rt,
         rt.alloc(),
-        191,
+        round(128, false)?,
+        &words,
+        silent,
+        CircleAnswer::Shut,
+    )?;
+    check(
+        &rt,
+        rt.alloc(),
+        round(191, false)?,
         &words,
         "circle 191\nshut\n",
         CircleAnswer::Shut,
@@ -255,14 +334,13 @@ fn tells_who_has_no_script(rt: HostRuntime) -> Result<(), Fail> {
 // All scripts are opened before the first is read.
 #[test]
 fn prints_nothing_where_a_script_cannot_be_read(rt: HostRuntime) -> Result<(), Fail> {
-    let owner = Some(ClientId::new(128).ok_or("a client number")?);
     for (words, path) in [
         (["128=keyboard.txt", "129=none.txt"], "none.txt"),
         (["128=broken.txt", "129=open.txt"], "broken.txt"),
         (["128=broken.txt", "129=none.txt"], "none.txt"),
     ] {
         let mut out = sink(rt.alloc())?;
-        let printed = print(&rt, rt.alloc(), owner, UNTIL, &words, &mut out);
+        let printed = print(&rt, rt.alloc(), round(128, false)?, UNTIL, &words, &mut out);
         assert!(rt; printed == Err(ProgramFault::CannotRead(path)));
         assert!(rt; out.bytes().is_empty());
     }
@@ -271,10 +349,16 @@ fn prints_nothing_where_a_script_cannot_be_read(rt: HostRuntime) -> Result<(), F
 
 #[test]
 fn tells_that_nothing_more_is_taken(rt: HostRuntime) -> Result<(), Fail> {
-    let owner = Some(ClientId::new(130).ok_or("a client number")?);
     let mut out = sink(rt.alloc())?;
     out.fail_at(0);
-    let printed = print(&rt, rt.alloc(), owner, UNTIL, &STUDIO, &mut out);
+    let printed = print(
+        &rt,
+        rt.alloc(),
+        round(130, false)?,
+        UNTIL,
+        &STUDIO,
+        &mut out,
+    );
     assert!(rt; printed == Err(ProgramFault::CannotWrite("-")));
     assert!(rt; out.bytes().is_empty());
     Ok(())
