@@ -1,4 +1,5 @@
-"""Runs a program with its calls of the system refused: requests for memory, reads and writes."""
+"""Runs a program with its calls of the system refused: requests for memory, reads and writes. To give back a part of what is there
+is no request: a program may go on where that is refused."""
 import os
 import subprocess
 
@@ -8,6 +9,7 @@ REFUSER = r"""
 #define _GNU_SOURCE
 #include <dlfcn.h>
 #include <errno.h>
+#include <malloc.h>
 #include <stdlib.h>
 #include <string.h>
 #include <sys/syscall.h>
@@ -52,7 +54,8 @@ void *malloc(size_t size) {
 
 void *realloc(void *old, size_t size) {
     NEXT(realloc);
-    return refused(MEMORY, ENOMEM) ? 0 : next(old, size);
+    int less = old && size <= malloc_usable_size(old);
+    return !less && refused(MEMORY, ENOMEM) ? 0 : next(old, size);
 }
 
 ssize_t read(int from, void *to, size_t size) {
