@@ -6,7 +6,9 @@ PREFIX ?= /usr/local
 INSTALL ?= install
 
 BINDIR = $(DESTDIR)$(PREFIX)/bin
-MANDIR = $(DESTDIR)$(PREFIX)/share/man/man1
+MANDIR = $(DESTDIR)$(PREFIX)/share/man
+DOCDIR = $(DESTDIR)$(PREFIX)/share/doc/midiseq
+USER_PAGES = TUTORIAL SCRIPTS LOGS FILES FAULTS CIRCLES GLOSSARY PROMISES
 COMPLETIONS = $(DESTDIR)$(PREFIX)/share/bash-completion/completions
 
 .PHONY: build demo test gate-times check check-docs install uninstall clean
@@ -46,15 +48,20 @@ check: build
 check-docs: build
 	test/docs $(PROGRAM)
 
-# The program, its man page and the completions for bash.
+# The program, its man pages, the completions for bash, and the pages for users with the examples that they run.
 install: build
-	$(INSTALL) -d $(BINDIR) $(MANDIR) $(COMPLETIONS)
+	$(INSTALL) -d $(BINDIR) $(MANDIR)/man1 $(MANDIR)/man5 $(COMPLETIONS) $(DOCDIR)/docs
 	$(INSTALL) -m 755 $(PROGRAM) $(BINDIR)/midiseq
-	$(INSTALL) -m 644 docs/midiseq.1 $(MANDIR)/midiseq.1
+	$(INSTALL) -m 644 docs/midiseq.1 $(MANDIR)/man1/midiseq.1
+	$(INSTALL) -m 644 docs/midiseq-script.5 docs/midiseq-faults.5 $(MANDIR)/man5
 	$(INSTALL) -m 644 completions/midiseq.bash $(COMPLETIONS)/midiseq
+	$(INSTALL) -m 644 README.md $(DOCDIR)
+	$(INSTALL) -m 644 $(USER_PAGES:%=docs/%.md) $(DOCDIR)/docs
+	cp -R examples $(DOCDIR)
 
 uninstall:
-	rm -f $(BINDIR)/midiseq $(MANDIR)/midiseq.1 $(COMPLETIONS)/midiseq
+	rm -f $(BINDIR)/midiseq $(MANDIR)/man1/midiseq.1 $(MANDIR)/man5/midiseq-script.5 $(MANDIR)/man5/midiseq-faults.5 $(COMPLETIONS)/midiseq
+	rm -rf $(DOCDIR)
 
 clean:
 	rm -rf bin crates/*/out
