@@ -13,8 +13,6 @@ mod laws;
 mod phrases;
 mod table;
 mod table_lines;
-#[cfg(test)]
-mod tests;
 mod text;
 
 pub use circle::{SessionCircle, circle_of_scripts};

@@ -1,6 +1,7 @@
 //! The tools of the program, through their public calls.
 
 mod circles;
+mod circles_of_scripts;
 mod dump;
 mod failing_devices;
 mod faults;
