@@ -42,14 +42,14 @@ _midiseq() {
             _midiseq_files "$word"
             return
             ;;
-        --until | --port | --owner) return ;;
+        --until | --for | --port | --owner) return ;;
     esac
     case $sub in
         run | record | circle)
             if [[ $word == -* ]]; then
-                local options='--until --dir --list --help'
-                [[ $sub == record ]] && options='--until --dir --raw --port --out --help'
-                [[ $sub == circle ]] && options='--until --dir --owner --session --help'
+                local options='--until --for --to-end --dir --list --help'
+                [[ $sub == record ]] && options='--until --for --to-end --dir --raw --port --out --help'
+                [[ $sub == circle ]] && options='--until --for --to-end --dir --owner --session --help'
                 mapfile -t COMPREPLY < <(compgen -W "$options" -- "$word")
             elif [[ $word == *=* ]]; then
                 _midiseq_files "${word#*=}"

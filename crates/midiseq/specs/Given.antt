@@ -5,6 +5,8 @@ use Rattle.clap.specs.declared.parser.matches.Found.{Found}
 use Rattle.clap.specs.Matches.{first_value, matched_of, one_text, raw_values}
 use Rattle.script_text.specs.Numbers as says
 use Rattle.program_tasks.specs.declared.answer.CircleAnswer.{CircleAnswer}
+use Rattle.program_tasks.specs.declared.end_word.EndWord.{EndWord}
+use Rattle.program_tasks.specs.declared.end_word.EndWord.TheVariants.{Until, For, ToEnd}
 use Rattle.program_tasks.specs.declared.ending.Ended.{Ended}
 use Rattle.program_tasks.specs.declared.ending.Ended.TheVariants.{Done, Answered}
 use Rattle.program_tasks.specs.declared.question.CircleQuestion.TheVariants.{Of, OfAll}
@@ -13,6 +15,7 @@ use Rattle.program_tasks.specs.declared.recording.Recording.{Recording}
 use Rattle.program_tasks.specs.declared.session.Session.{Session}
 use Rattle.program_tasks.specs.Subcommands.{IsRunPrinted, IsCircleAnswered, IsRunRecorded}
 use Rattle.program_tasks.specs.Tasks.{IsDone}
+use Rattle.program_tasks.specs.Times.{end_said}
 use Rattle.program_tasks.specs.declared.choice.Task.{Task}
 use Rattle.program_tasks.specs.Program.{tool_name, IsNamedBy}
 
@@ -20,10 +23,29 @@ use Rattle.program_tasks.specs.Program.{tool_name, IsNamedBy}
 abbrev pub text_of : Found → List ℕ → List ℕ
 text_of found id = unwrap_or (first_value found id) []
 
--- the session ends at the moment of --until, and has the folder of --dir and the scripts of the
+-- the end is the moment that this text says
+abbrev pub IsUntil : List ℕ → EndWord → Type 0
+IsUntil text (Until word) = word.now ≡ text
+IsUntil text _ = ⊥
+
+-- the end comes after the time that this text says
+abbrev pub IsFor : EndWord → List ℕ → Type 0
+IsFor (For word) text = word.now ≡ text
+IsFor _ text = ⊥
+
+-- When the session ends: with --to-end when nothing is left, else after the time of --for, and
+-- without that at the moment of --until.
+pub record IsEndGiven (found : Found) (end : EndWord) : Type 0 where
+  pub to_end : one_text found (codes "to-end") ≡ Some (codes "true") → end ≡ ToEnd
+  pub said : one_text found (codes "to-end") ≡ None → MatchOption (first_value found (codes "for"))
+      (IsUntil (text_of found (codes "until")) end) (IsFor end)
+
+-- the session ends when the words say so, and has the folder of --dir and the scripts of the
 -- other words
 pub record IsGiven (found : Found) (session : Session) : Type 0 where
-  pub until : Some session.until ≡ says.u64 (text_of found (codes "until"))
+  pub end : EndWord
+  pub given : IsEndGiven found end
+  pub until : Some session.until ≡ end_said end
   pub dir : option_map (λ d. d.now) session.dir ≡ first_value found (codes "dir")
   pub scripts : Some (scripts_seen session.scripts.items)
       ≡ scripts_named (unwrap_or

@@ -8,21 +8,28 @@ use Rattle.program_tasks.specs.Words.{port_named, IsOfWords}
 use Rattle.program_tasks.specs.declared.recording.Recording.{Recording}
 use Rattle.program_tasks.specs.declared.session.Session.{Session}
 use Rattle.program_tasks.specs.Faults.{IsOfListing, IsOfScripts, IsOfOutput}
-use Rattle.program_tasks.specs.Sessions.{IsNotAMoment}
 use Rattle.program_tasks.specs.Subcommands.{IsTimeless, IsRecordingStopped}
 use Rattle.program_tasks.specs.Tasks.{IsToolFault}
+use Rattle.program_tasks.specs.Times.{end_said, IsNoEnd}
+use Rattle.program_tasks.specs.declared.end_word.EndWord.{EndWord}
 use Rattle.program_tasks.specs.declared.choice.Task.{Task}
 use Rattle.program_tasks.specs.declared.choice.Tool.{Tool}
 use Rattle.program_tasks.specs.declared.program_fault.ProgramFault.{ProgramFault}
 use Rattle.program_tasks.specs.declared.program_fault.ProgramFault.TheVariants.{NoSubcommand, NotAClient, NotAPort}
 use Rattle.program_tasks.specs.Program.{tool_name, IsNamedBy}
-use Rattle.midiseq.specs.Given.{text_of, IsGiven}
+use Rattle.midiseq.specs.Given.{text_of, IsEndGiven, IsGiven}
 
--- the words name no session: --until says no moment, or some word names no script
+-- The word for the session's end says none.
+pub record IsOfEndWord (found : Found) (fault : ProgramFault) : Type 0 where
+  pub end : EndWord
+  pub given : IsEndGiven found end
+  pub unsaid : end_said end ≡ None
+  pub told : IsNoEnd end fault
+
+-- the words name no session: its end is not said, or some word names no script
 abbrev pub IsOfSessionWords : Found → ProgramFault → Type 0
 IsOfSessionWords found fault =
-    ((says.u64 (text_of found (codes "until")) ≡ None)
-    × IsNotAMoment (text_of found (codes "until")) fault)
+    IsOfEndWord found fault
     ⊎ IsOfWords (unwrap_or (option_map raw_values (matched_of found (codes "CLIENT=PATH"))) [])
     fault
 

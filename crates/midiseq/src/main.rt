@@ -9,7 +9,9 @@ use byte_io::{StdSink, StdSource};
 use clap::ArgMatches;
 use clap::error::ErrorKind;
 use file_store::SystemFiles;
-use program_tasks::{Ended, Notes, ProgramFault, STANDARD, StandardError, Task, finish, perform};
+use program_tasks::{
+    Ended, LINE_START, Notes, ProgramFault, STANDARD, StandardError, Task, finish, perform,
+};
 use std::alloc::{AllocError, Global};
 use std::process::ExitCode;
 use std::rt::{Env, Files};
@@ -80,6 +82,9 @@ fn shown(rt: &(impl Print + Eprint), error: &clap::Error) -> Result<Ended, Progr
         return Err(ProgramFault::OutOfMemory);
     }
     // What goes to standard output is what was asked for; of what goes to standard error nobody could be told.
+    if error.use_stderr() {
+        let _ = rt.eprint(LINE_START);
+    }
     if error.print(rt).is_err() && !error.use_stderr() {
         return Err(ProgramFault::CannotWrite(STANDARD));
     }

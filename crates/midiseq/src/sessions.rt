@@ -2,7 +2,7 @@
 
 ghost use Rattle.std.specs.Prelude.{◌≡◌, ◌⊎◌, false, codes, IfOk, IfErr, OnOk};
 ghost use Rattle.clap.specs.Matches.{found_of};
-ghost use Rattle.midiseq.specs.Given.{text_of, IsGiven, RunsAsGiven, CirclesAsGiven, RecordsAsGiven};
+ghost use Rattle.midiseq.specs.Given.{text_of, IsEndGiven, IsGiven, RunsAsGiven, CirclesAsGiven, RecordsAsGiven};
 ghost use Rattle.midiseq.specs.Refused.{IsOfSessionWords, IsNotAClient, IsNotAPort, IsRunStopped, IsCircleStopped, IsRecordStopped};
 ghost use Rattle.seq_session.specs.Rising.{AreRising};
 ghost use Rattle.program_tasks.specs.Faults.{IsStuck};
@@ -12,9 +12,23 @@ use byte_io::Sink;
 use clap::ArgMatches;
 use file_store::FileStore;
 use program_tasks::{
-    CircleAnswer, CircleQuestion, Notes, ProgramFault, Recording, Session, client_named, port_named,
+    CircleAnswer, CircleQuestion, EndWord, Notes, ProgramFault, Recording, Session, client_named,
+    port_named,
 };
 use std::alloc::Global;
+
+/// When the words say that the session ends.
+fn end_of<'a>(found: &ArgMatches<'a>) -> EndWord<'a>
+    ensures { IsEndGiven (found_of found.now) result }
+{
+    if found.get_flag("to-end") {
+        return EndWord::ToEnd;
+    }
+    match found.get_str("for") {
+        Some(time) => EndWord::For(time),
+        None => EndWord::Until(found.get_str("until").unwrap_or("")),
+    }
+}
 
 /// The session that the words of `run`, `record` and `circle` say alike.
 fn session_of<'a>(alloc: Global, found: &ArgMatches<'a>) -> Result<Session<'a>, ProgramFault<'a>>
@@ -22,9 +36,8 @@ fn session_of<'a>(alloc: Global, found: &ArgMatches<'a>) -> Result<Session<'a>, 
     ensures rising { IfOk result (λ s. AreRising (owners s.scripts.items)) }
     ensures fault { IfErr result (IsOfSessionWords (found_of found.now)) }
 {
-    let until = found.get_str("until").unwrap_or("");
     let scripts = found.get_strs("CLIENT=PATH").unwrap_or(&[]);
-    Session::of_words(alloc, until, found.get_str("dir"), scripts)
+    Session::of_words(alloc, end_of(found), found.get_str("dir"), scripts)
 }
 
 /// Runs the scripts, and prints each client's log and, where asked for, the listing at the end.

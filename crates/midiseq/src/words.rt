@@ -7,8 +7,8 @@ const VERSION: &str = "0.1.0";
 
 const EXAMPLES: &str = "\
 run, record and circle take a script for each client: a command a line, each
-with its moment in nanoseconds. thru and wire take raw MIDI bytes, as they come from a
-cable; dump takes a Standard MIDI File (.mid). FILE may be - for standard
+with its moment in nanoseconds. thru and wire take raw MIDI bytes, as they come
+from a cable; dump takes a Standard MIDI File (.mid). FILE may be - for standard
 input. `midiseq` alone does `thru -`: it waits for MIDI bytes on standard input.
 
 Examples:
@@ -21,12 +21,11 @@ Examples:
       prints the messages of keys.raw, and then the stream written anew
   midiseq dump song.mid
       prints the tempos and the events of the file song.mid
-  midiseq run --until 1000000000 128=keys.txt 129=synth.txt
+  midiseq run --for 1s 128=keys.txt 129=synth.txt
       runs two scripts for a second, and prints the log of each client
-  midiseq record --until 1000000000 --port 129:0 --out take.mid 128=keys.txt \\
-      129=synth.txt
+  midiseq record --to-end --port 129:0 --out take.mid 128=keys.txt 129=synth.txt
       writes what came to port 0 of client 129 to the file take.mid
-  midiseq circle --until 1000000000 --owner 129 128=keys.txt 129=synth.txt
+  midiseq circle --for 1s --owner 129 128=keys.txt 129=synth.txt
       prints who can change what client 129 hears, and last `shut`, or `open`
 
 Status:
@@ -85,7 +84,12 @@ const RUN_HELP: &str = "\
 Each CLIENT=PATH is a client, 128 to 191, and the file of its script. A script
 has a command a line, with its moment in nanoseconds first; lines that begin
 with # are remarks. What is said at one moment goes by client and then by line.
-All that is due by N is sent before the run ends.
+All that is due by the end is sent before the run ends.
+
+The end is said in one of three ways. --until N is a moment in nanoseconds.
+--for TIME is a length of time: one or more numbers with the units h, m, s, ms,
+us and ns, as 1m30s or 1500ms. With --to-end the run goes on until nothing is
+left to send; what waits on a queue that is stopped is not waited for.
 
 For each client by number comes a line `client N` and its log: `skip LINE WHY`
 for each line of its script that is skipped; and in the order of the run
@@ -131,8 +135,9 @@ node of it to the owner's ports or to a member's filters, parts such a pair, or
 names a queue of it. In a circle that is shut, no script of anybody else can
 change what comes to the owner's ports, or when.
 
-With --until N the run until N is meant. Without it the run has no end: what is
-shut then is shut for every N, and no line of a script may go back in time.
+With --until or --for, as of `midiseq run`, the run until then is meant. Else
+the run has no end: what is shut then is shut for every end, and no line of a
+script may go back in time.
 
 Without --owner there is a line for each client that has a script: `CLIENT
 shut`, with the other members of its circle, or `CLIENT open` with the first
@@ -192,7 +197,9 @@ fn run<'a>(alloc: Global) -> Result<Command<'a>, AllocError> {
     Command::new(alloc, "run")
         .about("Runs the scripts of clients together, and prints what each client hears")
         .after_help(RUN_HELP)
-        .arg(until(alloc))?
+        .arg(until(alloc)?)?
+        .arg(time(alloc)?)?
+        .arg(to_end(alloc)?)?
         .arg(dir(alloc))?
         .arg(list(alloc))?
         .arg(scripts(alloc))
@@ -202,7 +209,9 @@ fn record<'a>(alloc: Global) -> Result<Command<'a>, AllocError> {
     Command::new(alloc, "record")
         .about("Runs the scripts of clients together, and writes what comes to one port to a file")
         .after_help(RECORD_HELP)
-        .arg(until(alloc))?
+        .arg(until(alloc)?)?
+        .arg(time(alloc)?)?
+        .arg(to_end(alloc)?)?
         .arg(dir(alloc))?
         .arg(raw(alloc))?
         .arg(port(alloc))?
@@ -215,18 +224,40 @@ fn circle<'a>(alloc: Global) -> Result<Command<'a>, AllocError> {
         .about("Says from scripts alone whether strangers can change what a client hears")
         .after_help(CIRCLE_HELP)
         .arg(until_or_always(alloc))?
+        .arg(time(alloc)?)?
+        .arg(to_end(alloc)?)?
         .arg(dir(alloc))?
         .arg(owner(alloc))?
         .arg(session(alloc)?)?
         .arg(scripts(alloc))
 }
 
-fn until<'a>(alloc: Global) -> Arg<'a> {
+fn until<'a>(alloc: Global) -> Result<Arg<'a>, AllocError> {
     Arg::new(alloc, "until")
         .long("until")
-        .required(true)
         .value_name("N")
+        .allow_negative_numbers(true)
         .help("the moment at which the run ends, in nanoseconds from its beginning")
+        .required_unless_present("for")?
+        .required_unless_present("to-end")
+}
+
+/// The end of a session by its length.
+fn time<'a>(alloc: Global) -> Result<Arg<'a>, AllocError> {
+    Arg::new(alloc, "for")
+        .long("for")
+        .value_name("TIME")
+        .help("in place of --until: how long the run goes on, as 1m30s or 1500ms")
+        .conflicts_with("until")?
+        .conflicts_with("to-end")
+}
+
+fn to_end<'a>(alloc: Global) -> Result<Arg<'a>, AllocError> {
+    Arg::new(alloc, "to-end")
+        .long("to-end")
+        .action(ArgAction::SetTrue)
+        .help("in place of --until: the run goes on until nothing is left to send")
+        .conflicts_with("until")
 }
 
 /// The end of a session that may have none, which is the greatest moment.
@@ -236,7 +267,8 @@ fn until_or_always<'a>(alloc: Global) -> Arg<'a> {
         .default_value("18446744073709551615")
         .hide_default_value(true)
         .value_name("N")
-        .help("the moment at which the run ends; without it the run has no end")
+        .allow_negative_numbers(true)
+        .help("the moment at which the run ends; else the run has no end")
 }
 
 fn dir<'a>(alloc: Global) -> Arg<'a> {

@@ -15,3 +15,4 @@ pub mod InSession
 pub mod PrintedLogs
 pub mod WordsTold
 pub mod Ticks
+pub mod Lengths

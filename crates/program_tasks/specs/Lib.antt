@@ -1,6 +1,7 @@
 pub mod Tools
 pub mod Program
 pub mod Words
+pub mod Times
 pub mod FolderFiles
 pub mod LogsPrinted
 pub mod Recording

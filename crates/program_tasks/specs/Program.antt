@@ -18,7 +18,7 @@ use Rattle.program_tasks.specs.declared.ending.Ended.TheVariants.{Done, Shown, A
 use Rattle.tool_text.specs.declared.fault.ToolFault.{ToolFault}
 use Rattle.tool_text.specs.declared.fault.ToolFault.TheVariants as tool
 use Rattle.program_tasks.specs.declared.program_fault.ProgramFault.{ProgramFault}
-use Rattle.program_tasks.specs.declared.program_fault.ProgramFault.TheVariants.{NotUtf8, NoSubcommand, NotAMoment, NotAPort, NotAClient, NotAScript, TwoScripts, OutIsRead, GoesBack, CannotRead, CannotWrite, OutOfMemory, CannotRecord, Smf}
+use Rattle.program_tasks.specs.declared.program_fault.ProgramFault.TheVariants.{NotUtf8, NoSubcommand, NotAMoment, NotATime, NotAPort, NotAClient, NotAScript, TwoScripts, OutIsRead, GoesBack, CannotRead, CannotWrite, OutOfMemory, CannotRecord, Smf}
 
 -- ---- the choice
 
@@ -53,13 +53,17 @@ abbrev pub program_fault_text : ProgramFault → List ℕ
 program_fault_text NotUtf8 = codes "an argument is not UTF-8"
 program_fault_text NoSubcommand = codes "name a subcommand"
 program_fault_text (NotAMoment word) =
-    escaped_text word.now ++ codes " is no moment in nanoseconds"
+    escaped_text word.now
+    ++ codes " is no moment in nanoseconds (for a second: --until 1000000000, or --for 1s)"
+program_fault_text (NotATime word) =
+    escaped_text word.now ++ codes " is no length of time such as 1m30s"
 program_fault_text (NotAPort word) =
     escaped_text word.now
-    ++ codes " names no port 0 to 15 of a client 128 to 191"
+    ++ codes " names no port (as 129:0: a client 128 to 191, and a port 0 to 15)"
 program_fault_text (NotAClient word) = escaped_text word.now ++ codes " is no client 128 to 191"
 program_fault_text (NotAScript word) =
-    escaped_text word.now ++ codes " names no script of a client 128 to 191"
+    escaped_text word.now
+    ++ codes " names no script (as 129=synth.txt: a client 128 to 191, and a file)"
 program_fault_text (TwoScripts client) =
     codes "client " ++ decimal client ++ codes " has two scripts"
 program_fault_text (OutIsRead path) =
@@ -85,6 +89,7 @@ abbrev pub is_helped : ProgramFault → Bool
 is_helped NotUtf8 = false
 is_helped NoSubcommand = true
 is_helped (NotAMoment word) = true
+is_helped (NotATime word) = true
 is_helped (NotAPort word) = true
 is_helped (NotAClient word) = true
 is_helped (NotAScript word) = true
@@ -122,6 +127,7 @@ abbrev pub exit_status : ProgramFault → ℕ
 exit_status NotUtf8 = 2
 exit_status NoSubcommand = 2
 exit_status (NotAMoment word) = 2
+exit_status (NotATime word) = 2
 exit_status (NotAPort word) = 2
 exit_status (NotAClient word) = 2
 exit_status (NotAScript word) = 2

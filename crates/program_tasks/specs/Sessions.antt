@@ -9,7 +9,7 @@ use Rattle.seq_session.specs.declared.fault.SessionFault.TheVariants.{Read}
 use Rattle.program_tasks.specs.declared.words.ScriptWord.{ScriptWord}
 use Rattle.program_tasks.specs.Words.{scripts_seen}
 use Rattle.program_tasks.specs.declared.program_fault.ProgramFault.{ProgramFault}
-use Rattle.program_tasks.specs.declared.program_fault.ProgramFault.TheVariants.{OutOfMemory, CannotRead, NotAMoment}
+use Rattle.program_tasks.specs.declared.program_fault.ProgramFault.TheVariants.{OutOfMemory, CannotRead}
 
 -- whose scripts they are
 abbrev pub owners : List ScriptWord → List ℕ
@@ -26,11 +26,6 @@ MayBeRun scripts logs listing =
     AreRising (owners scripts) × (length logs ≡ length scripts)
     × AreOpen (λ (l : MemOutput). l.broken) logs
     × (listing.broken ≡ false) × AreEmpty logs × (listing.taken ≡ [])
-
--- the fault that tells this word
-abbrev pub IsNotAMoment : List ℕ → ProgramFault → Type 0
-IsNotAMoment word (NotAMoment told) = told.now ≡ word
-IsNotAMoment word _ = ⊥
 
 -- A script that cannot be read is reported by its path, and all else is out of memory.
 abbrev pub IsToldAs : List ScriptWord → SessionFault → ProgramFault → Type 0

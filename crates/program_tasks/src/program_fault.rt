@@ -20,6 +20,8 @@ pub enum ProgramFault<'a> {
     NoSubcommand,
     /// The word says no moment.
     NotAMoment(&'a str),
+    /// The word says no length of time.
+    NotATime(&'a str),
     /// The word names no port.
     NotAPort(&'a str),
     /// The word names no client.
@@ -74,6 +76,7 @@ impl<'a> ProgramFault<'a> {
             ProgramFault::NotUtf8
             | ProgramFault::NoSubcommand
             | ProgramFault::NotAMoment(_)
+            | ProgramFault::NotATime(_)
             | ProgramFault::NotAPort(_)
             | ProgramFault::NotAClient(_)
             | ProgramFault::NotAScript(_)
@@ -96,6 +99,7 @@ impl<'a> ProgramFault<'a> {
             self,
             ProgramFault::NoSubcommand
                 | ProgramFault::NotAMoment(_)
+                | ProgramFault::NotATime(_)
                 | ProgramFault::NotAPort(_)
                 | ProgramFault::NotAClient(_)
                 | ProgramFault::NotAScript(_)
@@ -118,11 +122,21 @@ impl fmt::Display for ProgramFault<'_> {
             ProgramFault::NoSubcommand => f.write_str("name a subcommand"),
             ProgramFault::NotAMoment(word) => {
                 let word = Escaped(word);
-                write!(f, "{word} is no moment in nanoseconds")
+                write!(
+                    f,
+                    "{word} is no moment in nanoseconds (for a second: --until 1000000000, or --for 1s)"
+                )
+            }
+            ProgramFault::NotATime(word) => {
+                let word = Escaped(word);
+                write!(f, "{word} is no length of time such as 1m30s")
             }
             ProgramFault::NotAPort(word) => {
                 let word = Escaped(word);
-                write!(f, "{word} names no port 0 to 15 of a client 128 to 191")
+                write!(
+                    f,
+                    "{word} names no port (as 129:0: a client 128 to 191, and a port 0 to 15)"
+                )
             }
             ProgramFault::NotAClient(word) => {
                 let word = Escaped(word);
@@ -130,7 +144,10 @@ impl fmt::Display for ProgramFault<'_> {
             }
             ProgramFault::NotAScript(word) => {
                 let word = Escaped(word);
-                write!(f, "{word} names no script of a client 128 to 191")
+                write!(
+                    f,
+                    "{word} names no script (as 129=synth.txt: a client 128 to 191, and a file)"
+                )
             }
             ProgramFault::TwoScripts(client) => { write!(f, "client {client} has two scripts") }
             ProgramFault::OutIsRead(path) => {
@@ -188,11 +205,14 @@ impl<T: Drop> From<AllocFailed<T>> for ProgramFault<'_> {
     }
 }
 
+/// What all that the program says on standard error begins with.
+pub const LINE_START: &str = "midiseq: ";
+
 /// Writes what each line of the program begins with.
 fn write_start<W: fmt::Write>(f: &mut fmt::Formatter<W>) -> fmt::Result
     ensures { WritesOnOk W.write_str_gives f.old result line_start f.new }
 {
-    f.write_str("midiseq: ")
+    f.write_str(LINE_START)
 }
 
 /// The line that tells why the program stops.

@@ -1,16 +1,17 @@
 //! The scripts of a session, their logs and the faults of both.
 
 ghost use Rattle.std.specs.Prelude.{◌≡◌, Some, None, length, map, IfOk, IfErr, IfSome, IsSome};
-ghost use Rattle.script_text.specs.Numbers as says;
 ghost use Rattle.seq_session.specs.Rising.{AreRising};
 ghost use Rattle.seq_session.specs.Devices.{clients, AreSound, AreOpen, reader_of, IsAmong};
 ghost use Rattle.program_tasks.specs.Words.{scripts_named, scripts_seen, IsOfWords};
 ghost use Rattle.program_tasks.specs.Faults.{IsOfMemory, IsOfOpening};
 ghost use Rattle.program_tasks.specs.Opened.{AreSourcesOf};
-ghost use Rattle.program_tasks.specs.Sessions.{owners, AreEmpty, IsNotAMoment, IsToldAs};
+ghost use Rattle.program_tasks.specs.Sessions.{owners, AreEmpty, IsToldAs};
+ghost use Rattle.program_tasks.specs.Times.{end_said, IsNoEnd};
 
+use crate::end_word::EndWord;
 use crate::program_fault::ProgramFault;
-use crate::words::{ScriptWord, scripts_named, until_named};
+use crate::words::{ScriptWord, scripts_named};
 use byte_io::MemSink;
 use file_store::FileStore;
 use seq_session::{ScriptSource, SessionFault};
@@ -28,29 +29,26 @@ pub struct Session<'a> {
 }
 
 impl<'a> Session<'a> {
-    /// The session that words name: its end in nanoseconds, its folder, and a word `CLIENT=PATH` for each script.
+    /// The session that words name: its end, its folder, and a word `CLIENT=PATH` for each script.
     pub fn of_words(
         alloc: Global,
-        until: &'a str,
+        end: EndWord<'a>,
         dir: Option<&'a str>,
         scripts: &[&'a str],
     ) -> Result<Session<'a>, ProgramFault<'a>>
-        ensures until { IfOk result (λ s. Some s.until ≡ says.u64 until.now) }
+        ensures until { IfOk result (λ s. Some s.until ≡ end_said end.entry) }
         ensures dir { IfOk result (λ s. s.dir ≡ dir.entry) }
         ensures scripts { IfOk result (λ s.
             Some (scripts_seen s.scripts.items) ≡ scripts_named (map (λ w. w.now) scripts.now)) }
         ensures rising { IfOk result (λ s. AreRising (owners s.scripts.items)) }
-        ensures not_a_moment { says.u64 until.now ≡ None
-            → IfErr result (IsNotAMoment until.now) }
-        ensures refused { IsSome (says.u64 until.now)
+        ensures no_end { end_said end.entry ≡ None → IfErr result (IsNoEnd end.entry) }
+        ensures refused { IsSome (end_said end.entry)
             → IfErr result (IsOfWords (map (λ w. w.now) scripts.now)) }
     {
-        let Some(moment) = until_named(until) else {
-            return Err(ProgramFault::NotAMoment(until));
-        };
+        let until = end.moment()?;
         let scripts = scripts_named(alloc, scripts)?;
         Ok(Session {
-            until: moment,
+            until,
             dir,
             scripts,
         })

@@ -7,3 +7,4 @@ pub mod Joining
 pub mod Blamed
 pub mod Alone
 pub mod Ports
+pub mod Later

@@ -1,12 +1,13 @@
 -- Law: What holds of all sessions.
-use Rattle.std.specs.Prelude.{◌≡◌, ℕ, Bool, List, map, Some}
+use Rattle.std.specs.Prelude.{◌≡◌, ◌<◌, ◌≤◌, ℕ, Bool, List, [], map, Some}
 use Rattle.std.specs.List.{filter}
 use Rattle.seq_state.specs.Circle.{only, IsClosed}
-use Rattle.seq_state.specs.Step.{IsTimed}
+use Rattle.seq_state.specs.State.{State, start}
+use Rattle.seq_state.specs.Step.{all_at, state_after, IsTimed}
 use Rattle.seq_session.specs.declared.source.Script.{Script}
 use Rattle.seq_session.specs.Rising.{AreRising}
 use Rattle.seq_session.specs.Merging.{inputs_of, AreSorted}
-use Rattle.seq_session.specs.Sessions.{FolderContents, script_reading, session, log_of, script_clients, script_for, only_scripts}
+use Rattle.seq_session.specs.Sessions.{FolderContents, script_reading, session, log_of, all_logs, script_clients, script_for, only_scripts}
 use Rattle.seq_session.specs.Blank.{blank}
 
 -- to merge the scripts of a circle is to keep of the merged list what its members say: the inputs,
@@ -43,3 +44,18 @@ LogLaw =
     blank member (script_reading folder end owner) (log_of folder end scripts owner)
     ≡ blank member (script_reading folder end owner)
     (log_of folder end (only_scripts member scripts) owner)
+
+-- nothing that is pending is due after the one moment, up to the other
+abbrev pub IsIdleBetween : State → ℕ → ℕ → Type 0
+IsIdleBetween s end later =
+    (m : ℕ) → end < m → m ≤ later → all_at s.clients s.pending m ≡ []
+
+-- A later end says no more: where no line of a script stands between both ends, and nothing is due
+-- there after the last line, all logs are the same.
+abbrev pub LaterEndLaw : Type 0
+LaterEndLaw =
+    (folder : FolderContents) (end later : ℕ) (scripts : List Script) → end ≤ later →
+    map (script_reading folder end) scripts ≡ map (script_reading folder later) scripts →
+    IsIdleBetween (state_after folder.files start (inputs_of (session folder end scripts)))
+    end later →
+    all_logs folder end scripts ≡ all_logs folder later scripts

@@ -7,7 +7,7 @@ use file_store::FileStore;
 use memory::OutOfMemory;
 use node_table::ClientId;
 use program_tasks::{
-    CircleAnswer, CircleQuestion, Ended, Notes, ProgramFault, Session, circle, finish,
+    CircleAnswer, CircleQuestion, EndWord, Ended, Notes, ProgramFault, Session, circle, finish,
 };
 use std::alloc::Global;
 use std::fmt::Display;
@@ -172,7 +172,7 @@ fn print(
         files: FILES,
     };
     let mut notes = Counted { lines: 0 };
-    let session = Session::of_words(alloc, until, None, words)?;
+    let session = Session::of_words(alloc, EndWord::Until(until), None, words)?;
     let answer = circle(alloc, &store, &session, question, out, &mut notes);
     assert!(rt; notes.lines == 0);
     answer

@@ -42,12 +42,18 @@ fn tells_of_sessions(rt: HostRuntime) -> Result<(), Fail> {
     let faults = [
         (
             ProgramFault::NotAMoment("soon\n"),
-            "midiseq: soon\\n is no moment in nanoseconds; see midiseq --help",
+            "midiseq: soon\\n is no moment in nanoseconds (for a second: --until 1000000000, or --for 1s); \
+                see midiseq --help",
+            2,
+        ),
+        (
+            ProgramFault::NotATime("90"),
+            "midiseq: 90 is no length of time such as 1m30s; see midiseq --help",
             2,
         ),
         (
             ProgramFault::NotAPort("129:16"),
-            "midiseq: 129:16 names no port 0 to 15 of a client 128 to 191; see midiseq --help",
+            "midiseq: 129:16 names no port (as 129:0: a client 128 to 191, and a port 0 to 15); see midiseq --help",
             2,
         ),
         (
@@ -57,7 +63,7 @@ fn tells_of_sessions(rt: HostRuntime) -> Result<(), Fail> {
         ),
         (
             ProgramFault::NotAScript("127=a"),
-            "midiseq: 127=a names no script of a client 128 to 191; see midiseq --help",
+            "midiseq: 127=a names no script (as 129=synth.txt: a client 128 to 191, and a file); see midiseq --help",
             2,
         ),
         (

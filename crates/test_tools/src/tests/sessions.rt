@@ -6,8 +6,8 @@ use byte_io::{MemSink, write_all};
 use memory::OutOfMemory;
 use node_table::{ClientId, PortAddr, PortNo};
 use program_tasks::{
-    FolderFiles, ProgramFault, ScriptWord, client_named, midi_files, open_files, port_named,
-    print_logs, scripts_named, taken_files, until_named,
+    EndWord, FolderFiles, ProgramFault, ScriptWord, client_named, midi_files, open_files,
+    port_named, print_logs, scripts_named, taken_files, time_named, until_named,
 };
 use std::alloc::Global;
 use std::process::Abort;
@@ -28,6 +28,48 @@ fn reads_moments(rt: HostRuntime) {
     ] {
         assert!(rt; until_named(word) == moment, "at {word}");
     }
+}
+
+#[test]
+fn reads_lengths_of_time(rt: HostRuntime) {
+    for (word, nanos) in [
+        ("90s", Some(90_000_000_000)),
+        ("1m30s", Some(90_000_000_000)),
+        ("30s1m", Some(90_000_000_000)),
+        ("0001500ms", Some(1_500_000_000)),
+        ("2us", Some(2_000)),
+        ("7ns", Some(7)),
+        ("1h2m3s4ms5us6ns", Some(3_723_004_005_006)),
+        ("0s", Some(0)),
+        ("5124095h", Some(18_446_742_000_000_000_000)),
+        ("5124096h", None),
+        ("18446744073709551615ns", Some(u64::MAX)),
+        ("18446744073709551616ns", None),
+        ("18446744073709551615ns1ns", None),
+        ("18446744073709551615s", None),
+        ("90", None),
+        ("1m30", None),
+        ("s", None),
+        ("m30s", None),
+        ("", None),
+        ("1.5s", None),
+        ("1s ", None),
+        (" 1s", None),
+        ("-1s", None),
+        ("1S", None),
+        ("1sec", None),
+    ] {
+        assert!(rt; time_named(word) == nanos, "at {word}");
+    }
+}
+
+#[test]
+fn reads_ends(rt: HostRuntime) {
+    assert!(rt; EndWord::Until("70").moment() == Ok(70));
+    assert!(rt; EndWord::Until("70ns").moment() == Err(ProgramFault::NotAMoment("70ns")));
+    assert!(rt; EndWord::For("70us").moment() == Ok(70_000));
+    assert!(rt; EndWord::For("70").moment() == Err(ProgramFault::NotATime("70")));
+    assert!(rt; EndWord::ToEnd.moment() == Ok(u64::MAX));
 }
 
 #[test]
