@@ -8,7 +8,6 @@ INSTALL ?= install
 BINDIR = $(DESTDIR)$(PREFIX)/bin
 MANDIR = $(DESTDIR)$(PREFIX)/share/man
 DOCDIR = $(DESTDIR)$(PREFIX)/share/doc/midiseq
-USER_PAGES = TUTORIAL SCRIPTS LOGS FILES FAULTS CIRCLES GLOSSARY PROMISES
 COMPLETIONS = $(DESTDIR)$(PREFIX)/share/bash-completion/completions
 
 .PHONY: build demo test gate-times check check-docs install uninstall clean
@@ -48,15 +47,15 @@ check: build
 check-docs: build
 	test/docs $(PROGRAM)
 
-# The program, its man pages, the completions for bash, and the pages for users with the examples that they run.
+# The program, its man pages, the completions for bash, and the pages with the examples that they run.
 install: build
 	$(INSTALL) -d $(BINDIR) $(MANDIR)/man1 $(MANDIR)/man5 $(COMPLETIONS) $(DOCDIR)/docs
 	$(INSTALL) -m 755 $(PROGRAM) $(BINDIR)/midiseq
 	$(INSTALL) -m 644 docs/midiseq.1 $(MANDIR)/man1/midiseq.1
 	$(INSTALL) -m 644 docs/midiseq-script.5 docs/midiseq-faults.5 $(MANDIR)/man5
 	$(INSTALL) -m 644 completions/midiseq.bash $(COMPLETIONS)/midiseq
-	$(INSTALL) -m 644 README.md $(DOCDIR)
-	$(INSTALL) -m 644 $(USER_PAGES:%=docs/%.md) $(DOCDIR)/docs
+	$(INSTALL) -m 644 README.md CHANGELOG.md CONTRIBUTING.md $(DOCDIR)
+	$(INSTALL) -m 644 docs/*.md $(DOCDIR)/docs
 	cp -R examples $(DOCDIR)
 
 uninstall:

@@ -195,7 +195,7 @@ fn with<'a>(
 
 fn run<'a>(alloc: Global) -> Result<Command<'a>, AllocError> {
     Command::new(alloc, "run")
-        .about("Runs the scripts of clients together, and prints what each client hears")
+        .about("Runs the scripts of clients, and prints what each client hears")
         .after_help(RUN_HELP)
         .arg(until(alloc)?)?
         .arg(time(alloc)?)?
@@ -207,7 +207,7 @@ fn run<'a>(alloc: Global) -> Result<Command<'a>, AllocError> {
 
 fn record<'a>(alloc: Global) -> Result<Command<'a>, AllocError> {
     Command::new(alloc, "record")
-        .about("Runs the scripts of clients together, and writes what comes to one port to a file")
+        .about("Runs the scripts of clients, and writes what comes to a port to a file")
         .after_help(RECORD_HELP)
         .arg(until(alloc)?)?
         .arg(time(alloc)?)?
@@ -221,7 +221,7 @@ fn record<'a>(alloc: Global) -> Result<Command<'a>, AllocError> {
 
 fn circle<'a>(alloc: Global) -> Result<Command<'a>, AllocError> {
     Command::new(alloc, "circle")
-        .about("Says from scripts alone whether strangers can change what a client hears")
+        .about("Says from scripts whether strangers can change what a client hears")
         .after_help(CIRCLE_HELP)
         .arg(until_or_always(alloc))?
         .arg(time(alloc)?)?
@@ -237,7 +237,7 @@ fn until<'a>(alloc: Global) -> Result<Arg<'a>, AllocError> {
         .long("until")
         .value_name("N")
         .allow_negative_numbers(true)
-        .help("the moment at which the run ends, in nanoseconds from its beginning")
+        .help("the moment in nanoseconds at which the run ends")
         .required_unless_present("for")?
         .required_unless_present("to-end")
 }
@@ -247,7 +247,7 @@ fn time<'a>(alloc: Global) -> Result<Arg<'a>, AllocError> {
     Arg::new(alloc, "for")
         .long("for")
         .value_name("TIME")
-        .help("in place of --until: how long the run goes on, as 1m30s or 1500ms")
+        .help("or how long it goes on, as 1m30s or 1500ms")
         .conflicts_with("until")?
         .conflicts_with("to-end")
 }
@@ -256,7 +256,7 @@ fn to_end<'a>(alloc: Global) -> Result<Arg<'a>, AllocError> {
     Arg::new(alloc, "to-end")
         .long("to-end")
         .action(ArgAction::SetTrue)
-        .help("in place of --until: the run goes on until nothing is left to send")
+        .help("or until nothing is left to send")
         .conflicts_with("until")
 }
 
@@ -268,13 +268,14 @@ fn until_or_always<'a>(alloc: Global) -> Arg<'a> {
         .hide_default_value(true)
         .value_name("N")
         .allow_negative_numbers(true)
-        .help("the moment at which the run ends; else the run has no end")
+        .help("the moment at which the run ends; else it has no end")
 }
 
 fn dir<'a>(alloc: Global) -> Arg<'a> {
-    Arg::new(alloc, "dir").long("dir").value_name("D").help(
-        "the folder whose Standard MIDI Files (.mid) scripts may play",
-    )
+    Arg::new(alloc, "dir")
+        .long("dir")
+        .value_name("D")
+        .help("the folder whose MIDI files (.mid) scripts may play")
 }
 
 fn list<'a>(alloc: Global) -> Arg<'a> {
@@ -288,7 +289,7 @@ fn raw<'a>(alloc: Global) -> Arg<'a> {
     Arg::new(alloc, "raw")
         .long("raw")
         .action(ArgAction::SetTrue)
-        .help("write the messages as one MIDI stream, and not as a file")
+        .help("write one MIDI stream, and not a MIDI file")
 }
 
 fn port<'a>(alloc: Global) -> Arg<'a> {
@@ -303,14 +304,14 @@ fn owner<'a>(alloc: Global) -> Arg<'a> {
     Arg::new(alloc, "owner")
         .long("owner")
         .value_name("CLIENT")
-        .help("the client whose circle it is, 128 to 191; without it a line for each")
+        .help("whose circle, 128 to 191; without it a line for each")
 }
 
 fn session<'a>(alloc: Global) -> Result<Arg<'a>, AllocError> {
     Arg::new(alloc, "session")
         .long("session")
         .action(ArgAction::SetTrue)
-        .help("also say whether the circle is closed in the run of these very scripts")
+        .help("also whether it is closed in the run of these scripts")
         .requires_arg("owner")
 }
 
