@@ -17,8 +17,10 @@ use Rattle.seq_state.specs.Effect.{with_change, put_port, put_filter, new_client
 use Rattle.seq_state.specs.Step.{Stepped, loses, unless}
 use Rattle.seq_state.proofs.Done.{done, opens, deletes-filter, lost-with-node}
 use Rattle.seq_settle.specs.Moments.{moment_at, SameMoments}
-use Rattle.seq_settle.specs.Cells.{seen_state, AreCells, AreFirstKeys}
-use Rattle.seq_settle.proofs.NewKeys.{keys_stay}
+use Rattle.seq_settle.specs.Cells.{seen_state, AreCells}
+use Rattle.seq_settle.specs.Order.{AreTimed}
+use Rattle.seq_settle.specs.declared.order.QueueOrder.{QueueOrder}
+use Rattle.seq_settle.proofs.Timed.{timed-stay}
 use Rattle.seq_settle.proofs.Elsewhere.{queues_same}
 use Rattle.seq_clients.specs.Roster.{Roster, with_client, with_pool}
 use Rattle.seq_commands.specs.declared.sequencer.Sequencer.{Sequencer}
@@ -31,18 +33,22 @@ use Rattle.seq_commands.proofs.ClientsAccepted.{accepted-open}
 abbrev pub with_roster : Sequencer → Roster → List Edge → Sequencer
 with_roster s r edges = record s { patchbay = record { clients = r; graph = edges } }
 
+-- and with this order of what waits
+abbrev pub ordered_with : Sequencer → Roster → List Edge → QueueOrder → Sequencer
+ordered_with s r edges order = record (with_roster s r edges) { order = order }
+
 -- its state
 abbrev pub state_with : Sequencer → Roster → List Edge → State
 state_with s r edges = seen_state r.clients r.pools edges s.cells.cells s.steps
 
-pub gives : (old : Sequencer) (r : Roster) (edges : List Edge) (agenda : Keys) (step : Stepped) (reply : Reply) → step ≡ done (state_with old r edges) reply →
-    AreCells old.cells.cells old.steps → AreFirstKeys r.clients old.cells.cells agenda → IsStepTaken old (with_roster old r edges) agenda step reply []
-gives old r edges agenda step reply is are keys = record {
+pub gives : (old : Sequencer) (r : Roster) (edges : List Edge) (order : QueueOrder) (agenda : Keys) (step : Stepped) (reply : Reply) → step ≡ done (state_with old r edges) reply →
+    AreCells old.cells.cells old.steps → AreTimed r.clients old.cells.cells order agenda → IsStepTaken old (ordered_with old r edges order) agenda step reply []
+gives old r edges order agenda step reply is are timed = record {
   state = ap (λ (x : Stepped). x.state) (sym is);
   reply_is = ap (λ (x : Stepped). x.reply) (sym is);
   sent_is = ap (λ (x : Stepped). x.delivered) (sym is);
   cells = are;
-  keys = keys;
+  timed = timed;
   files = refl;
   steps = refl;
 }
@@ -51,7 +57,7 @@ gives old r edges agenda step reply is are keys = record {
 pub gives-kept : (old : Sequencer) (r : Roster) (edges : List Edge) (step : Stepped) (reply : Reply) → step ≡ done (state_with old r edges) reply →
     ((q : QueueAddr) → SameMoments (clients_of old) r.clients q) → IsStepTakenUnkeyed old (with_roster old r edges) step reply []
 gives-kept old r edges step reply is same agenda now whole =
-    gives old r edges agenda step reply is whole.cells (keys_stay (clients_of old) r.clients old.cells.cells agenda (λ q c e. same c.1.queue) whole.keys)
+    gives old r edges old.order agenda step reply is whole.cells (timed-stay (clients_of old) r.clients old.cells.cells old.order agenda (λ q c e. same c.1.queue) whole.timed)
 
 -- the step of an accepted command, where the sequencer has what the command comes to
 pub accepted-step : (old : Sequencer) (turn : Turn) (command : Command) (effect : Stepped) (s : State) (reply : Reply) → refusal_in old turn command ≡ None →
@@ -67,8 +73,8 @@ module _ (old : Sequencer) (turn : Turn) (command : Command) (made r : Roster) (
       accepted-step old turn command (done (state_with old made edges) Done) (state_with old r edges) Done accepted is
       (ap (λ x. done (state_with old x edges) Done) (sym e))
 
-  pub roster-given : (agenda : Keys) → AreCells old.cells.cells old.steps → AreFirstKeys r.clients old.cells.cells agenda → IsStepTaken old (with_roster old r edges) agenda (step_in old turn command) Done []
-  roster-given agenda are keys = gives old r edges agenda (step_in old turn command) Done roster-step are keys
+  pub roster-given : (order : QueueOrder) (agenda : Keys) → AreCells old.cells.cells old.steps → AreTimed r.clients old.cells.cells order agenda → IsStepTaken old (ordered_with old r edges order) agenda (step_in old turn command) Done []
+  roster-given order agenda are timed = gives old r edges order agenda (step_in old turn command) Done roster-step are timed
 
   -- their queues give the same moments
   pub roster-kept : ((q : QueueAddr) → SameMoments (clients_of old) made.clients q) → IsStepTakenUnkeyed old (with_roster old r edges) (step_in old turn command) Done []
@@ -90,9 +96,9 @@ has_client s actor c = done (record (state_of s) { clients = with_entry (clients
 
 module _ (old : Sequencer) (turn : Turn) (command : Command) (c : Option Client) (r : Roster) (edges : List Edge) (accepted : refusal_in old turn command ≡ None)
     (is : step_in old turn command ≡ unless (refusal_in old turn command) (state_of old) (has_client old turn.actor c)) (e : r ≡ with_client old.patchbay.clients turn.actor c) (same_edges : edges ≡ old.patchbay.graph) where
-  pub client-given : (agenda : Keys) → AreCells old.cells.cells old.steps → AreFirstKeys r.clients old.cells.cells agenda →
-      IsStepTaken old (with_roster old r edges) agenda (step_in old turn command) Done []
-  client-given agenda are keys = roster-given old turn command (with_client old.patchbay.clients turn.actor c) r edges accepted (over-edges old turn command (with_client old.patchbay.clients turn.actor c) edges is same_edges) e agenda are keys
+  pub client-given : (order : QueueOrder) (agenda : Keys) → AreCells old.cells.cells old.steps → AreTimed r.clients old.cells.cells order agenda →
+      IsStepTaken old (ordered_with old r edges order) agenda (step_in old turn command) Done []
+  client-given order agenda are timed = roster-given old turn command (with_client old.patchbay.clients turn.actor c) r edges accepted (over-edges old turn command (with_client old.patchbay.clients turn.actor c) edges is same_edges) e order agenda are timed
 
   -- its queues give the same moments
   pub client-kept : ((q : QueueAddr) → SameMoments (clients_of old) (with_entry (clients_of old) turn.actor c) q) → IsStepTakenUnkeyed old (with_roster old r edges) (step_in old turn command) Done []

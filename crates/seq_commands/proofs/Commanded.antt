@@ -14,7 +14,10 @@ use Rattle.seq_state.specs.Refusals.{number_of}
 use Rattle.seq_state.specs.State.{State, OwnedPlayback, start}
 use Rattle.seq_state.specs.Step.{IsRefusal, Stepped, unless, view_of, refusal_of, effect_of, command_step, settle, step}
 use Rattle.seq_state.proofs.Refused.{row_tells}
-use Rattle.seq_settle.specs.Cells.{PlaybackCell, key_of, AreCells, AreFirstKeys}
+use Rattle.seq_settle.specs.Cells.{PlaybackCell, AreCells}
+use Rattle.seq_settle.specs.Order.{AreTimed}
+use Rattle.seq_settle.specs.Waiting.{cell_at}
+use Rattle.seq_settle.specs.declared.waiting.QueueKey.{QueueKey}
 use Rattle.seq_settle.proofs.Stores.{playbacks-later}
 use Rattle.seq_settle.proofs.Added.{later_cells}
 use Rattle.seq_commands.specs.declared.sequencer.Sequencer.{Sequencer}
@@ -37,7 +40,7 @@ pub counted-whole : (s : Sequencer) (agenda : Keys) (now : ℕ) → IsWhole s ag
 counted-whole s agenda now w = record {
   files = w.files;
   cells = later_cells s.cells.cells s.steps w.cells;
-  keys = w.keys;
+  timed = w.timed;
   sound = subst (λ x. IsSound x now) (sym (counted-state s w.cells)) w.sound;
 }
 
@@ -70,18 +73,18 @@ pub given-whole : (old new : Sequencer) (t : Turn) (command : Command) (agenda a
 given-whole old new t command agenda agenda' reply sent w g = record {
   files = ap (λ fs. list_all has_ticks fs) g.files ∙ w.files;
   cells = g.cells;
-  keys = g.keys;
+  timed = g.timed;
   sound = subst (λ x. IsSound x t.moment) (sym g.state) (sound-done old.files w.files (state_of old) t.moment t.actor command w.sound);
 }
 
 -- ---- settling
 
 pub settled-whole : (old new : Sequencer) (agenda agenda' : Keys) (now m : ℕ) → now ≤ m → IsWhole old agenda now → state_of new ≡ (settle (state_of old) m).state → new.files ≡ old.files →
-    AreCells new.cells.cells new.steps → AreFirstKeys (clients_of new) new.cells.cells agenda' → IsWhole new agenda' m
-settled-whole old new agenda agenda' now m later w state files cells keys = record {
+    AreCells new.cells.cells new.steps → AreTimed (clients_of new) new.cells.cells new.order agenda' → IsWhole new agenda' m
+settled-whole old new agenda agenda' now m later w state files cells timed = record {
   files = ap (λ fs. list_all has_ticks fs) files ∙ w.files;
   cells = cells;
-  keys = keys;
+  timed = timed;
   sound = subst (λ x. IsSound x m) (sym state) (sound-settled (state_of old) now m later w.sound);
 }
 
@@ -112,11 +115,19 @@ module _ (old : Sequencer) (t : Turn) (keys : Keys) (command : Command) (out : L
 
 -- ---- at first
 
-pub new-whole : (s : Sequencer) (agenda : Keys) → list_all has_ticks s.files ≡ true → state_of s ≡ start → s.steps ≡ 0 → AreCells s.cells.cells 0 → agenda ≡ FinMap.empty → IsWhole s agenda 0
-new-whole s agenda ticks state steps are none = record {
+none_some : {X : Type 0} (x : X) → None ≡ Some x → ⊥
+none_some x e = cc
+
+pub new-whole : (s : Sequencer) (agenda : Keys) → list_all has_ticks s.files ≡ true → state_of s ≡ start → s.steps ≡ 0 → AreCells s.cells.cells 0 → ((k : QueueKey) → cell_at s.order.waiting k ≡ None) → agenda ≡ FinMap.empty → IsWhole s agenda 0
+new-whole s agenda ticks state steps are waits none = record {
   files = ticks;
   cells = subst (λ n. AreCells s.cells.cells n) (sym steps) are;
-  keys = record { keyed = λ q. ap (λ m. FinMap.get m q) none ∙ FinMap.get-empty nat_cmp q ∙ sym (ap (key_of (clients_of s)) (absent q)) };
+  timed = record {
+    none = λ q e. ap (λ m. FinMap.get m q) none ∙ FinMap.get-empty nat_cmp q;
+    placed = λ q c e. absurd (none_some c (sym (absent q) ∙ e));
+    waits = λ k q e. absurd (none_some q (sym (waits k) ∙ e));
+    early = λ k q key e f. absurd (none_some q (sym (waits k) ∙ e));
+  };
   sound = subst (λ x. IsSound x 0) (sym state) sound-start;
 }
   where

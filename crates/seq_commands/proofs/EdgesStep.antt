@@ -16,7 +16,7 @@ use Rattle.seq_state.specs.Table.{Condition, first_refusal, command_row, with_ed
 use Rattle.seq_state.specs.Step.{Stepped, row_of, refusal_of}
 use Rattle.seq_state.proofs.Done.{done}
 use Rattle.seq_state.proofs.Effects.{patched, step-connects, step-parts}
-use Rattle.seq_settle.specs.Cells.{AreFirstKeys}
+use Rattle.seq_settle.specs.Order.{AreTimed}
 use Rattle.seq_commands.specs.declared.sequencer.Sequencer.{Sequencer}
 use Rattle.seq_commands.specs.declared.sequencer.Turn.{Turn}
 use Rattle.seq_commands.specs.Whole.{clients_of, state_of, refusal_in, step_in, IsStepTakenUnkeyed}
@@ -29,7 +29,7 @@ kept-gives old p step reply same is agenda now whole = record {
   reply_is = sym (ap (λ (x : Stepped). x.reply) is);
   sent_is = sym (ap (λ (x : Stepped). x.delivered) is);
   cells = whole.cells;
-  keys = subst (λ m. AreFirstKeys m old.cells.cells agenda) (sym same) whole.keys;
+  timed = subst (λ m. AreTimed m old.cells.cells old.order agenda) (sym same) whole.timed;
   files = refl;
   steps = refl;
 }

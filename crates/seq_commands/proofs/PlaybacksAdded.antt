@@ -21,7 +21,9 @@ use Rattle.seq_state.specs.Table.{command_row, visible}
 use Rattle.seq_state.specs.Step.{Stepped, is_left, row_of, playback_count}
 use Rattle.seq_state.proofs.Done.{done, plays, schedules}
 use Rattle.tempo_clock.specs.declared.due.Due.{Due}
-use Rattle.seq_settle.specs.Cells.{AreCells, AreFirstKeys, RankedPlayback, are_in_order, due_le, playbacks}
+use Rattle.seq_settle.specs.Cells.{AreCells, RankedPlayback, are_in_order, due_le, playbacks}
+use Rattle.seq_settle.specs.Order.{AreTimed}
+use Rattle.seq_settle.specs.declared.order.QueueOrder.{QueueOrder}
 use Rattle.seq_settle.specs.Events.{file_event}
 use Rattle.seq_settle.specs.Moments.{queue_in}
 use Rattle.seq_settle.proofs.Counting.{used_is}
@@ -48,14 +50,14 @@ room-left old agenda now actor size cells whole apart is set =
     subst (λ (s : Store RankedPlayback). used_by s.cells actor < size_of s actor) (sym set) less
 
 -- the step of a new playback, or of none where there is no event
-pub added-gives : (old : Sequencer) (turn : Turn) (rank : ℕ) (queue : QueueAddr) (port : ℕ) (events : List DueMessage) (cells : Store RankedPlayback) (agenda : Keys) → old.steps ≡ rank + 1 → AreCells old.cells.cells rank →
-    playbacks cells.cells (rank + 1) ≡ playbacks old.cells.cells rank ++ filter is_left (playing turn queue port events ∷ []) → AreCells cells.cells (rank + 1) → AreFirstKeys (clients_of old) cells.cells agenda →
-    IsStepTaken old (record old { cells = cells }) agenda (adding_step old turn queue port events) Done []
-added-gives old turn rank queue port events cells agenda counted fresh more are keys =
+pub added-gives : (old : Sequencer) (turn : Turn) (rank : ℕ) (queue : QueueAddr) (port : ℕ) (events : List DueMessage) (cells : Store RankedPlayback) (order : QueueOrder) (agenda : Keys) → old.steps ≡ rank + 1 → AreCells old.cells.cells rank →
+    playbacks cells.cells (rank + 1) ≡ playbacks old.cells.cells rank ++ filter is_left (playing turn queue port events ∷ []) → AreCells cells.cells (rank + 1) → AreTimed (clients_of old) cells.cells order agenda →
+    IsStepTaken old (record old { cells = cells; order = order }) agenda (adding_step old turn queue port events) Done []
+added-gives old turn rank queue port events cells order agenda counted fresh more are timed =
     let new : List OwnedPlayback = filter is_left (playing turn queue port events ∷ []) in
     let listed : playbacks old.cells.cells old.steps ++ new ≡ playbacks cells.cells old.steps =
     ap (λ n. playbacks old.cells.cells n ++ new) counted ∙ ap (λ ps. ps ++ new) (playbacks-later old.cells.cells rank fresh) ∙ sym more ∙ ap (playbacks cells.cells) (sym counted) in
-    gone-gives old old.patchbay cells agenda _ (ap (λ ps. done (with_pending (state_of old) ps) Done) listed) (subst (AreCells cells.cells) (sym counted) are) keys
+    gone-gives old old.patchbay cells order agenda _ (ap (λ ps. done (with_pending (state_of old) ps) Done) listed) (subst (AreCells cells.cells) (sym counted) are) timed
 
 -- ---- what is known of an accepted command
 

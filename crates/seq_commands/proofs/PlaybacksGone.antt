@@ -21,11 +21,13 @@ use Rattle.seq_state.specs.Table.{command_row}
 use Rattle.seq_state.specs.Step.{Stepped, row_of, loses}
 use Rattle.seq_state.proofs.Done.{done, closes, deletes-port, deletes-queue, drops-output, lost-with-client, lost-with-node}
 use Rattle.seq_settle.specs.declared.which.Which.TheVariants.{OfPort, OnQueue, All, AllAndOnQueues}
-use Rattle.seq_settle.specs.Cells.{PlaybackCell, RankedPlayback, AreCells, AreFirstKeys, pending_in, playbacks}
+use Rattle.seq_settle.specs.Cells.{PlaybackCell, RankedPlayback, AreCells, pending_in, playbacks}
 use Rattle.seq_settle.specs.Drops.{stays}
 use Rattle.seq_settle.specs.Moments.{SameMoments, queue_in}
 use Rattle.seq_settle.proofs.Elsewhere.{but_one, of_others, off_queue, off_queues, queues_same}
-use Rattle.seq_settle.proofs.NewKeys.{keys_stay}
+use Rattle.seq_settle.specs.Order.{AreTimed}
+use Rattle.seq_settle.specs.declared.order.QueueOrder.{QueueOrder}
+use Rattle.seq_settle.proofs.Timed.{timed-stay}
 use Rattle.seq_commands.specs.declared.sequencer.Sequencer.{Sequencer}
 use Rattle.seq_commands.specs.declared.sequencer.Turn.{Turn}
 use Rattle.seq_commands.specs.Whole.{Keys, clients_of, is_usable, state_of, refusal_in, step_in, IsStepTaken}
@@ -94,14 +96,14 @@ queue-mine old turn queue e =
     (eqb-true queue.client turn.actor (not-false (eqb queue.client turn.actor) (none-at (row_of old.files (state_of old) turn.moment turn.actor (DeleteQueue queue)).conditions e 1)))
 
 -- a step that changes the clients, the subscriptions and what is still to be sent
-pub gone-gives : (old : Sequencer) (p : Network) (cells : Store RankedPlayback) (agenda : Keys) (step : Stepped) → step ≡ done (state_of (record old { patchbay = p; cells = cells })) Done →
-    AreCells cells.cells old.steps → AreFirstKeys p.clients.clients cells.cells agenda → IsStepTaken old (record old { patchbay = p; cells = cells }) agenda step Done []
-gone-gives old p cells agenda step is are keys = record {
+pub gone-gives : (old : Sequencer) (p : Network) (cells : Store RankedPlayback) (order : QueueOrder) (agenda : Keys) (step : Stepped) → step ≡ done (state_of (record old { patchbay = p; cells = cells; order = order })) Done →
+    AreCells cells.cells old.steps → AreTimed p.clients.clients cells.cells order agenda → IsStepTaken old (record old { patchbay = p; cells = cells; order = order }) agenda step Done []
+gone-gives old p cells order agenda step is are timed = record {
   state = sym (ap (λ (x : Stepped). x.state) is);
   reply_is = sym (ap (λ (x : Stepped). x.reply) is);
   sent_is = sym (ap (λ (x : Stepped). x.delivered) is);
   cells = are;
-  keys = keys;
+  timed = timed;
   files = refl;
   steps = refl;
 }
@@ -109,58 +111,58 @@ gone-gives old p cells agenda step is are keys = record {
 abbrev pub with_pending : State → List OwnedPlayback → State
 with_pending s ps = record s { pending = ps }
 
-module _ (old : Sequencer) (turn : Turn) (cells : Store RankedPlayback) (agenda : Keys) (are : AreCells cells.cells old.steps) where
-  pub drop-gives : refusal_in old turn DropOutput ≡ None → playbacks cells.cells old.steps ≡ filter (stays turn.actor All) (playbacks old.cells.cells old.steps) → AreFirstKeys (clients_of old) cells.cells agenda →
-      IsStepTaken old (record old { cells = cells }) agenda (step_in old turn DropOutput) Done []
-  drop-gives e left keys =
+module _ (old : Sequencer) (turn : Turn) (cells : Store RankedPlayback) (order : QueueOrder) (agenda : Keys) (are : AreCells cells.cells old.steps) where
+  pub drop-gives : refusal_in old turn DropOutput ≡ None → playbacks cells.cells old.steps ≡ filter (stays turn.actor All) (playbacks old.cells.cells old.steps) → AreTimed (clients_of old) cells.cells order agenda →
+      IsStepTaken old (record old { cells = cells; order = order }) agenda (step_in old turn DropOutput) Done []
+  drop-gives e left timed =
       let s : State = state_of old in
-      gone-gives old old.patchbay cells agenda _
-      (drops-output old.files s turn.moment turn.actor ∙ unless-none _ s (done (with_pending s (filter (stays turn.actor All) s.pending)) Done) e ∙ ap (λ x. done (with_pending s x) Done) (sym left)) are keys
+      gone-gives old old.patchbay cells order agenda _
+      (drops-output old.files s turn.moment turn.actor ∙ unless-none _ s (done (with_pending s (filter (stays turn.actor All) s.pending)) Done) e ∙ ap (λ x. done (with_pending s x) Done) (sym left)) are timed
 
   pub port-gives : (port : ℕ) (clients : Roster) (graph : List Edge) → refusal_in old turn (DeletePort port) ≡ None → playbacks cells.cells old.steps ≡ filter (stays turn.actor (OfPort port)) (playbacks old.cells.cells old.steps) →
-      AreFirstKeys (clients_of old) cells.cells agenda → graph ≡ filter (λ e. not (touches (record { client = turn.actor; node = Port port }) e)) old.patchbay.graph →
+      AreTimed (clients_of old) cells.cells order agenda → graph ≡ filter (λ e. not (touches (record { client = turn.actor; node = Port port }) e)) old.patchbay.graph →
       clients ≡ with_client old.patchbay.clients turn.actor (with_change (FinMap.get (clients_of old) turn.actor) (put_port port None)) →
-      IsStepTaken old (record old { patchbay = record { clients = clients; graph = graph }; cells = cells }) agenda (step_in old turn (DeletePort port)) Done []
-  port-gives port clients graph e left keys edges own =
+      IsStepTaken old (record old { patchbay = record { clients = clients; graph = graph }; cells = cells; order = order }) agenda (step_in old turn (DeletePort port)) Done []
+  port-gives port clients graph e left timed edges own =
       let s : State = state_of old in
       let then : FinMap nat_cmp Client = with_entry s.clients turn.actor (with_change (FinMap.get s.clients turn.actor) (put_port port None)) in
       let to : FinMap nat_cmp Client → List Edge → List OwnedPlayback → Stepped = λ m es ps. done (record s { clients = m; edges = es; pending = ps }) Done in
-      let same : AreFirstKeys then cells.cells agenda = keys_stay s.clients then cells.cells agenda (λ q c at. port-moments s.clients turn.actor port c.1.queue) keys in
-      gone-gives old (record { clients = clients; graph = graph }) cells agenda _
+      let same : AreTimed then cells.cells order agenda = timed-stay s.clients then cells.cells order agenda (λ q c at. port-moments s.clients turn.actor port c.1.queue) timed in
+      gone-gives old (record { clients = clients; graph = graph }) cells order agenda _
       (deletes-port old.files s turn.moment turn.actor port ∙ unless-none _ s (to then (filter (λ x. not (loses turn.actor (same_node (Port port)) x)) s.edges) (filter (stays turn.actor (OfPort port)) s.pending)) e
       ∙ ap (λ x. to then x (filter (stays turn.actor (OfPort port)) s.pending)) (lost-with-node turn.actor (Port port) s.edges ∙ sym edges)
       ∙ ap (to then graph) (sym left)
       ∙ ap (λ (r : Roster). done (record s { clients = r.clients; pools = r.pools; edges = graph; pending = playbacks cells.cells old.steps }) Done) (sym own))
-      are (subst (λ (r : Roster). AreFirstKeys r.clients cells.cells agenda) (sym own) same)
+      are (subst (λ (r : Roster). AreTimed r.clients cells.cells order agenda) (sym own) same)
 
   pub queue-gives : (queue : QueueAddr) (clients : Roster) (graph : List Edge) → refusal_in old turn (DeleteQueue queue) ≡ None → playbacks cells.cells old.steps ≡ filter (stays turn.actor (OnQueue queue.queue)) (playbacks old.cells.cells old.steps) →
-      AreFirstKeys (clients_of old) cells.cells agenda → ((q : ℕ) (c : PlaybackCell) → FinMap.get cells.cells q ≡ Some c → stays turn.actor (OnQueue queue.queue) (pending_in c) ≡ true) →
+      AreTimed (clients_of old) cells.cells order agenda → ((q : ℕ) (c : PlaybackCell) → FinMap.get cells.cells q ≡ Some c → stays turn.actor (OnQueue queue.queue) (pending_in c) ≡ true) →
       clients ≡ with_client old.patchbay.clients turn.actor (with_change (FinMap.get (clients_of old) turn.actor) (put_queue queue.queue None)) → graph ≡ old.patchbay.graph →
-      IsStepTaken old (record old { patchbay = record { clients = clients; graph = graph }; cells = cells }) agenda (step_in old turn (DeleteQueue queue)) Done []
-  queue-gives queue clients graph e left keys on own edges =
+      IsStepTaken old (record old { patchbay = record { clients = clients; graph = graph }; cells = cells; order = order }) agenda (step_in old turn (DeleteQueue queue)) Done []
+  queue-gives queue clients graph e left timed on own edges =
       let s : State = state_of old in
       let then : FinMap nat_cmp Client = with_entry s.clients turn.actor (with_change (FinMap.get s.clients turn.actor) (put_queue queue.queue None)) in
       let to : FinMap nat_cmp Client → List OwnedPlayback → Stepped = λ m ps. done (record s { clients = m; pending = ps }) Done in
-      let same : AreFirstKeys then cells.cells agenda = keys_stay s.clients then cells.cells agenda (λ q c at. queue-moments s.clients turn.actor queue.queue c.1.queue (off_queue turn.actor queue.queue (pending_in c) (on q c at))) keys in
-      gone-gives old (record { clients = clients; graph = graph }) cells agenda _
+      let same : AreTimed then cells.cells order agenda = timed-stay s.clients then cells.cells order agenda (λ q c at. queue-moments s.clients turn.actor queue.queue c.1.queue (off_queue turn.actor queue.queue (pending_in c) (on q c at))) timed in
+      gone-gives old (record { clients = clients; graph = graph }) cells order agenda _
       (deletes-queue old.files s turn.moment turn.actor queue ∙ unless-none _ s (to then (filter (stays turn.actor (OnQueue queue.queue)) s.pending)) e
       ∙ ap (to then) (sym left)
       ∙ ap (λ (r : Roster). done (record s { clients = r.clients; pools = r.pools; pending = playbacks cells.cells old.steps }) Done) (sym own)
       ∙ ap (λ es. done (record s { clients = clients.clients; pools = clients.pools; edges = es; pending = playbacks cells.cells old.steps }) Done) (sym edges))
-      are (subst (λ (r : Roster). AreFirstKeys r.clients cells.cells agenda) (sym own) same)
+      are (subst (λ (r : Roster). AreTimed r.clients cells.cells order agenda) (sym own) same)
 
   pub close-gives : (clients : Roster) (graph : List Edge) → refusal_in old turn Close ≡ None → playbacks cells.cells old.steps ≡ filter (stays turn.actor AllAndOnQueues) (playbacks old.cells.cells old.steps) →
-      AreFirstKeys (clients_of old) cells.cells agenda → ((q : ℕ) (c : PlaybackCell) → FinMap.get cells.cells q ≡ Some c → stays turn.actor AllAndOnQueues (pending_in c) ≡ true) →
+      AreTimed (clients_of old) cells.cells order agenda → ((q : ℕ) (c : PlaybackCell) → FinMap.get cells.cells q ≡ Some c → stays turn.actor AllAndOnQueues (pending_in c) ≡ true) →
       graph ≡ filter (λ e. not (touches_client turn.actor e)) old.patchbay.graph → clients ≡ with_pool (with_client old.patchbay.clients turn.actor None) turn.actor None →
-      IsStepTaken old (record old { patchbay = record { clients = clients; graph = graph }; cells = cells }) agenda (step_in old turn Close) Done []
-  close-gives clients graph e left keys on edges own =
+      IsStepTaken old (record old { patchbay = record { clients = clients; graph = graph }; cells = cells; order = order }) agenda (step_in old turn Close) Done []
+  close-gives clients graph e left timed on edges own =
       let s : State = state_of old in
       let then : FinMap nat_cmp Client = with_entry s.clients turn.actor None in
       let to : List Edge → List OwnedPlayback → Stepped = λ es ps. done (record { clients = then; pools = with_entry s.pools turn.actor None; edges = es; pending = ps }) Done in
-      let same : AreFirstKeys then cells.cells agenda = keys_stay s.clients then cells.cells agenda (λ q c at. of_others s.clients turn.actor None c.1.queue (off_queues turn.actor (pending_in c) (on q c at))) keys in
-      gone-gives old (record { clients = clients; graph = graph }) cells agenda _
+      let same : AreTimed then cells.cells order agenda = timed-stay s.clients then cells.cells order agenda (λ q c at. of_others s.clients turn.actor None c.1.queue (off_queues turn.actor (pending_in c) (on q c at))) timed in
+      gone-gives old (record { clients = clients; graph = graph }) cells order agenda _
       (closes old.files s turn.moment turn.actor ∙ unless-none _ s (to (filter (λ x. not (loses turn.actor (λ n. true) x)) s.edges) (filter (stays turn.actor AllAndOnQueues) s.pending)) e
       ∙ ap (λ x. to x (filter (stays turn.actor AllAndOnQueues) s.pending)) (lost-with-client turn.actor s.edges ∙ sym edges)
       ∙ ap (to graph) (sym left)
       ∙ ap (λ (r : Roster). done (record { clients = r.clients; pools = r.pools; edges = graph; pending = playbacks cells.cells old.steps }) Done) (sym own))
-      are (subst (λ (r : Roster). AreFirstKeys r.clients cells.cells agenda) (sym own) same)
+      are (subst (λ (r : Roster). AreTimed r.clients cells.cells order agenda) (sym own) same)

@@ -23,7 +23,7 @@ use Rattle.seq_state.specs.Effect.{with_change, put_queue, queue_of, queue_is, q
 use Rattle.seq_state.specs.Step.{moment_in, named_queue}
 use Rattle.seq_state.proofs.Done.{done, tells-queue}
 use Rattle.seq_settle.specs.Moments.{queue_in, moment_at, SameMoments}
-use Rattle.seq_settle.specs.Cells.{PlaybackCell, AreFirstKeys}
+use Rattle.seq_settle.specs.Order.{AreTimed}
 use Rattle.seq_settle.specs.Rekeyed.{OthersSame}
 use Rattle.seq_settle.proofs.Elsewhere.{queues_same, but_one, of_others}
 use Rattle.seq_settle.proofs.Stores.{get-put_here}
@@ -50,16 +50,10 @@ others-same clients actor queue f own other apart = go (FinMap.get clients actor
 
 -- the keys are those by the clients as they were
 pub keys-before : (old : Sequencer) (actor : ℕ) (queue : QueueAddr) (f : Queue → Queue) (r : Roster) (agenda : Keys) → queue.client ≡ actor →
-    r ≡ with_client old.patchbay.clients actor (queue_changed (FinMap.get (clients_of old) actor) queue.queue f) → AreFirstKeys (clients_of old) old.cells.cells agenda →
-    (was : FinMap nat_cmp Client) × OthersSame was r.clients queue × AreFirstKeys was old.cells.cells agenda
+    r ≡ with_client old.patchbay.clients actor (queue_changed (FinMap.get (clients_of old) actor) queue.queue f) → AreTimed (clients_of old) old.cells.cells old.order agenda →
+    (was : FinMap nat_cmp Client) × OthersSame was r.clients queue × AreTimed was old.cells.cells old.order agenda
 keys-before old actor queue f r agenda own e keys =
     (clients_of old, λ other apart accepted due. others-same (clients_of old) actor queue f own other apart accepted due ∙ ap (λ (x : Roster). moment_at x.clients other accepted due) (sym e), keys)
-
--- nobody else has anything on a private queue
-pub owner-alone : (old : Sequencer) (agenda : Keys) (now : ℕ) (queue : QueueAddr) (foreign : Bool) → IsWhole old agenda now → foreign ≡ queue_is (λ q. q.shared) (queue_in (clients_of old) queue) →
-    foreign ≡ false → (q : ℕ) (c : PlaybackCell) → FinMap.get old.cells.cells q ≡ Some c → c.1.queue ≡ queue → c.0 ≡ queue.client
-owner-alone old agenda now queue foreign whole is private q c here on =
-    private-alone (clients_of old) old.cells.cells old.steps queue whole.cells whole.sound.usable (λ x e. sym (ap (queue_is (λ q. q.shared)) e) ∙ sym is ∙ private) q c here on
 
 -- ---- a queue that gives the same moments as what was in its place
 

@@ -29,7 +29,7 @@ use Rattle.seq_clients.specs.Roster.{Roster, with_client}
 use Rattle.seq_settle.specs.Moments.{moment_at, SameMoments}
 use Rattle.seq_settle.specs.Cells.{seen_state}
 use Rattle.seq_settle.specs.Sends.{copies_of}
-use Rattle.seq_settle.proofs.NewKeys.{keys_stay}
+use Rattle.seq_settle.proofs.Timed.{timed-stay}
 use Rattle.seq_settle.proofs.Elsewhere.{queues_same}
 use Rattle.seq_patchbay.specs.Leaving.{copies_of_all}
 use Rattle.seq_commands.specs.declared.sequencer.Sequencer.{Sequencer}
@@ -148,7 +148,7 @@ sent-kept old r edges step cs ds reply is clients pools graph same agenda now wh
   reply_is = ap (λ (x : Stepped). x.reply) (sym is);
   sent_is = refl;
   cells = whole.cells;
-  keys = keys_stay (clients_of old) r.clients old.cells.cells agenda (λ q c e accepted due. same c.1.queue accepted due ∙ ap (λ x. moment_at x c.1.queue accepted due) (sym clients)) whole.keys;
+  timed = timed-stay (clients_of old) r.clients old.cells.cells old.order agenda (λ q c e accepted due. same c.1.queue accepted due ∙ ap (λ x. moment_at x c.1.queue accepted due) (sym clients)) whole.timed;
   files = refl;
   steps = refl;
 }

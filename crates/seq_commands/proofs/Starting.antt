@@ -19,6 +19,7 @@ no-cells cells n e =
       apart = λ q r c d f g s. absurd (none q c f);
       filled = λ q c f. absurd (none q c f);
       ordered = λ q c f. absurd (none q c f);
+      queues = λ q c f. absurd (none q c f);
     }
 
 pub seen-start : (r : Roster) (edges : List Edge) (cells : FinMap nat_cmp PlaybackCell) → r ≡ nobody → edges ≡ [] → seen_state r.clients r.pools edges cells 0 ≡ start

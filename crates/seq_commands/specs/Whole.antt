@@ -15,7 +15,8 @@ use Rattle.seq_state.specs.Step as steps
 use Rattle.seq_state.specs.Step.{Stepped, refusal_of, step}
 use Rattle.seq_state.specs.Laws.{has_ticks, Ready, Bounded}
 use Rattle.seq_settle.specs.Moments.{queue_in}
-use Rattle.seq_settle.specs.Cells.{seen_state, AreCells, AreFirstKeys}
+use Rattle.seq_settle.specs.Cells.{seen_state, AreCells}
+use Rattle.seq_settle.specs.Order.{AreTimed}
 use Rattle.seq_commands.specs.declared.sequencer.Sequencer.{Sequencer}
 use Rattle.seq_commands.specs.declared.sequencer.Turn.{Turn}
 
@@ -49,7 +50,7 @@ pub record IsSound (s : State) (now : ℕ) : Type 0 where
 pub record IsWhole (s : Sequencer) (agenda : Keys) (now : ℕ) : Type 0 where
   pub files : list_all has_ticks s.files ≡ true
   pub cells : AreCells s.cells.cells s.steps
-  pub keys : AreFirstKeys (clients_of s) s.cells.cells agenda
+  pub timed : AreTimed (clients_of s) s.cells.cells s.order agenda
   pub sound : IsSound (state_of s) now
 
 -- ---- what a command does
@@ -81,7 +82,7 @@ pub record IsStepTaken (old new : Sequencer) (agenda : Keys) (step : Stepped) (r
   pub reply_is : reply ≡ step.reply
   pub sent_is : sent ≡ step.delivered
   pub cells : AreCells new.cells.cells new.steps
-  pub keys : AreFirstKeys (clients_of new) new.cells.cells agenda
+  pub timed : AreTimed (clients_of new) new.cells.cells new.order agenda
   pub files : new.files ≡ old.files
   pub steps : new.steps ≡ old.steps
 

@@ -1,11 +1,11 @@
 //! Which command does what.
 
 ghost use Rattle.std.specs.Prelude.{◌≡◌, ℕ, ◌≤◌, ◌<◌, ◌+◌, ◌-◌, ◌^◌, ◌++◌, true, IsOk, IfOk, OnOk, OnErr};
-ghost use Rattle.agenda_heap.specs.Due.{NoneDue};
 ghost use Rattle.seq_state.specs.Step.{IsRefusal};
 ghost use Rattle.seq_settle.specs.Cells.{AreCells};
+ghost use Rattle.seq_settle.specs.Order.{NoneComes};
 ghost use Rattle.seq_commands.specs.Turns.{takes_none};
-ghost use Rattle.seq_commands.specs.Whole.{state_of, turn_of, settled_step, input_step, refusal_in, IsWhole};
+ghost use Rattle.seq_commands.specs.Whole.{clients_of, state_of, turn_of, settled_step, input_step, refusal_in, IsWhole};
 
 use crate::sequencer::{Sequencer, Turn};
 use agenda_heap::Agenda;
@@ -36,9 +36,9 @@ impl Sequencer<'_, '_> {
         ensures same_steps { OnErr result (self.new.steps ≡ self.old.steps) }
 
         // Where nothing is due, a refused command asks for no memory, nor do these.
-        ensures quiet { NoneDue (A.content agenda.old) input.now.moment →
+        ensures quiet { NoneComes (clients_of self.old) self.old.cells.cells input.now.moment →
             IsRefusal (input_step self.old input.now).reply → IsOk result }
-        ensures freely { NoneDue (A.content agenda.old) input.now.moment →
+        ensures freely { NoneComes (clients_of self.old) self.old.cells.cells input.now.moment →
             takes_none input.now.command ≡ true → IsOk result }
     {
         self.settle(agenda, input.moment, out)?;

@@ -32,7 +32,8 @@ impl<'f, 'b> Sequencer<'f, 'b> {
     {
         let all = Which::All;
         let cells = &mut self.cells;
-        drop_playbacks(cells, agenda, self.steps, turn.actor, &all, false);
+        let order = &mut self.order;
+        drop_playbacks(cells, order, agenda, self.steps, turn.actor, &all, false);
     }
 
     /// Drops a port, with its subscriptions and what is still to be sent from it. It takes no memory.
@@ -44,7 +45,10 @@ impl<'f, 'b> Sequencer<'f, 'b> {
     {
         let of_port = Which::OfPort(port);
         let cells = &mut self.cells;
-        drop_playbacks(cells, agenda, self.steps, turn.actor, &of_port, false);
+        let order = &mut self.order;
+        drop_playbacks(
+            cells, order, agenda, self.steps, turn.actor, &of_port, false,
+        );
         self.patchbay.delete_port(turn.actor, port);
     }
 
@@ -58,7 +62,10 @@ impl<'f, 'b> Sequencer<'f, 'b> {
         let shared = self.is_shared(queue);
         let on_queue = Which::OnQueue(queue.queue);
         let cells = &mut self.cells;
-        drop_playbacks(cells, agenda, self.steps, turn.actor, &on_queue, shared);
+        let order = &mut self.order;
+        drop_playbacks(
+            cells, order, agenda, self.steps, turn.actor, &on_queue, shared,
+        );
         self.patchbay.delete_queue(turn.actor, queue.queue);
     }
 
@@ -72,7 +79,10 @@ impl<'f, 'b> Sequencer<'f, 'b> {
         let shares = self.patchbay.clients().shares_queue(turn.actor);
         let its_own = Which::AllAndOnQueues;
         let cells = &mut self.cells;
-        drop_playbacks(cells, agenda, self.steps, turn.actor, &its_own, shares);
+        let order = &mut self.order;
+        drop_playbacks(
+            cells, order, agenda, self.steps, turn.actor, &its_own, shares,
+        );
         self.patchbay.close(turn.actor);
     }
 
@@ -160,7 +170,14 @@ impl<'f, 'b> Sequencer<'f, 'b> {
             moment: turn.moment,
             events,
         };
-        add_playback(&self.patchbay, &mut self.cells, agenda, rank, accepted)
+        add_playback(
+            &self.patchbay,
+            &mut self.cells,
+            &mut self.order,
+            agenda,
+            rank,
+            accepted,
+        )
     }
 
     /// When something is due by a queue that is there.

@@ -1,16 +1,11 @@
 //! What accepted commands on queues do. After an `Err`, which is out of memory, the sequencer is of no more use.
 
 ghost use Rattle.std.specs.Prelude.{◌≡◌, ℕ, [], true, false, Some, None, IfOk, OnOk};
-ghost use Rattle.std.specs.Ordering.{nat_cmp};
-ghost use Rattle.std.specs.FinMap as map;
 ghost use Rattle.tempo_clock.specs.Entries.{is_ppq, is_tempo};
 ghost use Rattle.seq_state.specs.declared.input.Command.TheVariants as Command;
 ghost use Rattle.seq_state.specs.declared.log.Reply.TheVariants as Reply;
 ghost use Rattle.seq_state.specs.Effect.{queue_is, one_tempo};
-ghost use Rattle.seq_state.specs.State.{Client};
-ghost use Rattle.seq_settle.specs.Cells.{PlaybackCell, AreCells, AreFirstKeys};
 ghost use Rattle.seq_settle.specs.Moments.{queue_in};
-ghost use Rattle.seq_settle.specs.Rekeyed.{OthersSame};
 ghost use Rattle.seq_commands.specs.Whole.{clients_of, state_of, refusal_in, step_in};
 ghost use Rattle.seq_commands.specs.Whole.{IsSound, IsWhole, IsStepTaken, IsStepTakenUnkeyed};
 
@@ -74,33 +69,6 @@ impl Sequencer<'_, '_> {
         Ok(())
     }
 
-    /// Gives all cells on a queue that has changed their keys. `foreign` says whether others may have something on it.
-    fn rekey<A: Agenda>(
-        &self,
-        agenda: &mut A,
-        queue: &QueueAddr,
-        foreign: bool,
-    ) -> Result<(), OutOfMemory>
-        requires cells { AreCells self.now.cells.cells self.now.steps }
-        requires keys { (was : map.FinMap nat_cmp Client)
-            × OthersSame was (clients_of self.now) queue.now
-            × AreFirstKeys was self.now.cells.cells (A.content agenda.old) }
-        requires alone { foreign ≡ false → (q : ℕ) (c : PlaybackCell)
-            → map.get self.now.cells.cells q ≡ Some c → c.1.queue ≡ queue.now
-            → c.0 ≡ queue.now.client }
-        ensures { OnOk result
-            (AreFirstKeys (clients_of self.now) self.now.cells.cells (A.content agenda.new)) }
-    {
-        rekey_all(
-            &self.patchbay,
-            &self.cells,
-            agenda,
-            self.steps,
-            queue,
-            foreign,
-        )
-    }
-
     /// Runs a queue from 0.
     pub(crate) fn start<A: Agenda>(
         &mut self,
@@ -113,9 +81,15 @@ impl Sequencer<'_, '_> {
         ensures { OnOk result (IsStepTaken self.old self.new (A.content agenda.new)
             (step_in self.old turn (Command.Start queue.now)) Reply.Done []) }
     {
-        let foreign = self.is_shared(queue);
         self.patchbay.start(turn.actor, queue.queue, turn.moment);
-        self.rekey(agenda, queue, foreign)
+        rekey_all(
+            &self.patchbay,
+            &self.cells,
+            &mut self.order,
+            agenda,
+            self.steps,
+            queue,
+        )
     }
 
     /// Holds a queue.
@@ -130,9 +104,15 @@ impl Sequencer<'_, '_> {
         ensures { OnOk result (IsStepTaken self.old self.new (A.content agenda.new)
             (step_in self.old turn (Command.Stop queue.now)) Reply.Done []) }
     {
-        let foreign = self.is_shared(queue);
         self.patchbay.stop(turn.actor, queue.queue, turn.moment);
-        self.rekey(agenda, queue, foreign)
+        rekey_all(
+            &self.patchbay,
+            &self.cells,
+            &mut self.order,
+            agenda,
+            self.steps,
+            queue,
+        )
     }
 
     /// Runs a queue on from where it was held.
@@ -147,9 +127,15 @@ impl Sequencer<'_, '_> {
         ensures { OnOk result (IsStepTaken self.old self.new (A.content agenda.new)
             (step_in self.old turn (Command.Continue queue.now)) Reply.Done []) }
     {
-        let foreign = self.is_shared(queue);
         self.patchbay.resume(turn.actor, queue.queue, turn.moment);
-        self.rekey(agenda, queue, foreign)
+        rekey_all(
+            &self.patchbay,
+            &self.cells,
+            &mut self.order,
+            agenda,
+            self.steps,
+            queue,
+        )
     }
 
     /// Sets one tempo, in microseconds per quarter note, from a queue's present on.
@@ -165,10 +151,16 @@ impl Sequencer<'_, '_> {
         ensures { OnOk result (IsStepTaken self.old self.new (A.content agenda.new)
             (step_in self.old turn (Command.Tempo queue.now tempo)) Reply.Done []) }
     {
-        let foreign = self.is_shared(queue);
         self.patchbay
             .set_tempo(turn.actor, queue.queue, turn.moment, tempo)?;
-        self.rekey(agenda, queue, foreign)
+        rekey_all(
+            &self.patchbay,
+            &self.cells,
+            &mut self.order,
+            agenda,
+            self.steps,
+            queue,
+        )
     }
 
     /// Lets other clients use a queue.

@@ -1,10 +1,12 @@
 //! What a sequencer has.
 
-ghost use Rattle.std.specs.Prelude.{◌≡◌, ◌++◌, IsOk, IfOk, OnOk};
-ghost use Rattle.agenda_heap.specs.Due.{NoneDue};
+ghost use Rattle.std.specs.Prelude.{◌≡◌, ◌++◌, None, IsOk, IfOk, OnOk};
 ghost use Rattle.seq_state.specs.State.{start};
 ghost use Rattle.seq_state.specs.Step.{settle};
-ghost use Rattle.seq_settle.specs.Cells.{AreCells, AreFirstKeys};
+ghost use Rattle.seq_settle.specs.Cells.{AreCells};
+ghost use Rattle.seq_settle.specs.Order.{AreTimed, NoneComes};
+ghost use Rattle.seq_settle.specs.Waiting.{cell_at};
+ghost use Rattle.seq_settle.specs.declared.waiting.QueueKey.{QueueKey};
 ghost use Rattle.seq_patchbay.specs.Listing.{listing};
 ghost use Rattle.seq_commands.specs.Whole.{state_of, clients_of};
 
@@ -13,7 +15,7 @@ use agenda_heap::Agenda;
 use memory::OutOfMemory;
 use node_table::ClientId;
 use seq_patchbay::Patchbay;
-use seq_settle::{Cells, settle_all};
+use seq_settle::{Cells, QueueOrder, settle_all};
 use seq_state::Delivery;
 use std::alloc::Global;
 
@@ -33,6 +35,8 @@ pub struct Sequencer<'f, 'b> {
     pub(crate) alloc: Global,
     pub(crate) patchbay: Patchbay,
     pub(crate) cells: Cells<'b>,
+    /// The cells that are not in the agenda.
+    pub(crate) order: QueueOrder,
     pub(crate) files: Files<'f, 'b>,
     /// How many inputs it has taken.
     pub(crate) steps: u64,
@@ -45,11 +49,13 @@ impl<'f, 'b> Sequencer<'f, 'b> {
         ensures files { result.files ≡ files.entry }
         ensures steps { result.steps ≡ 0 }
         ensures cells { AreCells result.cells.cells 0 }
+        ensures none_waits { (k : QueueKey) → cell_at result.order.waiting k ≡ None }
     {
         Sequencer {
             alloc,
             patchbay: Patchbay::new(alloc),
             cells: Cells::new(alloc),
+            order: QueueOrder::new(alloc),
             files,
             steps: 0,
         }
@@ -72,24 +78,25 @@ impl<'f, 'b> Sequencer<'f, 'b> {
         out: &mut Vec<Delivery>,
     ) -> Result<(), OutOfMemory>
         requires cells { AreCells self.old.cells.cells self.old.steps }
-        requires keys { AreFirstKeys (clients_of self.old) self.old.cells.cells
+        requires timed { AreTimed (clients_of self.old) self.old.cells.cells self.old.order
             (A.content agenda.old) }
         ensures state { OnOk result
             (state_of self.new ≡ (settle (state_of self.old) moment).state) }
         ensures sent { OnOk result (out.new.items
             ≡ out.old.items ++ (settle (state_of self.old) moment).delivered) }
         ensures cells { OnOk result (AreCells self.new.cells.cells self.new.steps) }
-        ensures keys { OnOk result
-            (AreFirstKeys (clients_of self.new) self.new.cells.cells (A.content agenda.new)) }
+        ensures timed { OnOk result (AreTimed (clients_of self.new) self.new.cells.cells
+            self.new.order (A.content agenda.new)) }
         ensures files { self.new.files ≡ self.old.files }
         ensures steps { self.new.steps ≡ self.old.steps }
 
         // Where nothing is due no memory is asked for.
-        ensures idle { NoneDue (A.content agenda.old) moment → IsOk result }
+        ensures idle { NoneComes (clients_of self.old) self.old.cells.cells moment → IsOk result }
     {
         settle_all(
             &mut self.patchbay,
             &mut self.cells,
+            &mut self.order,
             agenda,
             self.steps,
             moment,

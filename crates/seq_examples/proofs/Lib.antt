@@ -19,6 +19,7 @@ pub mod QueueClock
 pub mod ClosedClient
 pub mod CountedFrames
 pub mod RestartedQueue
+pub mod EqualTicks
 pub mod NoisyStranger
 pub mod SendInside
 pub mod OpenedAgain

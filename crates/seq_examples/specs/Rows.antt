@@ -454,6 +454,29 @@ RestartedQueue =
     ∷ Replied 9 200 128 Done ∷ Delivered (a_delivery 250 129 0 (a_note 0x01))
     ∷ Replied 10 1041867 128 Done ∷ Delivered (a_delivery 2083534 129 0 (a_note 0x02)) ∷ []
 
+-- Ticks that are shorter than a nanosecond: two of one queue come at the same one. The event whose
+-- command came first is sent first, though its tick is the later one.
+abbrev pub equal_ticks : List Input
+equal_ticks =
+    an_input 0 128 (Open (codes "a") 8 8)
+    ∷ an_input 0 128 (CreatePort 0 (codes "out") (caps_by_bits 33))
+    ∷ an_input 0 128 (CreateQueue 0 2000 1)
+    ∷ an_input 0 128 (Schedule (a_queue 128 0) 0 (due_at.Tick 2) (a_note 0x01))
+    ∷ an_input 0 128 (Schedule (a_queue 128 0) 0 (due_at.Tick 1) (a_note 0x02))
+    ∷ an_input 0 129 (Open (codes "b") 8 8)
+    ∷ an_input 0 129 (CreatePort 0 (codes "in") (caps_by_bits 66))
+    ∷ an_input 0 129 (Connect (port_addr 128 0) (port_addr 129 0))
+    ∷ an_input 10 128 (Start (a_queue 128 0)) ∷ []
+
+abbrev pub EqualTicks : Type 0
+EqualTicks =
+    plain [] equal_ticks 20 ≡
+    Replied 0 0 128 Done ∷ Replied 1 0 128 Done ∷ Replied 2 0 128 Done ∷ Replied 3 0 128 Done
+    ∷ Replied 4 0 128 Done ∷ Replied 5 0 129 Done
+    ∷ Replied 6 0 129 Done ∷ Replied 7 0 129 Done ∷ Replied 8 10 128 Done
+    ∷ Delivered (a_delivery 11 129 0 (a_note 0x01))
+    ∷ Delivered (a_delivery 11 129 0 (a_note 0x02)) ∷ []
+
 -- ---- circles round 129
 
 -- Two circles that are closed, and two that are not: of the third clients, 128 and 129 are, for 130

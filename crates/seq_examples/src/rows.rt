@@ -4,7 +4,7 @@
 ghost use Rattle.seq_examples.specs.Conditions.{EachCondition};
 ghost use Rattle.seq_examples.specs.Examples.{EachRefusal, LostStays};
 ghost use Rattle.seq_examples.specs.Steps.{EachStep};
-ghost use Rattle.seq_examples.specs.Rows.{Circles, SendInside, RunningStatusKept, OpenedAgain, NoisyStranger, EqualMoments, CopiesByEdgeAge, InputOverflow, OutputFull, ThirdClients, DeletedPort, SharedQueue, PlaysFile, DroppedOutput, ChangedFilter, QueueClock, ClosedClient, CountedFrames, RestartedQueue};
+ghost use Rattle.seq_examples.specs.Rows.{Circles, SendInside, RunningStatusKept, OpenedAgain, NoisyStranger, EqualMoments, CopiesByEdgeAge, InputOverflow, OutputFull, ThirdClients, DeletedPort, SharedQueue, PlaysFile, DroppedOutput, ChangedFilter, QueueClock, ClosedClient, CountedFrames, RestartedQueue, EqualTicks};
 
 /// Two clients each schedule a note for 100, the one with the greater number first. At equal moments the events come in
 /// the order of their commands, and with their own moment, not by client number nor with the moment of the settling
@@ -89,6 +89,12 @@ pub fn counted_frames()
 /// counted from the last tick that has come.
 pub fn restarted_queue()
     ensures { RestartedQueue }
+{}
+
+/// Ticks that are shorter than a nanosecond: two of one queue come at the same one. The event whose command came first
+/// is sent first, though its tick is the later one.
+pub fn equal_ticks()
+    ensures { EqualTicks }
 {}
 
 /// Circles of those runs that are closed, and some that are not.

@@ -17,7 +17,7 @@ use Rattle.seq_settle.specs.Moments.{queue_in, moment_at}
 use Rattle.seq_settle.specs.Cells.{due_le}
 
 -- what is due later is due later in time
-times_rise : (m : Tempos) (d e : Due) → due_le d e ≡ true → due_time m d ≤ due_time m e
+pub times_rise : (m : Tempos) (d e : Due) → due_le d e ≡ true → due_time m d ≤ due_time m e
 times_rise m (Tick s) (Tick t) l = nanos_rise m s t (leb-true s t l)
 times_rise m (Nanos s) (Nanos t) l = leb-true s t l
 times_rise m (Tick s) (Nanos t) l = absurd (cc)

@@ -34,6 +34,7 @@ fewer_ranks cells n are none = record {
   apart = are.apart;
   filled = are.filled;
   ordered = are.ordered;
+  queues = are.queues;
 }
 
 absent_here : (cells : FinMap nat_cmp PlaybackCell) → ((q : ℕ) (c : PlaybackCell) → FinMap.get cells q ≡ Some c → ⊥) → (q : ℕ) → FinMap.get cells q ≡ None

@@ -6,7 +6,7 @@ use Rattle.std.specs.Option.{option_map}
 use Rattle.std.specs.Ordering.{nat_cmp}
 use Rattle.std.specs.FinMap
 use Rattle.std.specs.FinMap.{FinMap}
-use Rattle.std.proofs.lemmas.Bool.{false≢true, eqb-true, lt-ltb, le-ltb}
+use Rattle.std.proofs.lemmas.Bool.{false≢true, lt-ltb, le-ltb}
 use Rattle.std.proofs.lemmas.Bool.Decides.{nat_tests}
 use Rattle.std.proofs.lemmas.List.{take-take, drop_all}
 use Rattle.cell_pools.specs.Cells.{Store, AreKeys, SameBefore, IsTaken, cells_of, is_of, keys_of, size_of}
@@ -40,17 +40,30 @@ kept-some stays (Some d) c e = go (stays (pending_in d)) refl e
 kept-here : (stays : OwnedPlayback → Bool) (o : Option PlaybackCell) (c : PlaybackCell) → o ≡ Some c → stays (pending_in c) ≡ true → kept_cell stays o ≡ Some c
 kept-here stays o c e t = ap (kept_cell stays) e ∙ ap (λ b. cond b (Some c) None) t
 
+-- the invariant of cells stays where each of them was there before
+fewer-cells : (cells cells' : FinMap nat_cmp PlaybackCell) (n : ℕ) → ((q : ℕ) (c : PlaybackCell) → FinMap.get cells' q ≡ Some c → FinMap.get cells q ≡ Some c) → AreCells cells n → AreCells cells' n
+fewer-cells cells cells' n was are = record {
+  early = λ q c e. are.early q c (was q c e);
+  apart = λ q r c d e f same. are.apart q r c d (was q c e) (was r d f) same;
+  filled = λ q c e. are.filled q c (was q c e);
+  ordered = λ q c e. are.ordered q c (was q c e);
+  queues = λ q c e. are.queues q c (was q c e);
+}
+
+-- so it stays for those that are left where some were looked at
+pub passed-cells : (stays : OwnedPlayback → Bool) (test : ℕ → Bool) (cells cells' : FinMap nat_cmp PlaybackCell) (n : ℕ) → ((q : ℕ) → FinMap.get cells' q ≡ cond (test q) (kept_cell stays (FinMap.get cells q)) (FinMap.get cells q)) → AreCells cells n → AreCells cells' n
+passed-cells stays test cells cells' n is are = fewer-cells cells cells' n (λ q c e. go q c (test q) (sym (is q) ∙ e)) are
+  where
+    go : (q : ℕ) (c : PlaybackCell) (b : Bool) → cond b (kept_cell stays (FinMap.get cells q)) (FinMap.get cells q) ≡ Some c → FinMap.get cells q ≡ Some c
+    go q c true e = (kept-some stays (FinMap.get cells q) c e).0
+    go q c false e = e
+
 module _ (stays : OwnedPlayback → Bool) (cells cells' : FinMap nat_cmp PlaybackCell) (n : ℕ) (are : AreCells cells n) (is : (q : ℕ) → FinMap.get cells' q ≡ kept_cell stays (FinMap.get cells q)) where
   was : (q : ℕ) (c : PlaybackCell) → FinMap.get cells' q ≡ Some c → (FinMap.get cells q ≡ Some c) × (stays (pending_in c) ≡ true)
   was q c e = kept-some stays (FinMap.get cells q) c (sym (is q) ∙ e)
 
   pub kept_cells : AreCells cells' n
-  kept_cells = record {
-    early = λ q c e. are.early q c (was q c e).0;
-    apart = λ q r c d e f same. are.apart q r c d (was q c e).0 (was r d f).0 same;
-    filled = λ q c e. are.filled q c (was q c e).0;
-    ordered = λ q c e. are.ordered q c (was q c e).0;
-  }
+  kept_cells = fewer-cells cells cells' n (λ q c e. (was q c e).0) are
 
   kept_rank : (r : ℕ) → at_rank cells' r ≡ keep stays (at_rank cells r)
   kept_rank r = go (at_rank cells r) refl
@@ -206,32 +219,6 @@ module _ (stays : OwnedPlayback → Bool) where
 -- ---- a cell that is looked at
 
 module _ (client : ℕ) (which : Which) (old : Store RankedPlayback) (key : ℕ) where
-  -- it is there, and stays
-  same-dropped : kept_cell (stays client which) (FinMap.get old.cells key) ≡ FinMap.get old.cells key → IsDropped client which old old key
-  same-dropped same = record {
-    cells = λ q. go q (eqb q key) refl;
-    before = λ owner i at. refl;
-    sizes = λ owner. refl;
-  }
-    where
-      go : (q : ℕ) (b : Bool) → eqb q key ≡ b → FinMap.get old.cells q ≡ cond b (kept_cell (stays client which) (FinMap.get old.cells key)) (FinMap.get old.cells q)
-      go q true t = ap (FinMap.get old.cells) (eqb-true q key t) ∙ sym same
-      go q false t = refl
-
-  pub dropped-none : None ≡ option_map head_of (FinMap.get old.cells key) → IsDropped client which old old key
-  dropped-none e = same-dropped (go (FinMap.get old.cells key) e)
-    where
-      go : (o : Option PlaybackCell) → None ≡ option_map head_of o → kept_cell (stays client which) o ≡ o
-      go None f = refl
-      go (Some c) f = absurd (none_some (head_of c) f)
-
-  pub dropped-not : (head : PlaybackHead) → Some head ≡ option_map head_of (FinMap.get old.cells key) → cell_goes client which head ≡ false → IsDropped client which old old key
-  dropped-not head e t = same-dropped (go (FinMap.get old.cells key) e)
-    where
-      go : (o : Option PlaybackCell) → Some head ≡ option_map head_of o → kept_cell (stays client which) o ≡ o
-      go None f = refl
-      go (Some c) f = kept-other client which c (ap (cell_goes client which) (sym (some_of head (head_of c) f)) ∙ t)
-
   pub dropped-taken : (new : Store RankedPlayback) (head : PlaybackHead) → Some head ≡ option_map head_of (FinMap.get old.cells key) → cell_goes client which head ≡ true → IsTaken old new key → IsDropped client which old new key
   dropped-taken new head e t taken = record {
     cells = λ q. ap (λ m. FinMap.get m q) taken.cells ∙ get-put old.cells key None q ∙ ap (λ o. cond (eqb q key) o (FinMap.get old.cells q)) (sym (go (FinMap.get old.cells key) e));

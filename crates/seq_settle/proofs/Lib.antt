@@ -1,5 +1,13 @@
 pub mod Ranks
 pub mod Stores
+pub mod QueueKeys
+pub mod Bounds
+pub mod Looked
+pub mod Listings
+pub mod Timed
+pub mod Leaving
+pub mod Woken
+pub mod Covered
 pub mod Clocks
 pub mod Turn
 pub mod Loop

@@ -12,10 +12,10 @@ use Rattle.seq_state.proofs.Effects.{get-put}
 use Rattle.agenda_heap.specs.declared.due_key.DueKey.{DueKey}
 use Rattle.seq_settle.specs.declared.head.PoppedMessage.{PoppedMessage}
 use Rattle.agenda_heap.specs.Due.{IsFirstDue, NoneDue}
-use Rattle.seq_settle.specs.Cells.{PlaybackCell, pending_in, playbacks, seen_state, AreCells, key_of, AreFirstKeys, cell_rest, events_in}
+use Rattle.seq_settle.specs.Cells.{PlaybackCell, pending_in, playbacks, seen_state, AreCells, key_of, cell_rest, events_in}
 use Rattle.seq_settle.specs.Sends.{copies_of, first_popped, key_of_head, IsWithoutFirst}
 use Rattle.seq_settle.proofs.Stores.{put-put}
-use Rattle.seq_settle.proofs.Turn.{key_of-some, settle_turn, settle_end, after_cells, fewer}
+use Rattle.seq_settle.proofs.Turn.{AreFirstKeys, key_of-some, settle_turn, settle_end, after_cells, fewer}
 
 none_some : {X : Type 0} (x : X) → None ≡ Some x → ⊥
 none_some x e = cc
@@ -168,3 +168,8 @@ gone-again agenda left k gone = gone ∙ sym (put-put agenda k None None) ∙ ap
 -- the cells without a first event, where they were the same before
 pub from-same : {cells was left : FinMap nat_cmp PlaybackCell} (k : ℕ) → cells ≡ was → IsWithoutFirst cells k left → IsWithoutFirst was k left
 from-same {cells} {was} {left} k same without = subst (λ m. IsWithoutFirst m k left) same without
+
+-- any map of the keys will do
+pub rekept : (clients : FinMap nat_cmp Client) (edges : List Edge) (n m : ℕ) (goal : State) (told : List Delivery) (pools : FinMap nat_cmp ClientPool) (log : List Delivery) (cells : FinMap nat_cmp PlaybackCell) (agenda other : FinMap nat_cmp DueKey) → AreFirstKeys clients cells other →
+    Keeps clients edges n m goal told pools log cells agenda → Keeps clients edges n m goal told pools log cells other
+rekept clients edges n m goal told pools log cells agenda other keys kept = record { are = kept.are; keys = keys; state = kept.state; told_is = kept.told_is }

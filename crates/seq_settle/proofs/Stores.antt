@@ -9,7 +9,7 @@ use Rattle.std.proofs.lemmas.Bool.{false≢true, eqb-true, ne_eqb}
 use Rattle.seq_state.specs.State.{OwnedPlayback, with_entry}
 use Rattle.seq_state.specs.Step.{is_left}
 use Rattle.seq_state.proofs.Effects.{get-put}
-use Rattle.seq_settle.specs.Cells.{PlaybackCell, pending_in, at_rank, by_rank, playbacks, are_in_order, AreCells}
+use Rattle.seq_settle.specs.Cells.{PlaybackCell, pending_in, at_rank, by_rank, playbacks, are_in_order, AreCells, IsQueue}
 use Rattle.seq_settle.proofs.Ranks.{AreApart, at_rank-here, at_rank-some, at_rank-none, ranked-agree, ranked_from, ranked_from-agree, ranked-split}
 
 none_some : {X : Type 0} (x : X) → None ≡ Some x → ⊥
@@ -44,6 +44,7 @@ pub record Fits (cells : FinMap nat_cmp PlaybackCell) (k n : ℕ) (d : PlaybackC
   pub alone : (q : ℕ) (c : PlaybackCell) → FinMap.get cells q ≡ Some c → c.1.rank ≡ d.1.rank → q ≡ k
   pub filled : is_left (pending_in d) ≡ true
   pub ordered : are_in_order d.1.events ≡ true
+  pub queue : IsQueue d.1.queue
 
 pub put_cells : (cells : FinMap nat_cmp PlaybackCell) (n m k : ℕ) (o : Option PlaybackCell) → n ≤ m → ((d : PlaybackCell) → o ≡ Some d → Fits cells k m d) → AreCells cells n → AreCells (with_entry cells k o) m
 put_cells cells n m k o l fit are = record {
@@ -51,6 +52,7 @@ put_cells cells n m k o l fit are = record {
   apart = λ q r c d e f same. apart q r c d (put-some cells k o q c e) (put-some cells k o r d f) same;
   filled = λ q c e. filled q c (put-some cells k o q c e);
   ordered = λ q c e. ordered q c (put-some cells k o q c e);
+  queues = λ q c e. queue q c (put-some cells k o q c e);
 }
   where
     Case : ℕ → PlaybackCell → Type 0
@@ -67,6 +69,10 @@ put_cells cells n m k o l fit are = record {
     ordered : (q : ℕ) (c : PlaybackCell) → ((q ≡ k) × (o ≡ Some c)) ⊎ ((q ≡ k → ⊥) × (FinMap.get cells q ≡ Some c)) → are_in_order c.1.events ≡ true
     ordered q c (inl h) = (fit c h.1).ordered
     ordered q c (inr h) = are.ordered q c h.1
+
+    queue : (q : ℕ) (c : PlaybackCell) → ((q ≡ k) × (o ≡ Some c)) ⊎ ((q ≡ k → ⊥) × (FinMap.get cells q ≡ Some c)) → IsQueue c.1.queue
+    queue q c (inl h) = (fit c h.1).queue
+    queue q c (inr h) = are.queues q c h.1
 
     apart : (q r : ℕ) (c d : PlaybackCell) → ((q ≡ k) × (o ≡ Some c)) ⊎ ((q ≡ k → ⊥) × (FinMap.get cells q ≡ Some c)) → ((r ≡ k) × (o ≡ Some d)) ⊎ ((r ≡ k → ⊥) × (FinMap.get cells r ≡ Some d)) → c.1.rank ≡ d.1.rank → q ≡ r
     apart q r c d (inl h) (inl i) same = h.0 ∙ sym i.0

@@ -16,7 +16,7 @@ use Rattle.seq_state.proofs.Settling.{upto-none}
 use Rattle.seq_state.proofs.Pop.{with_pending, is_late, not_before, is_rising, is_rising_from, all_late, late_first, settle-least, all, others}
 use Rattle.agenda_heap.specs.declared.due_key.DueKey.{DueKey}
 use Rattle.agenda_heap.specs.Due.{due_cmp, IsFirstDue, NoneDue}
-use Rattle.seq_settle.specs.Cells.{PlaybackCell, at_rank, by_rank, playbacks, seen_state, are_in_order, pending_in, AreCells, first_moment, cell_key, key_of, AreFirstKeys, with_events, cell_rest, due_le, events_in}
+use Rattle.seq_settle.specs.Cells.{PlaybackCell, at_rank, by_rank, playbacks, seen_state, are_in_order, pending_in, AreCells, first_moment, cell_key, key_of, with_events, cell_rest, due_le, events_in}
 use Rattle.seq_settle.proofs.Clocks.{event_moment-is, event_moment-rises}
 use Rattle.seq_settle.specs.Moments.{moment_at}
 use Rattle.seq_settle.proofs.Ranks.{at_rank-some, ranked_from, ranked-all, all_of}
@@ -29,6 +29,10 @@ none_some : {X : Type 0} (x : X) → None ≡ Some x → ⊥
 none_some x e = cc
 
 -- ---- keys
+
+-- a map has for each cell the key of its first event
+pub record AreFirstKeys (clients : FinMap nat_cmp Client) (cells : FinMap nat_cmp PlaybackCell) (agenda : FinMap nat_cmp DueKey) : Type 0 where
+  pub keyed : (q : ℕ) → FinMap.get agenda q ≡ key_of clients (FinMap.get cells q)
 
 pub key_at-some : (c : PlaybackCell) (o : Option ℕ) (key : DueKey) → cell_key c o ≡ Some key → (o ≡ Some key.moment) × (c.1.rank ≡ key.rank)
 key_at-some c None key e = absurd (none_some key e)
@@ -127,6 +131,7 @@ module _ (clients : FinMap nat_cmp Client) (cells : FinMap nat_cmp PlaybackCell)
           alone = λ q b g same. are.apart q k b c g here same;
           filled = refl;
           ordered = o;
+          queue = are.queues k c here;
         })
 
     before : List OwnedPlayback

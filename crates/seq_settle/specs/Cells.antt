@@ -1,6 +1,6 @@
 -- Representation: How cells are seen as the plain list of what is pending, and how an agenda goes
 -- with them.
-use Rattle.std.specs.Prelude.{◌≡◌, ℕ, zero, suc, ◌<◌, ◌+◌, ◌==◌, nat_le, Bool, true, false, ◌&&◌, if◌then◌else◌, length, List, [], ◌∷◌, ◌++◌, Option, Some, None, refl}
+use Rattle.std.specs.Prelude.{◌≡◌, ℕ, zero, suc, ◌<◌, ◌≤◌, ◌+◌, ◌==◌, nat_le, Bool, true, false, ◌&&◌, if◌then◌else◌, length, List, [], ◌∷◌, ◌++◌, Option, Some, None, refl}
 use Rattle.std.specs.List.{list_all}
 use Rattle.std.specs.Option.{option_to_list}
 use Rattle.std.specs.Ordering.{nat_cmp}
@@ -10,6 +10,7 @@ use Rattle.std.specs.FinMap.{FinMap}
 use Rattle.tempo_clock.specs.declared.due.Due.{Due}
 use Rattle.tempo_clock.specs.declared.due.Due.TheVariants.{Tick, Nanos}
 use Rattle.node_table.specs.Codes.{coded_queue_addr}
+use Rattle.node_table.specs.Numbers.{first_client, last_client, most_queues}
 use Rattle.node_table.specs.declared.number.QueueAddr.{QueueAddr}
 use Rattle.patch_graph.specs.declared.edge.Edge.{Edge}
 use Rattle.seq_state.specs.State.{Client, ClientPool, DueMessage, OwnedPlayback, State}
@@ -104,8 +105,14 @@ abbrev pub are_in_order : List DueMessage → Bool
 are_in_order [] = true
 are_in_order (e ∷ es) = list_all (λ x. due_le e.due x.due) es && are_in_order es
 
--- The cells are of commands so far, no two of one command, each has an event left, and its events
--- are in order.
+-- the address is that of a queue that a client may have
+pub record IsQueue (q : QueueAddr) : Type 0 where
+  pub low : first_client ≤ q.client
+  pub high : q.client ≤ last_client
+  pub few : q.queue < most_queues
+
+-- The cells are of commands so far, no two of one command, each is on a queue that a client may
+-- have and has an event left, and its events are in order.
 pub record AreCells (cells : FinMap nat_cmp PlaybackCell) (steps : ℕ) : Type 0 where
   pub early : (q : ℕ) (c : PlaybackCell) → FinMap.get cells q ≡ Some c → c.1.rank < steps
   pub apart : (q r : ℕ) (c d : PlaybackCell) → FinMap.get cells q ≡ Some c
@@ -115,6 +122,7 @@ pub record AreCells (cells : FinMap nat_cmp PlaybackCell) (steps : ℕ) : Type 0
       → is_left (pending_in c) ≡ true
   pub ordered : (q : ℕ) (c : PlaybackCell) → FinMap.get cells q ≡ Some c
       → are_in_order c.1.events ≡ true
+  pub queues : (q : ℕ) (c : PlaybackCell) → FinMap.get cells q ≡ Some c → IsQueue c.1.queue
 
 -- the moment of the first of a playback's events
 abbrev pub first_moment : FinMap nat_cmp Client → OwnedPlayback → List DueMessage → Option ℕ
@@ -133,11 +141,6 @@ cell_key c o = key_with c.1.rank o
 abbrev pub key_of : FinMap nat_cmp Client → Option PlaybackCell → Option DueKey
 key_of clients None = None
 key_of clients (Some c) = cell_key c (first_moment clients (pending_in c) c.1.events)
-
--- The agenda has for each cell the key of its first event.
-pub record AreFirstKeys (clients : FinMap nat_cmp Client) (cells : FinMap nat_cmp PlaybackCell)
-    (agenda : FinMap nat_cmp DueKey) : Type 0 where
-  pub keyed : (q : ℕ) → FinMap.get agenda q ≡ key_of clients (FinMap.get cells q)
 
 -- ---- an event goes
 

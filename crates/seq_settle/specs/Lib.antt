@@ -4,3 +4,7 @@ pub mod Events
 pub mod Sends
 pub mod Drops
 pub mod Rekeyed
+pub mod Lists
+pub mod Waiting
+pub mod Order
+pub mod Waking

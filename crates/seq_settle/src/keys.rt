@@ -43,17 +43,3 @@ pub(crate) fn add_key<A: Agenda>(
         None => Ok(()),
     }
 }
-
-/// Gives a cell this key in place of what it has, or takes its key away.
-pub(crate) fn set_key<A: Agenda>(
-    agenda: &mut A,
-    cell: CellKey,
-    key: Option<DueKey>,
-) -> Result<(), OutOfMemory>
-    requires free { (k : DueKey) (q : ℕ) → key ≡ Some k →
-        map.get (A.content agenda.old) q ≡ Some k → q ≡ cell }
-    ensures { OnOk result (A.content agenda.new ≡ with_entry (A.content agenda.old) cell key) }
-{
-    agenda.remove(cell);
-    add_key(agenda, cell, key)
-}

@@ -63,6 +63,13 @@ impl<'b> Playback<'b> {
         }
     }
 
+    /// The number of its command among all inputs.
+    pub(crate) fn rank(&self) -> u64
+        ensures { result ≡ self.now.rank }
+    {
+        self.rank
+    }
+
     /// What it says of itself in a cell of this client.
     pub(crate) fn head(&self, client: ClientId) -> PlaybackHead
         ensures { result ≡ head_of (client, self.now) }

@@ -1,17 +1,19 @@
 //! Sending all that is due.
 
 ghost use Rattle.std.specs.Prelude.{◌≡◌, ℕ, ◌++◌, IsOk, IfOk, OnOk};
-ghost use Rattle.agenda_heap.specs.Due.{NoneDue};
 ghost use Rattle.cell_pools.specs.Cells.{size_of};
 ghost use Rattle.seq_state.specs.Step.{pools_after, copies_with_room, settle};
-ghost use Rattle.seq_settle.specs.Cells.{AreCells, AreFirstKeys, seen_state};
+ghost use Rattle.seq_settle.specs.Cells.{AreCells, seen_state};
+ghost use Rattle.seq_settle.specs.Order.{AreTimed, NoneComes};
 ghost use Rattle.seq_settle.specs.Sends.{copies_of};
 
 use crate::cells::{pop_first, pop_scheduled};
 use crate::desk::Desk;
 use crate::head::{PlaybackHead, PoppedMessage};
 use crate::keys::{add_key, key_of};
+use crate::order::QueueOrder;
 use crate::playback::Playback;
+use crate::waking::wake;
 use agenda_heap::Agenda;
 use cell_pools::CellStore;
 use memory::OutOfMemory;
@@ -23,13 +25,15 @@ use seq_state::Delivery;
 pub fn settle_all<D: Desk, A: Agenda>(
     desk: &mut D,
     cells: &mut CellStore<Playback<'_>>,
+    order: &mut QueueOrder,
     agenda: &mut A,
     steps: u64,
     moment: u64,
     out: &mut Vec<Delivery>,
 ) -> Result<(), OutOfMemory>
     requires cells { AreCells cells.old.cells steps }
-    requires keys { AreFirstKeys (D.clients desk.old) cells.old.cells (A.content agenda.old) }
+    requires timed { AreTimed (D.clients desk.old) cells.old.cells order.old
+        (A.content agenda.old) }
     ensures state { let was = desk.old in
         let s = seen_state (D.clients was) (D.pools was) (D.edges was) cells.old.cells steps in
         OnOk result
@@ -39,14 +43,15 @@ pub fn settle_all<D: Desk, A: Agenda>(
         let s = seen_state (D.clients was) (D.pools was) (D.edges was) cells.old.cells steps in
         OnOk result (out.new.items ≡ out.old.items ++ (settle s moment).delivered) }
     ensures cells { OnOk result (AreCells cells.new.cells steps) }
-    ensures keys { OnOk result
-        (AreFirstKeys (D.clients desk.new) cells.new.cells (A.content agenda.new)) }
+    ensures timed { OnOk result
+        (AreTimed (D.clients desk.new) cells.new.cells order.new (A.content agenda.new)) }
     ensures sizes { OnOk result ((client : ℕ) →
         size_of cells.new client ≡ size_of cells.old client) }
 
     // Where nothing is due no memory is asked for.
-    ensures idle { NoneDue (A.content agenda.old) moment → IsOk result }
+    ensures idle { NoneComes (D.clients desk.old) cells.old.cells moment → IsOk result }
 {
+    wake(desk, cells, order, agenda, steps, moment)?;
     while let Some(due) = agenda.pop_due(moment) {
         // A message that was scheduled has no event behind it, so that its cell gets no key.
         if let Some(popped) = pop_scheduled(cells, due.0)? {

@@ -12,3 +12,4 @@ mod session;
 mod size_limits;
 mod strangers;
 mod texts;
+mod waiting;

@@ -3,7 +3,7 @@ use Rattle.std.proofs.lemmas.Option.{MatchOption-at_some}
 use Rattle.std.specs.FinMap.{get}
 use Rattle.cell_pools.specs.Cells.{is_of}
 use Rattle.seq_settle.specs.Drops.{kept_cell, stays}
-use Rattle.seq_settle.proofs.Dropped.{kept-some, kept_playbacks, kept_cells, below-start, owners-step, owners-end, alone-end, known-client}
+use Rattle.seq_settle.proofs.Dropped.{is_below, kept-some, kept_playbacks, kept_cells, passed-cells, below-start, owners-step, owners-end, alone-end, known-client}
 use Rattle.seq_settle.proofs.dropping.drop_playbacks.Goals as goal
 
 pub returns-then-not-foreign-clause-playbacks : goal.returns-then-not-foreign-clause-playbacks
@@ -25,18 +25,19 @@ pub loop-number-init : goal.loop-number-init
 loop-number-init g c = record {
   marked = λ q. sym (ap (λ b. cond b (kept_cell (stays c.args.client c.args.which.now) (get c.args.cells.now.cells q)) (get c.args.cells.now.cells q))
       (below-start 128 (get c.args.cells.now.cells q) (λ x e. (known-client c.args.cells.now.cells c.cells_are_of_clients.ensures q x e).0)));
-  keys = λ clients keys. keys;
+  timed = λ clients timed. timed;
   sizes = λ owner. refl;
 }
 
 pub loop-number-preserved : goal.loop-number-preserved
 loop-number-preserved g c =
     let i = c.loop-number.invariant in
+    let are = passed-cells (stays c.args.client c.args.which.now) (λ q. is_below c.loop-number.number (get c.args.cells.now.cells q)) _ _ c.args.steps i.marked c.requires.cells in
     let is : c.unwrap-owner.result ≡ c.loop-number.number = MatchOption-at_some _ (λ n. n ≡ c.loop-number.number) _ c.unwrap-owner.ensures c.new.ensures.value in
     record {
       marked = owners-step (stays c.args.client c.args.which.now) _ _ _ c.loop-number.number i.marked
           (λ q. c.drop_of-in-loop-number.ensures.cells q ∙ ap (λ n. cond (is_of n (get c.loop-number.cells.cells q)) (kept_cell (stays c.args.client c.args.which.now) (get c.loop-number.cells.cells q)) (get c.loop-number.cells.cells q)) is);
-      keys = λ clients keys. c.drop_of-in-loop-number.ensures.keys clients (i.keys clients keys);
+      timed = λ clients timed. c.drop_of-in-loop-number.ensures.timed clients c.args.steps are (i.timed clients timed);
       sizes = λ owner. c.drop_of-in-loop-number.ensures.sizes owner ∙ i.sizes owner;
     }
 

@@ -20,5 +20,5 @@ pub returns : goal.returns
 returns g c =
     let new = filter is_left (playing c.args.turn c.args.queue.now c.args.port c.args.events ∷ []) in
     let a = c.add_playback.ensures in
-    on_ok-three c.add_playback.result (λ more are keys. added-gives c.args.self.now c.args.turn c.args.rank c.args.queue.now c.args.port c.args.events c.add_playback.new.cells _ c.requires.counted c.requires.fresh
-    (more ∙ ap (λ (s : Store RankedPlayback). playbacks s.cells c.args.rank ++ new) c.set_size.ensures) are keys) a.added a.cells a.keys
+    on_ok-three c.add_playback.result (λ more are keys. added-gives c.args.self.now c.args.turn c.args.rank c.args.queue.now c.args.port c.args.events c.add_playback.new.cells c.add_playback.new.order _ c.requires.counted c.requires.fresh
+    (more ∙ ap (λ (s : Store RankedPlayback). playbacks s.cells c.args.rank ++ new) c.set_size.ensures) are keys) a.added a.cells a.timed

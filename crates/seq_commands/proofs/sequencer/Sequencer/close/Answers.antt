@@ -15,6 +15,6 @@ drop_playbacks-requires-clause-alone g c = λ private.
 pub returns : goal.returns
 returns g c =
     let d = c.drop_playbacks.ensures in
-    close-gives c.args.self.now c.args.turn c.drop_playbacks.new.cells _ d.cells c.close.new.self.clients c.close.new.self.graph c.requires.accepted d.playbacks
-    (d.keys (clients_of c.args.self.now) c.requires.whole.keys) d.left
+    close-gives c.args.self.now c.args.turn c.drop_playbacks.new.cells c.drop_playbacks.new.order _ d.cells c.close.new.self.clients c.close.new.self.graph c.requires.accepted d.playbacks
+    (d.timed (clients_of c.args.self.now) c.requires.whole.timed) d.left
     c.close.ensures.graph c.close.ensures.clients
