@@ -5,4 +5,5 @@ pub mod Opened
 pub mod Passes
 pub mod Places
 pub mod Shut
+pub mod ThatMatter
 pub mod Whole

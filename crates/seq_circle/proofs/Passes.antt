@@ -1,10 +1,10 @@
 -- How the members of the least circle are found.
 use Rattle.std.proofs.Common.{◌≡◌, ℕ, zero, suc, ◌+◌, ◌<◌, ◌≤◌, Bool, true, false, not, cond, eqb, ◌||◌, List, [], ◌∷◌, ◌++◌, length, Option, Some, None, refl, sym, ap, subst, ◌∙◌, arith}
-use Rattle.std.specs.Prelude.{slice_get, nat_lt, get_or, take}
+use Rattle.std.specs.Prelude.{slice_get, nat_lt}
 use Rattle.std.specs.List.{filter, list_all, list_any}
 use Rattle.std.proofs.lemmas.Bool.Decides.{nat_tests}
 use Rattle.std.proofs.lemmas.Bool.{false≢true, eqb-true, eq-eqb}
-use Rattle.std.proofs.lemmas.List.{length-append, length-take-le, take_more}
+use Rattle.std.proofs.lemmas.List.{length-append}
 use Rattle.seq_state.specs.declared.input.Input.{Input}
 use Rattle.seq_state.proofs.Lists.{and_both}
 use Rattle.seq_state.proofs.Effects.{none_some}
@@ -47,19 +47,6 @@ pub missing_new : (owner : ℕ) (joined : List Joined) (i : Input) (c : ℕ) →
 missing_new owner joined i c e = (some_missing owner joined i c e).2
 
 -- ---- a pass over inputs
-
-after_front : (owner : ℕ) (joined : List Joined) (n : ℕ) (xs : List Input) (i : Input) → found_after_all owner joined n (xs ++ i ∷ []) ≡ found_after owner (found_after_all owner joined n xs) (n + length xs) i
-after_front owner joined n [] i = ap (λ k. found_after owner joined k i) (omega arith)
-after_front owner joined n (x ∷ xs) i =
-    after_front owner (found_after owner joined n x) (n + 1) xs i
-    ∙ ap (λ k. found_after owner (found_after_all owner (found_after owner joined n x) (n + 1) xs) k i) (omega arith)
-
-pub after_more : (owner : ℕ) (joined : List Joined) (xs : List Input) (k : ℕ) (x : Input) → k < length xs → x ≡ get_or xs k x →
-    found_after_all owner joined 0 (take (k + 1) xs) ≡ found_after owner (found_after_all owner joined 0 (take k xs)) k x
-after_more owner joined xs k x l e =
-    ap (found_after_all owner joined 0) (take_more xs k x l ∙ ap (λ y. take k xs ++ y ∷ []) (sym e))
-    ∙ after_front owner joined 0 (take k xs) x
-    ∙ ap (λ n. found_after owner (found_after_all owner joined 0 (take k xs)) n x) (omega (arith, length-take-le k xs (omega arith)))
 
 asked_one : (owner : ℕ) (inputs : List Input) (joined : List Joined) (n : ℕ) (i : Input) → slice_get inputs n ≡ Some i → AreAsked owner inputs [] joined → AreAsked owner inputs [] (found_after owner joined n i)
 asked_one owner inputs joined n i there a = go (missing_client owner joined i) refl

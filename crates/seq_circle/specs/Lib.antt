@@ -3,3 +3,4 @@ pub mod Least
 pub mod Mending
 pub mod Laws
 pub mod Finding
+pub mod Mattering

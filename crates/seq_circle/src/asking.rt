@@ -3,13 +3,14 @@
 ghost use Rattle.std.specs.Prelude.{◌≡◌};
 ghost use Rattle.std.specs.Option.{option_map};
 ghost use Rattle.seq_state.specs.Circle.{is_inner, aims_outside};
+ghost use Rattle.seq_state.specs.Table.{queue_named};
 ghost use Rattle.seq_circle.specs.Shut.{is_joinable, opens, joined_client, asked_client, target_of};
 ghost use Rattle.seq_circle.specs.Least.{is_member};
 ghost use Rattle.seq_circle.specs.Mending.{making_of, closed_caps};
 
 use crate::members::Members;
 use bitflags::Flags;
-use node_table::{Addr, Caps, ClientId, Node};
+use node_table::{Addr, Caps, ClientId, Node, QueueAddr};
 use seq_state::Command;
 
 /// Whether it is a port of the owner, or a filter of a client that is a member.
@@ -85,15 +86,11 @@ fn joined_client(members: &Members, source: &Addr, target: &Addr) -> Option<Clie
     }
 }
 
-/// The client that a member's command asks into the circle.
-pub(crate) fn asked_client(members: &Members, command: &Command) -> Option<ClientId>
-    ensures { result ≡ asked_client members.now.owner
-        (is_member members.now.owner members.now.joined.items) command.now }
+/// The queue that a command names, if it does.
+pub(crate) fn queue_named(command: &Command) -> Option<QueueAddr>
+    ensures { result ≡ queue_named command.now }
 {
     match command {
-        Command::Connect { source, target } | Command::Disconnect { source, target } => {
-            joined_client(members, source, target)
-        }
         Command::DeleteQueue { queue }
         | Command::Start { queue }
         | Command::Stop { queue }
@@ -102,7 +99,7 @@ pub(crate) fn asked_client(members: &Members, command: &Command) -> Option<Clien
         | Command::QueueStatus { queue }
         | Command::Share { queue }
         | Command::Schedule { queue, .. }
-        | Command::Play { queue, .. } => Some(queue.client),
+        | Command::Play { queue, .. } => Some(*queue),
         Command::Open { .. }
         | Command::Close
         | Command::CreatePort { .. }
@@ -110,6 +107,8 @@ pub(crate) fn asked_client(members: &Members, command: &Command) -> Option<Clien
         | Command::CreateFilter { .. }
         | Command::SetFilter { .. }
         | Command::DeleteFilter { .. }
+        | Command::Connect { .. }
+        | Command::Disconnect { .. }
         | Command::Bytes { .. }
         | Command::Send { .. }
         | Command::CreateQueue { .. }
@@ -120,10 +119,22 @@ pub(crate) fn asked_client(members: &Members, command: &Command) -> Option<Clien
     }
 }
 
+/// The client that a member's command asks into the circle.
+pub(crate) fn asked_client(members: &Members, command: &Command) -> Option<ClientId>
+    ensures { result ≡ asked_client members.now.owner
+        (is_member members.now.owner members.now.joined.items) command.now }
+{
+    if let Command::Connect { source, target } | Command::Disconnect { source, target } = command {
+        return joined_client(members, source, target);
+    }
+    let queue = queue_named(command)?;
+    Some(queue.client)
+}
+
 /// READ, WRITE, DUPLEX, SUBS_READ and NO_EXPORT: all but SUBS_WRITE.
 const CLOSED: u8 = 1 + 2 + 16 + 32 + 128;
 
-fn is_joinable(caps: Caps) -> bool
+pub(crate) fn is_joinable(caps: Caps) -> bool
     ensures { result ≡ is_joinable caps.0 }
 {
     caps.contains(Caps::WRITE) && caps.contains(Caps::SUBS_WRITE)

@@ -1,11 +1,13 @@
 //! The least circle of clients round an owner.
 
-ghost use Rattle.std.specs.Prelude.{◌≡◌, ◌≢◌, ◌++◌, [], IsTrue, IfOk, OnOk};
+ghost use Rattle.std.specs.Prelude.{◌≡◌, ◌≢◌, [], IsTrue, IfOk};
 ghost use Rattle.seq_circle.specs.Shut.{is_shut};
-ghost use Rattle.seq_circle.specs.Least.{is_member, IsLeastCircle, NoneIsShut, place_if, places_where, opens_circle, reaches_out};
+ghost use Rattle.seq_circle.specs.Least.{is_member, IsLeastCircle, NoneIsShut, places_where, opens_circle, reaches_out};
+ghost use Rattle.seq_circle.specs.Mattering.{matters};
 
 use crate::asking::{aims_outside, opens};
 use crate::finding::least_of;
+use crate::mattering::{places_that_matter, push_if};
 use crate::members::{Joined, Members};
 use memory::OutOfMemory;
 use node_table::ClientId;
@@ -23,17 +25,6 @@ pub struct Circle {
     /// The places of the owner's inputs that join or part at a target outside, rising: strangers may change what is
     /// answered to these, and to no others where the circle is shut.
     pub apart: Vec<usize>,
-}
-
-/// Adds a place, where its input passes.
-fn push_if(places: &mut Vec<usize>, place: usize, passes: bool) -> Result<(), OutOfMemory>
-    ensures { OnOk result (places.new.items ≡ places.old.items ++ place_if passes place) }
-{
-    if !passes {
-        return Ok(());
-    }
-    places.push(place)?;
-    Ok(())
 }
 
 /// Whether a member makes a node inside that anyone may join.
@@ -55,32 +46,68 @@ fn openings_of(
     alloc: Global,
     members: &Members,
     inputs: &[Input],
+    places: &[usize],
 ) -> Result<Vec<usize>, OutOfMemory>
-    ensures { IfOk result (λ places. places.items
+    requires { places.now ≡ places_where matters inputs.now }
+    ensures { IfOk result (λ v. v.items
         ≡ places_where (opens_circle members.now.owner members.now.joined.items) inputs.now) }
 {
-    let mut places = Vec::new(alloc);
-    for (place, input) in inputs.iter().enumerate() {
-        push_if(&mut places, place, opens_circle(members, input))?;
+    let mut found = Vec::new(alloc);
+    for place in places {
+        push_if(&mut found, *place, opens_circle(members, &inputs[*place]))?;
     }
-    Ok(places)
+    Ok(found)
 }
 
 /// The places of the owner's inputs whose outcome strangers may change.
-fn apart_of(alloc: Global, members: &Members, inputs: &[Input]) -> Result<Vec<usize>, OutOfMemory>
-    ensures { IfOk result (λ places. places.items
+fn apart_of(
+    alloc: Global,
+    members: &Members,
+    inputs: &[Input],
+    places: &[usize],
+) -> Result<Vec<usize>, OutOfMemory>
+    requires { places.now ≡ places_where matters inputs.now }
+    ensures { IfOk result (λ v. v.items
         ≡ places_where (reaches_out members.now.owner members.now.joined.items) inputs.now) }
 {
-    let mut places = Vec::new(alloc);
-    for (place, input) in inputs.iter().enumerate() {
-        push_if(&mut places, place, reaches_out(members, input))?;
+    let mut found = Vec::new(alloc);
+    for place in places {
+        push_if(&mut found, *place, reaches_out(members, &inputs[*place]))?;
     }
-    Ok(places)
+    Ok(found)
+}
+
+/// What `circle_of` finds, by the places that `places_that_matter` gives: no other input is looked at. It takes a pass
+/// over these for each round of members that ask for others, at most 64, and two more.
+pub fn circle_among(
+    alloc: Global,
+    owner: ClientId,
+    inputs: &[Input],
+    places: &[usize],
+) -> Result<Circle, OutOfMemory>
+    requires { places.now ≡ places_where matters inputs.now }
+    ensures least { IfOk result (λ c. IsLeastCircle owner inputs.now c.joined.items) }
+    ensures openings { IfOk result (λ c. c.openings.items
+        ≡ places_where (opens_circle owner c.joined.items) inputs.now) }
+    ensures apart { IfOk result (λ c. c.apart.items
+        ≡ places_where (reaches_out owner c.joined.items) inputs.now) }
+    ensures shut { IfOk result (λ c. c.openings.items ≡ []
+        → IsTrue (is_shut owner (is_member owner c.joined.items) inputs.now)) }
+    ensures open { IfOk result (λ c. c.openings.items ≢ [] → NoneIsShut owner inputs.now) }
+{
+    let members = least_of(alloc, owner, inputs, places)?;
+    let openings = openings_of(alloc, &members, inputs, places)?;
+    let apart = apart_of(alloc, &members, inputs, places)?;
+    Ok(Circle {
+        joined: members.joined,
+        openings,
+        apart,
+    })
 }
 
 /// The least circle round an owner in which all are whom its members ask for, and the inputs that leave it open. Where
-/// there are such inputs, no circle round the owner is shut. It takes a pass over the inputs for each round of members
-/// that ask for others, at most 64, and two more.
+/// there are such inputs, no circle round the owner is shut. Inputs that can't matter are passed over once; the others
+/// take a pass for each round of members that ask for others, at most 64, and two more.
 pub fn circle_of(alloc: Global, owner: ClientId, inputs: &[Input]) -> Result<Circle, OutOfMemory>
     ensures least { IfOk result (λ c. IsLeastCircle owner inputs.now c.joined.items) }
     ensures openings { IfOk result (λ c. c.openings.items
@@ -91,12 +118,6 @@ pub fn circle_of(alloc: Global, owner: ClientId, inputs: &[Input]) -> Result<Cir
         → IsTrue (is_shut owner (is_member owner c.joined.items) inputs.now)) }
     ensures open { IfOk result (λ c. c.openings.items ≢ [] → NoneIsShut owner inputs.now) }
 {
-    let members = least_of(alloc, owner, inputs)?;
-    let openings = openings_of(alloc, &members, inputs)?;
-    let apart = apart_of(alloc, &members, inputs)?;
-    Ok(Circle {
-        joined: members.joined,
-        openings,
-        apart,
-    })
+    let places = places_that_matter(alloc, inputs)?;
+    circle_among(alloc, owner, inputs, places.as_slice())
 }

@@ -2,7 +2,8 @@
 
 ghost use Rattle.std.specs.Prelude.{◌≡◌, ◌+◌, ◌<◌, ◌≤◌, [], nat_lt, OnOk, IfOk, length, slice_get, Some};
 ghost use Rattle.seq_circle.specs.Finding.{missing_client, found_after, found_after_all, absent_count};
-ghost use Rattle.seq_circle.specs.Least.{is_member, IsLeastCircle};
+ghost use Rattle.seq_circle.specs.Least.{is_member, IsLeastCircle, places_where};
+ghost use Rattle.seq_circle.specs.Mattering.{matters};
 
 use crate::asking::asked_client;
 use crate::members::{Joined, Members};
@@ -41,8 +42,10 @@ fn join_missing(members: &mut Members, input: &Input, place: usize) -> Result<()
     members.join(Joined { client, place })
 }
 
-/// Goes over the inputs once, and adds whom they ask for. Says whether anyone was added.
-fn join_all(members: &mut Members, inputs: &[Input]) -> Result<bool, OutOfMemory>
+/// Goes once over the inputs that may matter, and adds whom they ask for: no other asks for anyone who is missing. Says
+/// whether anyone was added.
+fn join_all(members: &mut Members, inputs: &[Input], places: &[usize]) -> Result<bool, OutOfMemory>
+    requires { places.now ≡ places_where matters inputs.now }
     ensures owner { members.new.owner ≡ members.old.owner }
     ensures joined { OnOk result (members.new.joined.items
         ≡ found_after_all members.old.owner members.old.joined.items 0 inputs.now) }
@@ -54,8 +57,8 @@ fn join_all(members: &mut Members, inputs: &[Input]) -> Result<bool, OutOfMemory
         + absent_count members.old.owner members.old.joined.items) }
 {
     let before = members.joined.len();
-    for (place, input) in inputs.iter().enumerate() {
-        join_missing(members, input, place)?;
+    for place in places {
+        join_missing(members, &inputs[*place], *place)?;
     }
     Ok(before < members.joined.len())
 }
@@ -65,11 +68,13 @@ pub(crate) fn least_of(
     alloc: Global,
     owner: ClientId,
     inputs: &[Input],
+    places: &[usize],
 ) -> Result<Members, OutOfMemory>
+    requires { places.now ≡ places_where matters inputs.now }
     ensures owner { IfOk result (λ m. m.owner ≡ owner) }
     ensures least { IfOk result (λ m. IsLeastCircle owner inputs.now m.joined.items) }
 {
     let mut members = Members::new(alloc, owner);
-    while join_all(&mut members, inputs)? {}
+    while join_all(&mut members, inputs, places)? {}
     Ok(members)
 }

@@ -8,12 +8,14 @@ mod asking;
 mod circle;
 mod finding;
 mod laws;
+mod mattering;
 mod members;
 
 pub use asking::{Making, closed_bits, is_inner, making_of, target_of};
-pub use circle::{Circle, circle_of};
+pub use circle::{Circle, circle_among, circle_of};
 pub use laws::{
     line_more_keeps_shut, mended_is_shut, no_stranger_matters, open_can_be_joined,
     shut_circles_meet, shut_is_closed,
 };
+pub use mattering::places_that_matter;
 pub use members::Joined;

@@ -9,7 +9,7 @@ ghost use Rattle.session_circle.specs.Found.{AreFoundAmong, AreCirclesOf};
 use crate::circle::readings;
 use memory::OutOfMemory;
 use node_table::ClientId;
-use seq_circle::{Circle, circle_of};
+use seq_circle::{Circle, circle_among, places_that_matter};
 use seq_session::{Merged, NamedFiles, Script, ScriptRead, merge};
 use seq_state::Input;
 use std::alloc::Global;
@@ -38,10 +38,11 @@ fn circles_among(
 ) -> Result<Vec<OwnedCircle>, OutOfMemory>
     ensures { IfOk result (λ v. AreFoundAmong inputs.now scripts.now v.items) }
 {
+    let places = places_that_matter(alloc, inputs)?;
     let mut circles = Vec::new(alloc);
     for script in scripts {
         let owner = script.client;
-        let circle = circle_of(alloc, owner, inputs)?;
+        let circle = circle_among(alloc, owner, inputs, places.as_slice())?;
         circles.push(OwnedCircle { owner, circle })?;
     }
     Ok(circles)
@@ -64,7 +65,7 @@ pub(crate) fn circles_of_readings(
 }
 
 /// The least circle round each client that has a script, and whether it is shut: what `circle_of_scripts` says of each.
-/// The inputs are gone over for each circle anew.
+/// All inputs are gone over once, and for each circle only those that may matter to one.
 pub fn circles_of_scripts(
     alloc: Global,
     scripts: &[Script],

@@ -1,8 +1,10 @@
-use Rattle.std.proofs.Common.{◌≡◌, take}
-use Rattle.seq_circle.specs.Least.{places_where, opens_circle}
+use Rattle.std.proofs.Common.{◌≡◌, [], take}
+use Rattle.std.specs.List.{fold}
+use Rattle.seq_circle.specs.Least.{opens_circle}
+use Rattle.seq_circle.proofs.ThatMatter.{step_at, pushed}
 use Rattle.seq_circle.proofs.circle.openings_of.Given as goal
 
 -- the places so far
 abbrev pub invariant-loop-place : goal.invariant-loop-place
 invariant-loop-place l =
-    l.places.items ≡ places_where (opens_circle l.members.owner l.members.joined.items) (take l.place l.inputs)
+    l.found.items ≡ fold (step_at (pushed (opens_circle l.members.owner l.members.joined.items)) l.inputs) [] (take l.place-index l.places)

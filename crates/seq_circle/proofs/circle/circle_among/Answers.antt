@@ -3,7 +3,7 @@ use Rattle.seq_state.specs.declared.input.Input.{Input}
 use Rattle.seq_circle.specs.declared.members.Joined.{Joined}
 use Rattle.seq_circle.specs.Least.{places_where, opens_circle}
 use Rattle.seq_circle.proofs.Places.{shut_when, open_when}
-use Rattle.seq_circle.proofs.circle.circle_of.Goals as goal
+use Rattle.seq_circle.proofs.circle.circle_among.Goals as goal
 
 -- the openings, said of the owner
 openings_round : (o owner : ℕ) (joined : List Joined) (inputs : List Input) (openings : List ℕ) → openings ≡ places_where (opens_circle o joined) inputs → o ≡ owner → openings ≡ places_where (opens_circle owner joined) inputs
