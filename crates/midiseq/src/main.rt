@@ -48,7 +48,15 @@ fn parse<'a>(
     alloc: Global,
     words: &'a [String],
 ) -> Result<Result<ArgMatches<'a>, clap::Error>, AllocError> {
-    Ok(words::command(alloc)?.try_get_matches_from(words))
+    Ok(words::command(alloc)?.try_get_matches_from(help_once(words)))
+}
+
+/// The words, and of `help --help` the first of the two, since clap takes the second for a subcommand.
+fn help_once(words: &[String]) -> &[String] {
+    let twice = words.len() == 3
+        && words[1].as_str() == "help"
+        && (words[2].as_str() == "--help" || words[2].as_str() == "-h");
+    if twice { &words[..2] } else { words }
 }
 
 /// Does what the words say.
