@@ -1,9 +1,9 @@
 -- The least moment at which what waits may be due.
-use Rattle.std.proofs.Common.{◌≡◌, ℕ, ◌+◌, ◌*◌, ◌<◌, ◌≤◌, min, Bool, true, false, Option, Some, None, refl, sym, ap, subst, ◌∙◌, arith}
+use Rattle.std.proofs.Common.{◌≡◌, ℕ, ◌+◌, ◌*◌, ◌≤◌, true, false, Option, Some, None, refl, sym, ap, subst, ◌∙◌, arith}
 use Rattle.std.specs.Ordering.{nat_cmp}
 use Rattle.std.specs.Prelude.{unwrap_or}
 use Rattle.std.specs.FinMap.{FinMap}
-use Rattle.std.proofs.lemmas.Bool.{false≢true, le-leb}
+use Rattle.std.proofs.lemmas.Bool.{le-leb}
 use Rattle.std.proofs.lemmas.Bool.Decides.{nat_tests}
 use Rattle.tempo_clock.specs.Laws.{NoLater}
 use Rattle.tempo_clock.specs.declared.due.Due.{Due}
@@ -18,9 +18,6 @@ use Rattle.seq_settle.specs.Moments.{moment_at, queue_in}
 use Rattle.seq_settle.specs.Order.{base_of, waiting_key, queue_row, time_of}
 use Rattle.seq_settle.specs.Waiting.{is_before}
 use Rattle.seq_settle.proofs.Clocks.{times_rise}
-
-none_some : {X : Type 0} (x : X) → None ≡ Some x → ⊥
-none_some x e = cc
 
 -- of two due times counted alike the one with the lesser number comes no later
 pub due-rises : (d e : Due) → base_of d ≡ base_of e → time_of d ≤ time_of e → due_le d e ≡ true

@@ -1,5 +1,6 @@
 -- An agenda beside which nothing is due that waits tells what all keys together would tell.
-use Rattle.std.proofs.Common.{◌≡◌, ◌≢◌, ℕ, ◌<◌, ◌≤◌, Bool, true, false, cond, eqb, ◌||◌, ◌⊎◌, inl, inr, List, [], ◌∷◌, Option, Some, None, refl, sym, ap, ◌∙◌, arith, eq-eqb}
+use Rattle.std.proofs.lemmas.Option.{none-some, same_Some}
+use Rattle.std.proofs.Common.{◌≡◌, ◌≢◌, ℕ, ◌<◌, ◌≤◌, Bool, true, false, cond, eqb, ◌||◌, inl, inr, List, [], ◌∷◌, Option, Some, None, refl, sym, ap, ◌∙◌, arith}
 use Rattle.std.specs.Prelude.{is_some}
 use Rattle.std.specs.List.{list_any}
 use Rattle.std.specs.declared.cmp.Ordering.TheVariants.{Less, Greater}
@@ -14,22 +15,14 @@ use Rattle.agenda_heap.specs.declared.due_key.DueKey.{DueKey}
 use Rattle.agenda_heap.specs.Due.{due_cmp, IsFirstDue, NoneDue}
 use Rattle.seq_settle.specs.declared.head.PoppedMessage.{PoppedMessage}
 use Rattle.seq_settle.specs.declared.order.QueueOrder.{QueueOrder}
-use Rattle.seq_settle.specs.declared.waiting.QueueKey.{QueueKey}
 use Rattle.seq_settle.specs.Cells.{PlaybackCell, AreCells, cell_rest, key_of}
-use Rattle.seq_settle.specs.Order.{queue_key, IsPlaced, IsWaiter, AreTimed, AreLater, NoneComes}
+use Rattle.seq_settle.specs.Order.{queue_key, IsPlaced, AreTimed, AreLater, NoneComes}
 use Rattle.seq_settle.specs.Sends.{first_popped, key_of_head}
-use Rattle.seq_settle.specs.Waiting.{cell_at}
 use Rattle.seq_settle.proofs.Loop.{Given, given, next_is}
 use Rattle.seq_settle.proofs.Ranks.{same_number}
 use Rattle.seq_settle.proofs.Stores.{get-put_other, put-put}
 use Rattle.seq_settle.proofs.Timed.{keyed-is, keyed-off, timed-turn}
 use Rattle.seq_settle.proofs.Turn.{AreFirstKeys, key_of-some}
-
-none_some : {X : Type 0} (x : X) → None ≡ Some x → ⊥
-none_some x e = cc
-
-some_of : {X : Type 0} (x y : X) → Some x ≡ Some y → x ≡ y
-some_of x y e = cc
 
 -- ---- the keys of all cells
 
@@ -111,7 +104,7 @@ module _ (clients : FinMap nat_cmp Client) (cells : FinMap nat_cmp PlaybackCell)
       next ≡ key_of_head clients r.head → agenda1 ≡ FinMap.remove agenda k → agenda' ≡ with_entry agenda1 k next → AreTimed clients cells' order agenda' × AreLater clients cells' order m
   turn-timed n are k key r next cells' agenda1 agenda' first event rest nk gone a =
       let g : Given cells k = given clients cells (all_keys clients cells) n m k key are (all-keys clients cells) (first-of-all k key first) in
-      let r-is : r ≡ first_popped g.cell g.event g.rest = some_of r (first_popped g.cell g.event g.rest) (event g.cell g.event g.rest g.here g.events) in
+      let r-is : r ≡ first_popped g.cell g.event g.rest = same_Some r (first_popped g.cell g.event g.rest) (event g.cell g.event g.rest g.here g.events) in
       let next-is : next ≡ key_of clients (cell_rest g.cell g.rest) = nk ∙ ap (λ (x : PoppedMessage). key_of_head clients x.head) r-is ∙ next_is clients g.cell g.event g.rest in
       let cells-is : cells' ≡ with_entry cells k (cell_rest g.cell g.rest) = rest g.cell g.event g.rest g.here g.events in (
         timed-turn clients cells order agenda timed k key g.cell g.rest first.here g.here cells' agenda' cells-is
@@ -125,5 +118,5 @@ pub all-left : (clients : FinMap nat_cmp Client) (cells : FinMap nat_cmp Playbac
 all-left clients cells order agenda agenda1 timed k gone q x e = get-put (all_keys clients cells) k None q ∙ go (eqb q k) refl (sym (get-put agenda k None q) ∙ ap (λ m. FinMap.get m q) (sym gone) ∙ e)
   where
     go : (b : Bool) → eqb q k ≡ b → cond b None (FinMap.get agenda q) ≡ Some x → cond b None (FinMap.get (all_keys clients cells) q) ≡ Some x
-    go true t f = absurd (none_some x f)
+    go true t f = absurd (none-some x f)
     go false t f = (all-keys clients cells).keyed q ∙ keyed-is clients cells order agenda timed q x f

@@ -90,9 +90,6 @@ module _ (stays : OwnedPlayback → Bool) (cells cells' : FinMap nat_cmp Playbac
 pub kept-chosen : (client : ℕ) (which : Which) (c : PlaybackCell) → cell_goes client which (head_of c) ≡ true → kept_cell (stays client which) (Some c) ≡ None
 kept-chosen client which c t = ap (λ b. cond (not b) (Some c) None) t
 
-pub kept-other : (client : ℕ) (which : Which) (c : PlaybackCell) → cell_goes client which (head_of c) ≡ false → kept_cell (stays client which) (Some c) ≡ Some c
-kept-other client which c t = ap (λ b. cond (not b) (Some c) None) t
-
 -- what stays stays again
 pub kept-twice : (stays : OwnedPlayback → Bool) (o : Option PlaybackCell) → kept_cell stays (kept_cell stays o) ≡ kept_cell stays o
 kept-twice stays None = refl

@@ -1,12 +1,13 @@
 -- Cells on a queue that changed, while they leave the agenda.
-use Rattle.std.proofs.Common.{◌≡◌, ℕ, ◌≤◌, Bool, true, false, cond, eqb, ◌&&◌, ◌⊎◌, inl, inr, List, [], ◌∷◌, ◌++◌, length, Option, Some, None, refl, sym, ap, subst, ◌∙◌, eq-eqb, arith}
+use Rattle.std.proofs.lemmas.Option.{none-some, same_Some}
+use Rattle.std.proofs.Common.{◌≡◌, ℕ, ◌≤◌, Bool, true, false, cond, eqb, ◌⊎◌, inl, inr, List, [], ◌∷◌, ◌++◌, length, Some, None, refl, sym, ap, subst, ◌∙◌, eq-eqb, arith}
 use Rattle.std.specs.Ordering.{nat_cmp}
 use Rattle.std.specs.FinMap
 use Rattle.std.specs.FinMap.{FinMap}
 use Rattle.std.proofs.lemmas.Bool.{false≢true, eqb-true}
 use Rattle.node_table.specs.declared.number.QueueAddr.{QueueAddr}
 use Rattle.tempo_clock.specs.declared.due.Due.{Due}
-use Rattle.seq_state.specs.State.{Client, DueMessage, with_entry}
+use Rattle.seq_state.specs.State.{Client, DueMessage}
 use Rattle.agenda_heap.specs.declared.due_key.DueKey.{DueKey}
 use Rattle.seq_settle.specs.declared.lists.Listed.{Listed}
 use Rattle.seq_settle.specs.declared.order.QueueOrder.{QueueOrder}
@@ -24,12 +25,6 @@ use Rattle.seq_settle.proofs.QueueKeys.{same-key}
 use Rattle.seq_settle.proofs.Stores.{get-put_here, get-put_other}
 use Rattle.seq_settle.proofs.Turn.{key_at-some}
 use Rattle.seq_settle.proofs.Timed.{one-key, row-one, waits-elsewhere, waits-here}
-
-none_some : {X : Type 0} (x : X) → None ≡ Some x → ⊥
-none_some x e = cc
-
-some_of : {X : Type 0} (x y : X) → Some x ≡ Some y → x ≡ y
-some_of x y e = cc
 
 -- ---- at first
 
@@ -79,7 +74,7 @@ module _ (clients : FinMap nat_cmp Client) (cells : FinMap nat_cmp PlaybackCell)
   pub leaving-aside : (n : ℕ) → AreCells cells n → (c : PlaybackCell) → FinMap.get cells e.cell ≡ Some c → c.1.queue ≡ queue → (order' : QueueOrder) (agenda' : FinMap nat_cmp DueKey) → agenda' ≡ FinMap.remove agenda e.cell →
       ((j : QueueKey) → cell_at order'.waiting j ≡ cond (is_same (queue_key c) j) (Some e.cell) (cell_at order.waiting j)) → order'.lists ≡ order.lists → order'.earliest ≡ order.earliest → AreLeaving clients cells order' agenda' queue left
   leaving-aside n are c at on-queue order' agenda' agenda-is set lists first = record {
-    none = λ q gone. key-off q (λ same. none_some c (sym gone ∙ ap (FinMap.get cells) same ∙ at)) ∙ leaving.none q gone;
+    none = λ q gone. key-off q (λ same. none-some c (sym gone ∙ ap (FinMap.get cells) same ∙ at)) ∙ leaving.none q gone;
     on = λ q d here yes. on q d (eqb q e.cell) refl here yes;
     off = λ q d here no. off q d here no (apart-off q d here no) (leaving.off q d here no);
     waits = λ j q w. waits j q (is_same (queue_key c) j) refl w;
@@ -100,19 +95,19 @@ module _ (clients : FinMap nat_cmp Client) (cells : FinMap nat_cmp PlaybackCell)
       other-key q d apart here = waits-elsewhere (cell_at order.waiting) (cell_at order'.waiting) (queue_key c) (Some e.cell) set (queue_key d) (λ same. apart (one-key cells n q e.cell d c are here at (sym same)))
 
       apart-off : (q : ℕ) (d : PlaybackCell) → FinMap.get cells q ≡ Some d → (d.1.queue ≡ queue → ⊥) → q ≡ e.cell → ⊥
-      apart-off q d here off same = off (ap (λ (x : PlaybackCell). x.1.queue) (some_of d c (sym here ∙ ap (FinMap.get cells) same ∙ at)) ∙ on-queue)
+      apart-off q d here off same = off (ap (λ (x : PlaybackCell). x.1.queue) (same_Some d c (sym here ∙ ap (FinMap.get cells) same ∙ at)) ∙ on-queue)
 
       before : (j : QueueKey) (q : ℕ) (d : PlaybackCell) → (q ≡ e.cell → ⊥) → cell_at order'.waiting j ≡ Some q → cell_at order.waiting j ≡ Some q
       before j q d apart w = go (is_same (queue_key c) j) refl (sym (set j) ∙ w)
         where
           go : (b : Bool) → is_same (queue_key c) j ≡ b → cond b (Some e.cell) (cell_at order.waiting j) ≡ Some q → cell_at order.waiting j ≡ Some q
-          go true t f = absurd (apart (sym (some_of e.cell q f)))
+          go true t f = absurd (apart (sym (same_Some e.cell q f)))
           go false t f = f
 
       on : (q : ℕ) (d : PlaybackCell) (b : Bool) → eqb q e.cell ≡ b → FinMap.get cells q ≡ Some d → d.1.queue ≡ queue → IsIn (listed q d) left ⊎ ((FinMap.get agenda' q ≡ None) × IsWaiting order' q d)
       on q d true t here on-it =
           let same : q ≡ e.cell = eqb-true q e.cell t in
-          let one : c ≡ d = some_of c d (sym at ∙ ap (FinMap.get cells) (sym same) ∙ here) in
+          let one : c ≡ d = same_Some c d (sym at ∙ ap (FinMap.get cells) (sym same) ∙ here) in
           inr (ap (FinMap.get agenda') same ∙ key-here, ap (λ x. cell_at order'.waiting (queue_key x)) (sym one) ∙ waits-set ∙ ap (λ x. Some x) (sym same))
       on q d false t here on-it = step (leaving.on q d here on-it)
         where
@@ -134,7 +129,7 @@ module _ (clients : FinMap nat_cmp Client) (cells : FinMap nat_cmp PlaybackCell)
       waits : (j : QueueKey) (q : ℕ) (b : Bool) → is_same (queue_key c) j ≡ b → cell_at order'.waiting j ≡ Some q → IsWaiter cells agenda' j q
       waits j q true t w =
           let key : queue_key c ≡ j = same-key (queue_key c) j t in
-          let is : e.cell ≡ q = some_of e.cell q (sym (set j ∙ ap (λ b. cond b (Some e.cell) (cell_at order.waiting j)) t) ∙ w) in
+          let is : e.cell ≡ q = same_Some e.cell q (sym (set j ∙ ap (λ b. cond b (Some e.cell) (cell_at order.waiting j)) t) ∙ w) in
           record { cell = c; here = ap (FinMap.get cells) (sym is) ∙ at; key = key; free = ap (FinMap.get agenda') (sym is) ∙ key-here }
       waits j q false t w =
           let old : cell_at order.waiting j ≡ Some q = sym (set j ∙ ap (λ b. cond b (Some e.cell) (cell_at order.waiting j)) t) ∙ w in
@@ -156,7 +151,7 @@ pub key-due : (clients : FinMap nat_cmp Client) (c : PlaybackCell) (key : DueKey
 key-due clients c key e = go c.1.events e
   where
     go : (es : List DueMessage) → cell_key c (first_moment clients (pending_in c) es) ≡ Some key → (due : Due) × (moment_at clients c.1.queue c.1.accepted due ≡ Some key.moment) × (waiting_key_by c.1 (next_due es) ≡ waiting_key c.1.queue c.1.rank due) × (next_due es ≡ Some due)
-    go [] f = absurd (none_some key f)
+    go [] f = absurd (none-some key f)
     go (x ∷ xs) f = (x.due, (key_at-some c (moment_at clients c.1.queue c.1.accepted x.due) key f).0, refl, refl)
 
 -- all of the queue's cells wait, and none is due before the earliest

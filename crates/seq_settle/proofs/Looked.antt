@@ -1,4 +1,5 @@
 -- What a look at a cell tells.
+use Rattle.std.proofs.lemmas.Option.{none-some, same_Some}
 use Rattle.std.proofs.Common.{◌≡◌, ℕ, Bool, true, false, eqb, ◌&&◌, List, [], ◌∷◌, Option, Some, None, refl, sym, ap, ◌∙◌, eq-eqb}
 use Rattle.std.specs.Option.{option_map}
 use Rattle.std.specs.Ordering.{nat_cmp}
@@ -15,25 +16,19 @@ use Rattle.seq_settle.specs.Order.{waiting_key, waiting_key_by, queue_key}
 use Rattle.seq_settle.specs.Sends.{head_of, key_of_head, next_due}
 use Rattle.seq_settle.proofs.NewKeys.{key_of_head-is}
 
-none_some : {X : Type 0} (x : X) → None ≡ Some x → ⊥
-none_some x e = cc
-
-some_of : {X : Type 0} (x y : X) → Some x ≡ Some y → x ≡ y
-some_of x y e = cc
-
 -- no cell is there
 pub looked-none : (o : Option PlaybackCell) (c : PlaybackCell) → None ≡ option_map head_of o → o ≡ Some c → ⊥
-looked-none None c e here = none_some c here
-looked-none (Some d) c e here = none_some (head_of d) e
+looked-none None c e here = none-some c here
+looked-none (Some d) c e here = none-some (head_of d) e
 
 -- it says what the cell says of itself
 pub looked-some : (o : Option PlaybackCell) (c : PlaybackCell) (h : PlaybackHead) → Some h ≡ option_map head_of o → o ≡ Some c → h ≡ head_of c
-looked-some o c h e here = some_of h (head_of c) (e ∙ ap (option_map head_of) here)
+looked-some o c h e here = same_Some h (head_of c) (e ∙ ap (option_map head_of) here)
 
 -- and a cell is there
 pub looked-here : (o : Option PlaybackCell) (h : PlaybackHead) → Some h ≡ option_map head_of o → (c : PlaybackCell) × (o ≡ Some c) × (h ≡ head_of c)
-looked-here None h e = absurd (none_some h (sym e))
-looked-here (Some c) h e = (c, refl, some_of h (head_of c) e)
+looked-here None h e = absurd (none-some h (sym e))
+looked-here (Some c) h e = (c, refl, same_Some h (head_of c) e)
 
 pub looked-due : (o : Option PlaybackCell) (c : PlaybackCell) (h : PlaybackHead) → Some h ≡ option_map head_of o → o ≡ Some c → h.due ≡ next_due c.1.events
 looked-due o c h e here = ap (λ (x : PlaybackHead). x.due) (looked-some o c h e here)
@@ -48,7 +43,7 @@ due-none cells n are q c here none = go c.1.events none (are.filled q c here)
 
     go : (es : List DueMessage) → next_due es ≡ None → is_left (pending_in (c.0, record c.1 { events = es })) ≡ true → ⊥
     go [] e t = false≢true t
-    go (x ∷ xs) e t = none_some x.due (sym e)
+    go (x ∷ xs) e t = none-some x.due (sym e)
 
 -- where a cell stands, by what it says of itself
 pub looked-key : (c : PlaybackCell) (h : PlaybackHead) (due : Due) → h ≡ head_of c → h.due ≡ Some due → waiting_key h.queue h.rank due ≡ queue_key c

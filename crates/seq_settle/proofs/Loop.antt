@@ -1,5 +1,5 @@
 -- What the settling loop keeps, turn by turn.
-use Rattle.std.proofs.Common.{◌≡◌, ℕ, ◌<◌, ◌≤◌, Bool, true, false, cond, eqb, List, [], ◌∷◌, ◌++◌, Option, Some, None, refl, sym, ap, subst, ◌∙◌, append_assoc, append-nil, arith}
+use Rattle.std.proofs.Common.{◌≡◌, ℕ, ◌<◌, Bool, true, false, cond, eqb, List, [], ◌∷◌, ◌++◌, Option, Some, None, refl, sym, ap, subst, ◌∙◌, append_assoc, append-nil}
 use Rattle.std.specs.Ordering.{nat_cmp}
 use Rattle.std.specs.FinMap
 use Rattle.std.specs.FinMap.{FinMap}
@@ -153,13 +153,6 @@ pub has_event : (clients : FinMap nat_cmp Client) (cells : FinMap nat_cmp Playba
 has_event clients cells agenda n m k key o are keys first event none =
     let g : Given cells k = given clients cells agenda n m k key are keys first in
     none_some (first_popped g.cell g.event g.rest) (sym none ∙ event g.cell g.event g.rest g.here g.events)
-
--- where nothing was due at first, nothing is
-pub none_is_due : (agenda was : FinMap nat_cmp DueKey) (k : ℕ) (key : DueKey) (m : ℕ) → IsFirstDue agenda k key m → NoneDue was m → (NoneDue was m → agenda ≡ was) → ⊥
-none_is_due agenda was k key m first none same =
-    let late : m < key.moment = none k key (sym (ap (λ a. FinMap.get a k) (same none)) ∙ first.here) in
-    let due : key.moment ≤ m = first.due in
-    omega arith
 
 -- a cell that the agenda gave has no key any more
 pub gone-again : (agenda left : FinMap nat_cmp DueKey) (k : ℕ) → left ≡ FinMap.remove agenda k → left ≡ with_entry left k None

@@ -1,31 +1,17 @@
--- Keys anew, where one queue changed.
-use Rattle.std.proofs.Common.{◌≡◌, ℕ, ◌+◌, ◌≤◌, Bool, true, false, cond, eqb, ◌&&◌, ◌||◌, take, length, List, [], ◌∷◌, Option, Some, None, refl, sym, ap, subst, ◌∙◌, add-one, eq-eqb}
-use Rattle.std.specs.Prelude.{slice_get}
-use Rattle.std.specs.Option.{option_map}
+-- Keys that stay, and the key of a head.
+use Rattle.std.proofs.Common.{◌≡◌, List, [], ◌∷◌, Some, None, refl, ap}
 use Rattle.std.specs.Ordering.{nat_cmp}
-use Rattle.std.specs.FinMap
 use Rattle.std.specs.FinMap.{FinMap}
-use Rattle.std.proofs.lemmas.Bool.{false≢true, eqb-true}
-use Rattle.std.proofs.lemmas.List.{take_all}
-use Rattle.agenda_heap.specs.declared.due_key.DueKey.{DueKey}
-use Rattle.cell_pools.specs.Cells.{AreKeys, cells_of, is_of}
-use Rattle.node_table.specs.declared.number.QueueAddr.{QueueAddr}
-use Rattle.seq_state.specs.State.{Client, DueMessage, with_entry}
-use Rattle.seq_state.proofs.Effects.{get-put}
-use Rattle.seq_settle.specs.declared.head.PlaybackHead.{PlaybackHead}
+use Rattle.seq_state.specs.State.{Client, DueMessage}
 use Rattle.seq_settle.specs.Moments.{SameMoments}
-use Rattle.seq_settle.specs.Cells.{PlaybackCell, pending_in, AreCells, key_of, cell_key, first_moment}
+use Rattle.seq_settle.specs.Cells.{PlaybackCell, pending_in, key_of, cell_key, first_moment}
 use Rattle.seq_settle.specs.Sends.{head_of, key_of_head, key_of_first, next_due}
-use Rattle.seq_settle.proofs.Marks.{has, has-here, has-take, has-is, mark-one}
-use Rattle.seq_settle.proofs.Turn.{key_of-some}
 
 none_some : {X : Type 0} (x : X) → None ≡ Some x → ⊥
 none_some x e = cc
 
 some_of : {X : Type 0} (x y : X) → Some x ≡ Some y → x ≡ y
 some_of x y e = cc
-
--- ---- keys anew
 
 -- a cell on a queue that gives the same moments has the same key
 pub key_same : (was clients : FinMap nat_cmp Client) (c : PlaybackCell) → SameMoments was clients c.1.queue → key_of was (Some c) ≡ key_of clients (Some c)

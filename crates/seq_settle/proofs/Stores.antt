@@ -161,11 +161,3 @@ playbacks-new cells n k d a b free rank =
     rank_or : Option PlaybackCell → ℕ
     rank_or None = 0
     rank_or (Some x) = x.1.rank
-
--- a key that no other cell has, where its cell has none
-pub fresh_removed : {X : Type 0} (m n : FinMap nat_cmp X) (k q : ℕ) (x : X) → n ≡ FinMap.remove m k → (FinMap.get m q ≡ Some x → q ≡ k) → FinMap.get n q ≡ Some x → ⊥
-fresh_removed {X = X} m n k q x e alone f = go (eqb q k) refl (sym (get-put m k None q) ∙ ap (λ a. FinMap.get a q) (sym e) ∙ f)
-  where
-    go : (b : Bool) → eqb q k ≡ b → cond b None (FinMap.get m q) ≡ Some x → ⊥
-    go true t g = none_some x g
-    go false t g = false≢true (sym t ∙ eq-eqb q k (alone g))

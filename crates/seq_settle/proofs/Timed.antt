@@ -1,4 +1,5 @@
 -- What waits in the order of its queue, and what the agenda has beside it.
+use Rattle.std.proofs.lemmas.Option.{none-some, same_Some}
 use Rattle.std.proofs.Common.{◌≡◌, ◌≢◌, ℕ, ◌+◌, ◌-◌, ◌*◌, ◌<◌, ◌≤◌, Bool, true, false, cond, eqb, ◌⊎◌, inl, inr, List, [], ◌∷◌, Option, Some, None, refl, sym, ap, subst, ◌∙◌, eq-eqb, arith}
 use Rattle.std.specs.Ordering.{nat_cmp}
 use Rattle.std.specs.FinMap
@@ -22,12 +23,6 @@ use Rattle.seq_settle.proofs.NewKeys.{key_same}
 use Rattle.seq_settle.proofs.QueueKeys.{same-key, same-itself}
 use Rattle.seq_settle.proofs.Stores.{put-some, get-put_here, get-put_other}
 use Rattle.seq_settle.proofs.Turn.{key_of-some}
-
-none_some : {X : Type 0} (x : X) → None ≡ Some x → ⊥
-none_some x e = cc
-
-some_of : {X : Type 0} (x y : X) → Some x ≡ Some y → x ≡ y
-some_of x y e = cc
 
 -- ---- rows and keys
 
@@ -87,7 +82,7 @@ pub waits-left : (was now : QueueKey → Option ℕ) (k : QueueKey) → ((j : Qu
 waits-left was now k set j q e = go (is_same k j) refl (sym (set j) ∙ e)
   where
     go : (b : Bool) → is_same k j ≡ b → cond b None (was j) ≡ Some q → (k ≡ j → ⊥) × (was j ≡ Some q)
-    go true t f = absurd (none_some q f)
+    go true t f = absurd (none-some q f)
     go false t f = (λ same. false≢true (sym t ∙ ap (is_same k) (sym same) ∙ same-itself k), f)
 
 -- ---- a cell and its key change together
@@ -143,7 +138,7 @@ module _ (clients : FinMap nat_cmp Client) (cells : FinMap nat_cmp PlaybackCell)
 
 -- what the agenda has does not wait
 pub keyed-off : (clients : FinMap nat_cmp Client) (cells : FinMap nat_cmp PlaybackCell) (order : QueueOrder) (agenda : FinMap nat_cmp DueKey) → AreTimed clients cells order agenda → (k : ℕ) (key : DueKey) → FinMap.get agenda k ≡ Some key → (j : QueueKey) → cell_at order.waiting j ≡ Some k → ⊥
-keyed-off clients cells order agenda timed k key at j e = none_some key (sym (timed.waits j k e).free ∙ at)
+keyed-off clients cells order agenda timed k key at j e = none-some key (sym (timed.waits j k e).free ∙ at)
 
 -- and is listed
 pub keyed-listed : (clients : FinMap nat_cmp Client) (cells : FinMap nat_cmp PlaybackCell) (order : QueueOrder) (agenda : FinMap nat_cmp DueKey) → AreTimed clients cells order agenda → (k : ℕ) (key : DueKey) (c : PlaybackCell) → FinMap.get agenda k ≡ Some key → FinMap.get cells k ≡ Some c → IsOnList order k c
@@ -151,7 +146,7 @@ keyed-listed clients cells order agenda timed k key c at here = go (timed.placed
   where
     go : IsPlaced clients order agenda k c → IsOnList order k c
     go (inl h) = h.1
-    go (inr h) = absurd (none_some key (sym h.0 ∙ at))
+    go (inr h) = absurd (none-some key (sym h.0 ∙ at))
 
 -- the first event of a cell goes
 pub timed-turn : (clients : FinMap nat_cmp Client) (cells : FinMap nat_cmp PlaybackCell) (order : QueueOrder) (agenda : FinMap nat_cmp DueKey) → AreTimed clients cells order agenda → (k : ℕ) (key : DueKey) (c : PlaybackCell) (es : List DueMessage) → FinMap.get agenda k ≡ Some key →
@@ -160,16 +155,16 @@ timed-turn clients cells order agenda timed k key c es at here =
     put-timed clients cells order order agenda timed k (cell_rest c es) (keyed-off clients cells order agenda timed k key at) (own es) (λ q d e l. l) (λ j. refl) refl
   where
     own : (xs : List DueMessage) (d : PlaybackCell) → cell_rest c xs ≡ Some d → IsOnList order k d
-    own [] d e = absurd (none_some d e)
-    own (x ∷ xs) d e = subst (IsOnList order k) (some_of _ d e) (keyed-listed clients cells order agenda timed k key c at here)
+    own [] d e = absurd (none-some d e)
+    own (x ∷ xs) d e = subst (IsOnList order k) (same_Some _ d e) (keyed-listed clients cells order agenda timed k key c at here)
 
 -- a cell comes
 pub timed-added : (clients : FinMap nat_cmp Client) (cells : FinMap nat_cmp PlaybackCell) (order order' : QueueOrder) (agenda : FinMap nat_cmp DueKey) → AreTimed clients cells order agenda → (k : ℕ) (c : PlaybackCell) → FinMap.get cells k ≡ None → IsOnList order' k c →
     ((q : ℕ) (d : PlaybackCell) → FinMap.get cells q ≡ Some d → IsOnList order q d → IsOnList order' q d) → order'.waiting ≡ order.waiting → order'.earliest ≡ order.earliest →
     (cells' : FinMap nat_cmp PlaybackCell) (agenda' : FinMap nat_cmp DueKey) → cells' ≡ with_entry cells k (Some c) → agenda' ≡ with_entry agenda k (key_of clients (Some c)) → AreTimed clients cells' order' agenda'
 timed-added clients cells order order' agenda timed k c free own kept waiting first =
-    put-timed clients cells order order' agenda timed k (Some c) (λ j e. none_some (timed.waits j k e).cell (sym free ∙ (timed.waits j k e).here))
-    (λ d e. subst (IsOnList order' k) (some_of c d e) own) kept (λ j. ap (λ w. cell_at w j) waiting) first
+    put-timed clients cells order order' agenda timed k (Some c) (λ j e. none-some (timed.waits j k e).cell (sym free ∙ (timed.waits j k e).here))
+    (λ d e. subst (IsOnList order' k) (same_Some c d e) own) kept (λ j. ap (λ w. cell_at w j) waiting) first
 
 -- ---- a cell goes
 
@@ -201,7 +196,7 @@ timed-gone clients cells order order' agenda n are timed k c here set lists firs
     off : (j : QueueKey) (q : ℕ) → (queue_key c ≡ j → ⊥) → cell_at order.waiting j ≡ Some q → q ≡ k → ⊥
     off j q apart e at =
         let w : IsWaiter cells agenda j q = timed.waits j q e in
-        apart (ap queue_key (some_of c w.cell (sym here ∙ ap (FinMap.get cells) (sym at) ∙ w.here)) ∙ w.key)
+        apart (ap queue_key (same_Some c w.cell (sym here ∙ ap (FinMap.get cells) (sym at) ∙ w.here)) ∙ w.key)
 
     waits : (j : QueueKey) (q : ℕ) → (queue_key c ≡ j → ⊥) → cell_at order.waiting j ≡ Some q → IsWaiter cells' agenda' j q
     waits j q apart e =
@@ -216,7 +211,7 @@ timed-gone clients cells order order' agenda n are timed k c here set lists firs
     )
 
     placed : (q : ℕ) (d : PlaybackCell) → ((q ≡ k) × (None ≡ Some d)) ⊎ ((q ≡ k → ⊥) × (FinMap.get cells q ≡ Some d)) → IsPlaced clients order' agenda' q d
-    placed q d (inl h) = absurd (none_some d h.1)
+    placed q d (inl h) = absurd (none-some d h.1)
     placed q d (inr h) = elsewhere q d h.0 h.1 (timed.placed q d h.1)
 
 -- ---- a cell that waits comes to the agenda
@@ -225,7 +220,7 @@ pub timed-woken : (clients : FinMap nat_cmp Client) (cells : FinMap nat_cmp Play
     cell_at order.waiting j ≡ Some k → FinMap.get cells k ≡ Some c → key_of clients (Some c) ≡ Some key → ((i : QueueKey) → cell_at order'.waiting i ≡ cond (is_same j i) None (cell_at order.waiting i)) → IsOnList order' k c →
     ((q : ℕ) (d : PlaybackCell) → FinMap.get cells q ≡ Some d → IsOnList order q d → IsOnList order' q d) → order'.earliest ≡ order.earliest → (agenda' : FinMap nat_cmp DueKey) → agenda' ≡ FinMap.insert agenda k key → AreTimed clients cells order' agenda'
 timed-woken clients cells order order' agenda n are timed j k c key at here keyed set own kept first agenda' agenda-is = record {
-  none = λ q e. key-off q (λ same. none_some c (sym e ∙ ap (FinMap.get cells) same ∙ here)) ∙ timed.none q e;
+  none = λ q e. key-off q (λ same. none-some c (sym e ∙ ap (FinMap.get cells) same ∙ here)) ∙ timed.none q e;
   placed = λ q d e. placed q d (eqb q k) refl e;
   waits = λ i q e. let w = waits-left (cell_at order.waiting) (cell_at order'.waiting) j set i q e in waits i q w.0 w.1;
   early = λ i q x e f. subst (λ m. m ≤ x.moment) (sym first) (timed.early i q x (waits-left (cell_at order.waiting) (cell_at order'.waiting) j set i q e).1 f);
@@ -238,12 +233,12 @@ timed-woken clients cells order order' agenda n are timed j k c key at here keye
     key-off q apart = ap (λ m. FinMap.get m q) agenda-is ∙ get-put_other agenda k (Some key) q apart
 
     its-key : queue_key c ≡ j
-    its-key = let w : IsWaiter cells agenda j k = timed.waits j k at in ap queue_key (some_of c w.cell (sym here ∙ w.here)) ∙ w.key
+    its-key = let w : IsWaiter cells agenda j k = timed.waits j k at in ap queue_key (same_Some c w.cell (sym here ∙ w.here)) ∙ w.key
 
     waits : (i : QueueKey) (q : ℕ) → (j ≡ i → ⊥) → cell_at order.waiting i ≡ Some q → IsWaiter cells agenda' i q
     waits i q apart e =
         let w : IsWaiter cells agenda i q = timed.waits i q e in
-        let off : q ≡ k → ⊥ = λ same. apart (sym its-key ∙ ap queue_key (some_of c w.cell (sym here ∙ ap (FinMap.get cells) (sym same) ∙ w.here)) ∙ w.key) in
+        let off : q ≡ k → ⊥ = λ same. apart (sym its-key ∙ ap queue_key (same_Some c w.cell (sym here ∙ ap (FinMap.get cells) (sym same) ∙ w.here)) ∙ w.key) in
         record { cell = w.cell; here = w.here; key = w.key; free = key-off q off ∙ w.free }
 
     elsewhere : (q : ℕ) (d : PlaybackCell) → (q ≡ k → ⊥) → FinMap.get cells q ≡ Some d → IsPlaced clients order agenda q d → IsPlaced clients order' agenda' q d
@@ -256,7 +251,7 @@ timed-woken clients cells order order' agenda n are timed j k c key at here keye
     placed : (q : ℕ) (d : PlaybackCell) (b : Bool) → eqb q k ≡ b → FinMap.get cells q ≡ Some d → IsPlaced clients order' agenda' q d
     placed q d true t e =
         let same : q ≡ k = eqb-true q k t in
-        let one : c ≡ d = some_of c d (sym here ∙ ap (FinMap.get cells) (sym same) ∙ e) in
+        let one : c ≡ d = same_Some c d (sym here ∙ ap (FinMap.get cells) (sym same) ∙ e) in
         inl (ap (FinMap.get agenda') same ∙ key-here ∙ sym keyed ∙ ap (λ x. key_of clients (Some x)) one, subst (λ x. IsOnList order' x d) (sym same) (subst (IsOnList order' k) one own))
     placed q d false t e = elsewhere q d (λ same. false≢true (sym t ∙ eq-eqb q k same)) e (timed.placed q d e)
 
@@ -280,10 +275,10 @@ keyed-is clients cells order agenda timed q key at = go (FinMap.get cells q) ref
   where
     placed : (c : PlaybackCell) → FinMap.get cells q ≡ Some c → IsPlaced clients order agenda q c → key_of clients (Some c) ≡ Some key
     placed c here (inl h) = sym h.0 ∙ at
-    placed c here (inr h) = absurd (none_some key (sym h.0 ∙ at))
+    placed c here (inr h) = absurd (none-some key (sym h.0 ∙ at))
 
     go : (o : Option PlaybackCell) → FinMap.get cells q ≡ o → key_of clients o ≡ Some key
-    go None here = absurd (none_some key (sym (timed.none q here) ∙ at))
+    go None here = absurd (none-some key (sym (timed.none q here) ∙ at))
     go (Some c) here = placed c here (timed.placed q c here)
 
 -- no other cell has the key of a cell

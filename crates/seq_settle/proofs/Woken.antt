@@ -1,32 +1,28 @@
 -- What waits comes to the agenda.
-use Rattle.std.proofs.Common.{◌≡◌, ℕ, ◌+◌, ◌-◌, ◌*◌, ◌^◌, ◌<◌, ◌≤◌, Bool, true, false, eqb, ◌||◌, Option, Some, None, refl, sym, ap, subst, ◌∙◌, eq-eqb, arith}
+use Rattle.std.proofs.lemmas.Option.{same_Some}
+use Rattle.std.proofs.Common.{◌≡◌, ℕ, ◌+◌, ◌*◌, ◌<◌, ◌≤◌, Bool, true, false, ◌||◌, Option, Some, None, refl, sym, ap, ◌∙◌, arith}
 use Rattle.std.specs.Ordering.{nat_cmp}
 use Rattle.std.specs.FinMap
 use Rattle.std.specs.FinMap.{FinMap}
-use Rattle.std.proofs.lemmas.Bool.{false≢true, eqb-true}
+use Rattle.std.proofs.lemmas.Bool.{false≢true}
 use Rattle.tempo_clock.specs.declared.due.Due.{Due}
 use Rattle.tempo_clock.specs.declared.due.Due.TheVariants.{Tick, Nanos}
 use Rattle.node_table.specs.declared.number.QueueAddr.{QueueAddr}
 use Rattle.seq_state.specs.State.{Client}
 use Rattle.agenda_heap.specs.declared.due_key.DueKey.{DueKey}
-use Rattle.seq_settle.specs.declared.lists.Listed.{Listed}
 use Rattle.seq_settle.specs.declared.order.QueueOrder.{QueueOrder}
 use Rattle.seq_settle.specs.declared.waiting.QueueKey.{QueueKey}
 use Rattle.seq_settle.specs.Cells.{PlaybackCell, AreCells, IsQueue, key_of}
-use Rattle.seq_settle.specs.Lists.{IsIn, IsLive, list_at}
 use Rattle.seq_settle.specs.Moments.{moment_at}
-use Rattle.seq_settle.specs.Order.{base_of, time_of, waiting_key, waiting_key_by, queue_key, queue_row, listed, IsOnList, IsWaiter, AreTimed}
+use Rattle.seq_settle.specs.Order.{base_of, time_of, waiting_key, waiting_key_by, queue_key, queue_row, IsWaiter, AreTimed}
 use Rattle.seq_settle.specs.Sends.{head_of, next_due}
 use Rattle.seq_settle.specs.Waiting.{cell_at, is_before, is_same}
 use Rattle.seq_settle.specs.Waking.{IsLeastMoment}
 use Rattle.seq_settle.proofs.Bounds.{due-rises}
 use Rattle.seq_settle.proofs.Leaving.{key-due}
 use Rattle.seq_settle.proofs.Looked.{due-none}
-use Rattle.seq_settle.proofs.QueueKeys.{before-first, before-next, before-row, place_of, place-rises, same-key}
+use Rattle.seq_settle.proofs.QueueKeys.{before-next, before-row, same-key}
 use Rattle.seq_settle.proofs.Timed.{key-rank, row-one}
-
-some_of : {X : Type 0} (x y : X) → Some x ≡ Some y → x ≡ y
-some_of x y e = cc
 
 -- ---- going over what waits, from the least key up
 
@@ -34,9 +30,6 @@ some_of x y e = cc
 abbrev pub ArePassed : FinMap nat_cmp Client → FinMap nat_cmp PlaybackCell → QueueOrder → QueueKey → ℕ → ℕ → Type 0
 ArePassed clients cells order from moment earliest =
     (k : QueueKey) (q : ℕ) (key : DueKey) → cell_at order.waiting k ≡ Some q → is_before k from ≡ true → key_of clients (FinMap.get cells q) ≡ Some key → (moment < key.moment) × (earliest ≤ key.moment)
-
-pub passed-first : (clients : FinMap nat_cmp Client) (cells : FinMap nat_cmp PlaybackCell) (order : QueueOrder) (moment earliest : ℕ) → ArePassed clients cells order (record { row = 0; time = 0; rank = 0 }) moment earliest
-passed-first clients cells order moment earliest k q key at before f = absurd (false≢true (sym (before-first k) ∙ before))
 
 -- rows of due times that are alike are of one queue, and count alike
 pub row-alike : (a b : QueueAddr) (d e : Due) → IsQueue a → IsQueue b → 2 * queue_row a + base_of d ≡ 2 * queue_row b + base_of e → (a ≡ b) × (base_of d ≡ base_of e)
@@ -74,7 +67,7 @@ module _ (clients : FinMap nat_cmp Client) (cells : FinMap nat_cmp PlaybackCell)
 
       here : k0 ≡ k → (moment < key.moment) × (earliest' ≤ key.moment)
       here same =
-          let is : q0 ≡ q = some_of q0 q (sym first ∙ ap (cell_at order.waiting) same ∙ was k q at) in
+          let is : q0 ≡ q = same_Some q0 q (sym first ∙ ap (cell_at order.waiting) same ∙ was k q at) in
           own key (ap (cell_at order'.waiting) same ∙ at ∙ ap (λ x. Some x) (sym is)) (ap (λ x. key_of clients (FinMap.get cells x)) is ∙ f)
 
       go : (b : Bool) → is_before k k0 ≡ b → (b || is_same k0 k) ≡ true → (moment < key.moment) × (earliest' ≤ key.moment)
@@ -95,7 +88,7 @@ module _ (clients : FinMap nat_cmp Client) (cells : FinMap nat_cmp PlaybackCell)
       w0 = timed.waits k0 q0 first
 
       its-key : queue_key d ≡ k0
-      its-key = ap queue_key (some_of d w0.cell (sym here ∙ w0.here)) ∙ w0.key
+      its-key = ap queue_key (same_Some d w0.cell (sym here ∙ w0.here)) ∙ w0.key
 
       -- in the row
       within : (due0 : Due) → next_due d.1.events ≡ Some due0 → is_before k from ≡ false → (moment < key.moment) × (earliest' ≤ key.moment)
@@ -121,7 +114,7 @@ module _ (clients : FinMap nat_cmp Client) (cells : FinMap nat_cmp PlaybackCell)
       go true t = old t
       go false t = at-due (next_due d.1.events) refl t
 
--- ---- the keys fit, and rise
+-- ---- the keys fit
 
 pub row-small : (cells : FinMap nat_cmp PlaybackCell) (agenda : FinMap nat_cmp DueKey) (n : ℕ) → AreCells cells n → (k : QueueKey) (q : ℕ) → IsWaiter cells agenda k q → (k.row < 1024) × (k.rank < n)
 row-small cells agenda n are k q w =
@@ -141,13 +134,3 @@ row-small cells agenda n are k q w =
     go None low high few = omega arith
     go (Some (Tick t)) low high few = omega arith
     go (Some (Nanos t)) low high few = omega arith
-
-pub measure-row : (from k : QueueKey) → from.time < 2 ^ 64 → from.rank < 2 ^ 64 → k.time < 2 ^ 64 → k.rank < 2 ^ 64 → k.row < 1024 → is_before k from ≡ false → 2 ^ 160 - place_of (record { row = k.row + 1; time = 0; rank = 0 }) < 2 ^ 160 - place_of from
-measure-row from k ft fr kt kr small behind =
-    let rises : place_of from ≤ place_of k = place-rises from k fr ft kr kt behind in
-    omega (arith, rises, kt, kr, small)
-
-pub measure-next : (from k : QueueKey) → from.time < 2 ^ 64 → from.rank < 2 ^ 64 → k.time < 2 ^ 64 → k.rank < 2 ^ 64 → k.row < 1024 → is_before k from ≡ false → 2 ^ 160 - place_of (record { row = k.row; time = k.time; rank = k.rank + 1 }) < 2 ^ 160 - place_of from
-measure-next from k ft fr kt kr small behind =
-    let rises : place_of from ≤ place_of k = place-rises from k fr ft kr kt behind in
-    omega (arith, rises, kt, kr, small)

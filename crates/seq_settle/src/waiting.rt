@@ -20,6 +20,13 @@ pub struct QueueKey {
     pub rank: u64,
 }
 
+/// The least key.
+pub(crate) const FIRST: QueueKey = QueueKey {
+    row: 0,
+    time: 0,
+    rank: 0,
+};
+
 /// Cells that wait in the order of their queues.
 #[derive(Drop)]
 pub struct WaitingCells {

@@ -1,10 +1,12 @@
 //! What waits, and is due.
 
-ghost use Rattle.std.specs.Prelude.{◌≡◌, ◌<◌, ◌≤◌, ℕ, None, Some, IsOk, OnOk, if◌then◌else◌};
+ghost use Rattle.std.specs.Prelude.{◌≡◌, ◌<◌, ◌≤◌, ◌-◌, ◌^◌, ℕ, None, Some, IsOk, OnOk, if◌then◌else◌, unwrap_or};
 ghost use Rattle.std.specs.Ordering.{nat_cmp};
 ghost use Rattle.std.specs.FinMap as map;
 ghost use Rattle.agenda_heap.specs.declared.due_key.DueKey.{DueKey};
 ghost use Rattle.seq_settle.specs.Cells.{PlaybackCell, AreCells, key_of};
+ghost use Rattle.seq_settle.specs.Moments.{moment_at};
+ghost use Rattle.tempo_clock.specs.declared.due.Due.{Due};
 ghost use Rattle.seq_settle.specs.Order.{AreLater, AreTimed, NoneComes};
 ghost use Rattle.seq_settle.specs.Sends.{head_of};
 ghost use Rattle.seq_settle.specs.Waiting.{cell_at, is_same};
@@ -18,7 +20,7 @@ use crate::keys::key_of;
 use crate::lists::Listed;
 use crate::order::{QueueOrder, row_of};
 use crate::playback::Playback;
-use crate::waiting::QueueKey;
+use crate::waiting::{FIRST, QueueKey};
 use agenda_heap::{Agenda, DueKey};
 use cell_pools::{CellKey, CellStore};
 use memory::OutOfMemory;
@@ -49,11 +51,7 @@ pub(crate) fn wake<D: Desk, A: Agenda>(
         return Ok(());
     }
     let mut earliest = u64::MAX;
-    let mut from = QueueKey {
-        row: 0,
-        time: 0,
-        rank: 0,
-    };
+    let mut from = FIRST;
     while let Some(first) = order.waiting.first_from(from) {
         let key = first.0;
         let Some(head) = head_at(cells, first.1) else {
@@ -90,7 +88,9 @@ pub(crate) fn wake<D: Desk, A: Agenda>(
 
 /// No event of a cell's queue that is due by its due time or later has an earlier moment than this, in nanoseconds.
 fn least_moment<D: Desk>(desk: &D, head: &PlaybackHead) -> u64
-    ensures { IsLeastMoment (D.clients desk.now) head.now result }
+    ensures bound { IsLeastMoment (D.clients desk.now) head.now result }
+    ensures greatest { (due : Due) → head.now.due ≡ Some due →
+        result ≡ unwrap_or (moment_at (D.clients desk.now) head.now.queue 0 due) (2 ^ 64 - 1) }
 {
     let Some(due) = head.due else {
         return u64::MAX;

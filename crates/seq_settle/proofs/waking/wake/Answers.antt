@@ -32,7 +32,7 @@ loop-first-preserved-then-least-moment g c =
       fits = (omega arith, omega arith);
       timed = i.timed;
       passed = passed-row (g.D.Desk.clients c.args.desk.now) c.args.cells.now.cells c.loop-first.order (g.A.Agenda.content c.loop-first.agenda) c.args.steps c.requires.cells i.timed c.loop-first.from c.args.moment c.loop-first.earliest i.passed c.in-Some.first.0 c.in-Some.first.1 c.in-Some.ensures.there c.in-Some.ensures.least
-          x.0 x.1 c.least_moment-least.result (subst (λ h. IsLeastMoment (g.D.Desk.clients c.args.desk.now) h c.least_moment-least.result) x.2 c.least_moment-least.ensures) c.if-least-moment.true c.min-earliest.result
+          x.0 x.1 c.least_moment-least.result (subst (λ h. IsLeastMoment (g.D.Desk.clients c.args.desk.now) h c.least_moment-least.result) x.2 c.least_moment-least.ensures.bound) c.if-least-moment.true c.min-earliest.result
           (omega (arith, c.min-earliest.ensures)) (omega (arith, c.min-earliest.ensures));
     }
 
