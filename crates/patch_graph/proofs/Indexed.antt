@@ -373,6 +373,17 @@ module _ (aged : List (Edge × ℕ)) (ts us : List (List (Addr × ℕ))) (next c
   pub same_tables : (ts' us' : List (List (Addr × ℕ))) → ts' ≡ ts → us' ≡ us → AreAged aged ts' us' next count
   same_tables ts' us' e f = subst (λ xs. AreAged aged xs us' next count) (sym e) (subst (λ xs. AreAged aged ts xs next count) (sym f) k)
 
+  -- where there is an edge, the tables have their places
+  pub whole_by_count : (count ≡ 0 → ⊥) → (length ts ≡ 2048) × (length us ≡ 2048)
+  whole_by_count some = (k.onward.list_places (omega (arith, k.counted, some)), k.back.list_places (omega (arith, k.counted, some)))
+
+  pub none_by_count : count ≡ 0 → edges_of aged ≡ []
+  none_by_count none = ap edges_of (nothing aged (omega (arith, k.counted, none)))
+    where
+      nothing : {X : Type 0} (xs : List X) → length xs ≡ 0 → xs ≡ []
+      nothing [] e = refl
+      nothing (x ∷ xs) e = absurd (omega arith)
+
   module _ (s t : Addr) (n : ℕ) (found : lookup (is_edge s t) aged ≡ Some n) where
     gone : (without_age n aged ≡ without s t aged) × (length (without s t aged) + 1 ≡ length aged)
     gone = gone_by_age 0 aged next s t n k.rising k.graph.distinct found

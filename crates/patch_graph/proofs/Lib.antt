@@ -11,3 +11,4 @@ pub mod Coming
 pub mod Walked
 pub mod Ended
 pub mod Made
+pub mod Closed

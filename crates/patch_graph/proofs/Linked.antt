@@ -1,10 +1,10 @@
 -- Lists whose ages rise, and nodes beside their ages.
-use Rattle.std.proofs.Common.{◌≡◌, ◌≤◌, ◌<◌, ℕ, zero, suc, ◌+◌, ◌^◌, Bool, true, false, not, cond, eqb, List, [], ◌∷◌, ◌++◌, map, length, take, drop, get_or, Some, refl, ap, sym, ◌∙◌, arith}
+use Rattle.std.proofs.Common.{◌≡◌, ◌≤◌, ◌<◌, ℕ, zero, suc, ◌+◌, Bool, true, false, not, cond, eqb, List, [], ◌∷◌, ◌++◌, map, length, take, drop, get_or, Some, refl, ap, sym, ◌∙◌, arith}
 use Rattle.std.specs.List.{filter, remove, zip}
 use Rattle.std.specs.Map.{lookup}
 use Rattle.std.proofs.Math.Seq.{drop-cons}
 use Rattle.std.proofs.lemmas.Bool.Decides.{nat_tests}
-use Rattle.std.proofs.lemmas.List.{take_more}
+use Rattle.std.proofs.lemmas.List.{take_more, length-map, get_or-map}
 use Rattle.std.proofs.lemmas.Slice.Zip.{get_or-zip}
 use Rattle.patch_graph.specs.Aged.{IsRising}
 
@@ -89,6 +89,20 @@ module _ {X : Type 0} where
   length_zipped (k ∷ ks) [] e = absurd (omega arith)
   length_zipped (k ∷ ks) (v ∷ vs) e = ap suc (length_zipped ks vs (omega arith))
 
+  pub zip-halves : (xs : List (X × ℕ)) → zip (map (λ x. x.0) xs) (map (λ x. x.1) xs) ≡ xs
+  zip-halves [] = refl
+  zip-halves (x ∷ xs) = ap (λ ys. x ∷ ys) (zip-halves xs)
+
+  pub halves_long : (xs : List (X × ℕ)) → length (map (λ x. x.1) xs) ≡ length (map (λ x. x.0) xs)
+  halves_long [] = refl
+  halves_long (x ∷ xs) = ap suc (halves_long xs)
+
+  pub halves_zip : (xs : List (X × ℕ)) (ks : List X) (vs : List ℕ) → ks ≡ map (λ x. x.0) xs → vs ≡ map (λ x. x.1) xs → zip ks vs ≡ xs
+  halves_zip xs ks vs e f = (λ j. zip (e j) (f j)) ∙ zip-halves xs
+
+  pub halves_match : (xs : List (X × ℕ)) (ks : List X) (vs : List ℕ) → ks ≡ map (λ x. x.0) xs → vs ≡ map (λ x. x.1) xs → length vs ≡ length ks
+  halves_match xs ks vs e f = ap length f ∙ halves_long xs ∙ sym (ap length e)
+
   pub rising_ages : (k : ℕ) (ks : List X) (vs : List ℕ) (next i j d : ℕ) → length vs ≡ length ks → IsRising k (zip ks vs) next → i ≤ j → j < length vs → get_or vs i d ≤ get_or vs j d
   rising_ages k ks [] next i j d e h l m = absurd (omega arith)
   rising_ages k [] (v ∷ vs) next i j d e h l m = absurd (omega arith)
@@ -110,18 +124,11 @@ module _ {X : Type 0} where
       ap (λ xs. (k, v) ∷ xs) (no_age ks vs age (λ i l e. h (suc i) (omega arith) e))
       ∙ sym (ap (λ b. cond b ((k, v) ∷ without_age age (zip ks vs)) (without_age age (zip ks vs))) (not_age v age (h 0 (omega arith))))
 
-  pub removed_link : (ks : List X) (vs : List ℕ) (i age : ℕ) → length vs ≡ length ks → IsRising 0 (zip ks vs) (2 ^ 64) → i < length vs → get_or vs i 0 ≡ age → zip (remove ks i) (remove vs i) ≡ without_age age (zip ks vs)
-  removed_link [] [] i age e h l f = absurd (omega arith)
-  removed_link [] (v ∷ vs) i age e h l f = absurd (omega arith)
-  removed_link (k ∷ ks) [] i age e h l f = absurd (omega arith)
-  removed_link (k ∷ ks) (v ∷ vs) i age e h l f =
-      zip-remove (k ∷ ks) (v ∷ vs) i e ∙ removed_age 0 (zip (k ∷ ks) (v ∷ vs)) (2 ^ 64) i age (k, 0) h (omega (arith, length_zipped (k ∷ ks) (v ∷ vs) e)) (at (k ∷ ks) (v ∷ vs) i e l ∙ f)
-    where
-      at : (ls : List X) (ws : List ℕ) (i : ℕ) → length ws ≡ length ls → i < length ws → (get_or (zip ls ws) i (k, 0)).1 ≡ get_or ws i 0
-      at ls [] i e l = absurd (omega arith)
-      at [] (w ∷ ws) i e l = absurd (omega arith)
-      at (x ∷ ls) (w ∷ ws) zero e l = refl
-      at (x ∷ ls) (w ∷ ws) (suc i) e l = at ls ws i (omega arith) (omega arith)
+  pub removed_link : (xs : List (X × ℕ)) (i age next : ℕ) → IsRising 0 xs next → i < length (map (λ x. x.1) xs) → get_or (map (λ x. x.1) xs) i 0 ≡ age → remove xs i ≡ without_age age xs
+  removed_link [] i age next h l e = absurd (omega arith)
+  removed_link (x ∷ xs) i age next h l e =
+      let within : i < length (x ∷ xs) = omega (arith, length-map (x ∷ xs) (λ (y : X × ℕ). y.1)) in
+      removed_age 0 (x ∷ xs) next i age x h within (sym (get_or-map (λ (y : X × ℕ). y.1) (x ∷ xs) i x 0 within) ∙ e)
 
   -- what a loop over both lists comes to
   module _ (ks : List X) (vs : List ℕ) (xs : List (X × ℕ)) (i : ℕ) (k : X) (v : ℕ) (long : length vs ≡ length ks) (is : zip ks vs ≡ xs) (within : i < length ks) (key : k ≡ get_or ks i k) (value : v ≡ get_or vs i v) where

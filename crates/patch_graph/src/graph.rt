@@ -91,15 +91,16 @@ fn age_at(lists: &[Links], node: &Addr, other: &Addr) -> Option<u64>
     }
 }
 
-/// The youngest edge at a node, as the node at its other end and its age.
-fn last_at(lists: &[Links], node: &Addr) -> Option<(Addr, u64)>
+/// Removes the youngest edge at the place of a node, and gives the node at its other end and its age.
+fn pop_at(lists: &mut [Links], node: &Addr) -> Option<(Addr, u64)>
+    requires { length lists.old ≡ places }
     ensures { (row place : ℕ) × IsPlace node.now row place
-        × (result ≡ youngest (slice_index_or lists.now place [])) }
+        × (result ≡ youngest (slice_index_or lists.old place []))
+        × IfSome result (λ x. lists.new ≡ slice_set lists.old place
+        (filter (λ y. not (y.1 == x.1)) (slice_index_or lists.old place [])))
+        × IfNone result (lists.new ≡ lists.old) }
 {
-    match lists.get(place_of(node)) {
-        Some(list) => list.last(),
-        None => None,
-    }
+    lists[place_of(node)].pop()
 }
 
 /// Removes the edge of an age at the place of a node.
@@ -297,10 +298,13 @@ impl PatchGraph {
         ensures none { OnFalse result (targets_of self.old source.now ≡ []) }
         ensures kept { OnFalse result (self.new ≡ self.old) }
     {
-        let Some((target, age)) = last_at(&self.targets, source) else {
+        if self.count == 0 {
+            return false;
+        }
+        let Some((target, age)) = pop_at(&mut self.targets, source) else {
             return false;
         };
-        unlink(&mut self.targets, &mut self.sources, source, &target, age);
+        remove_at(&mut self.sources, &target, age);
         self.count -= 1;
         true
     }
@@ -314,10 +318,13 @@ impl PatchGraph {
         ensures none { IfNone result (origins_of self.old target.now ≡ []) }
         ensures kept { IfNone result (self.new ≡ self.old) }
     {
-        let Some((source, age)) = last_at(&self.sources, target) else {
+        if self.count == 0 {
+            return None;
+        }
+        let Some((source, age)) = pop_at(&mut self.sources, target) else {
             return None;
         };
-        unlink(&mut self.targets, &mut self.sources, &source, target, age);
+        remove_at(&mut self.targets, &source, age);
         self.count -= 1;
         Some(source)
     }

@@ -1,6 +1,7 @@
 //! The graph of subscriptions: who is joined to whom, in order of age, and the paths that a message takes.
 #![tactic(auto)]
 
+mod closing;
 mod edge;
 mod fault;
 mod found;

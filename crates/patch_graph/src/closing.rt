@@ -1,0 +1,126 @@
+//! Places that are closed in two lists, one beside the other.
+
+ghost use Rattle.std.specs.Prelude.{◌≡◌, ◌≤◌, ◌<◌, ◌+◌, ◌-◌, length};
+ghost use Rattle.std.specs.List.{remove};
+
+use node_table::Addr;
+
+/// Moves so many elements, from a place on, up by one.
+// A move of a known length is a few loads and stores. One of any length moves an address after the other.
+#[inline(always)]
+fn move_up<T: Copy, const N: usize>(items: &mut [T], place: usize)
+    requires { place + N < length items.old }
+    ensures count { length items.new ≡ length items.old }
+    ensures rest { remove items.new place ≡ remove items.old (place + N) }
+{
+    items.copy_within(place..place + N, place + 1);
+}
+
+/// Moves so many elements, from behind a place on, down by one.
+#[inline(always)]
+fn move_down<T: Copy, const N: usize>(items: &mut [T], place: usize)
+    requires { place + N < length items.old }
+    ensures count { length items.new ≡ length items.old }
+    ensures rest { remove items.new (place + N) ≡ remove items.old place }
+{
+    items.copy_within(place + 1..place + 1 + N, place);
+}
+
+/// Moves what stands before a place up by one, so many at once as long as there are so many. It gives the place that is
+/// then to be closed.
+#[inline(always)]
+fn lift<const N: usize>(nodes: &mut [Addr], ages: &mut [u64], place: usize) -> usize
+    requires some { 0 < N }
+    requires within { place < length nodes.old }
+    requires beside { length ages.old ≡ length nodes.old }
+    ensures few { (result < N) × (result < length nodes.old) }
+    ensures nodes { remove nodes.new result ≡ remove nodes.old place }
+    ensures ages { remove ages.new result ≡ remove ages.old place }
+    ensures node_count { length nodes.new ≡ length nodes.old }
+    ensures age_count { length ages.new ≡ length ages.old }
+{
+    let mut at = place;
+    while at >= N {
+        at -= N;
+        move_up::<Addr, N>(nodes, at);
+        move_up::<u64, N>(ages, at);
+    }
+    at
+}
+
+/// Moves what stands behind a place down by one, so many at once as long as there are so many. It gives the place that
+/// is then to be closed.
+#[inline(always)]
+fn lower<const N: usize>(nodes: &mut [Addr], ages: &mut [u64], place: usize) -> usize
+    requires some { 0 < N }
+    requires within { place < length nodes.old }
+    requires beside { length ages.old ≡ length nodes.old }
+    ensures few { (result < length nodes.old) × (length nodes.old ≤ result + N) }
+    ensures nodes { remove nodes.new result ≡ remove nodes.old place }
+    ensures ages { remove ages.new result ≡ remove ages.old place }
+    ensures node_count { length nodes.new ≡ length nodes.old }
+    ensures age_count { length ages.new ≡ length ages.old }
+{
+    let last = nodes.len() - 1;
+    let mut at = place;
+    while last - at >= N {
+        move_down::<Addr, N>(nodes, at);
+        move_down::<u64, N>(ages, at);
+        at += N;
+    }
+    at
+}
+
+/// Closes a place by all that stands before it.
+fn lift_all(nodes: &mut [Addr], ages: &mut [u64], place: usize)
+    requires within { place < length nodes.old }
+    requires beside { length ages.old ≡ length nodes.old }
+    ensures nodes { remove nodes.new 0 ≡ remove nodes.old place }
+    ensures ages { remove ages.new 0 ≡ remove ages.old place }
+    ensures node_count { length nodes.new ≡ length nodes.old }
+    ensures age_count { length ages.new ≡ length ages.old }
+{
+    let at = lift::<8>(nodes, ages, place);
+    let at = lift::<4>(nodes, ages, at);
+    let at = lift::<2>(nodes, ages, at);
+    lift::<1>(nodes, ages, at);
+}
+
+/// Closes a place by all that stands behind it.
+fn lower_all(nodes: &mut [Addr], ages: &mut [u64], place: usize)
+    requires within { place < length nodes.old }
+    requires beside { length ages.old ≡ length nodes.old }
+    ensures nodes { remove nodes.new (length nodes.old - 1) ≡ remove nodes.old place }
+    ensures ages { remove ages.new (length nodes.old - 1) ≡ remove ages.old place }
+    ensures node_count { length nodes.new ≡ length nodes.old }
+    ensures age_count { length ages.new ≡ length ages.old }
+{
+    let at = lower::<8>(nodes, ages, place);
+    let at = lower::<4>(nodes, ages, at);
+    let at = lower::<2>(nodes, ages, at);
+    lower::<1>(nodes, ages, at);
+}
+
+/// Removes what stands at a place of both lists, by what stands before it from `first` on. So `first` itself is free.
+pub fn close_upward(nodes: &mut Vec<Addr>, ages: &mut Vec<u64>, first: usize, place: usize)
+    requires within { (first ≤ place) × (place < length nodes.old.items) }
+    requires beside { length ages.old.items ≡ length nodes.old.items }
+    ensures nodes { remove nodes.new.items first ≡ remove nodes.old.items place }
+    ensures ages { remove ages.new.items first ≡ remove ages.old.items place }
+    ensures node_count { length nodes.new.items ≡ length nodes.old.items }
+    ensures age_count { length ages.new.items ≡ length ages.old.items }
+{
+    lift_all(&mut nodes[first..], &mut ages[first..], place - first);
+}
+
+/// Removes what stands at a place of both lists, by what stands behind it.
+pub fn close_downward(nodes: &mut Vec<Addr>, ages: &mut Vec<u64>, place: usize)
+    requires within { place < length nodes.old.items }
+    requires beside { length ages.old.items ≡ length nodes.old.items }
+    ensures nodes { nodes.new.items ≡ remove nodes.old.items place }
+    ensures ages { ages.new.items ≡ remove ages.old.items place }
+{
+    lower_all(nodes, ages, place);
+    nodes.pop();
+    ages.pop();
+}
