@@ -1,4 +1,4 @@
-pub mod Tracks
+pub mod ReadTracks
 pub mod Chunks
 pub mod Sorting
 pub mod Places
@@ -9,6 +9,7 @@ pub mod Apart
 pub mod Merging
 pub mod Beginning
 pub mod Writing
+pub mod WritingTracks
 pub mod Heaps
 pub mod Divisions
 pub mod Increasing

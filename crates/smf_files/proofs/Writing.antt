@@ -20,9 +20,8 @@ use Rattle.smf_grammar.specs.Chunks.{most_bytes}
 use Rattle.smf_grammar.specs.Laws.{ReadsBack}
 use Rattle.smf_grammar.specs.Texts.{shortest, message_text, events_text, track_text, chunk_text, file_text, stands_in_files, can_follow, bad_event}
 use Rattle.smf_grammar.proofs.TextFile.{reads-text}
-use Rattle.smf_files.specs.declared.fault.WriteFault.TheVariants.{BadPpq, BadTempo, TooLarge, OutOfMemory}
-use Rattle.smf_files.specs.declared.fault.WriteFault.{WriteFault}
-use Rattle.smf_files.specs.Refusals.{refusal_by, write_refusal, told_refusal}
+use Rattle.smf_files.specs.declared.fault.WriteFault.TheVariants.{BadPpq, BadTempo, TooLarge}
+use Rattle.smf_files.specs.Refusals.{refusal_by, write_refusal}
 
 -- ---- which messages stand in files
 
@@ -114,12 +113,12 @@ pub shifted-zero : (o : Option ℕ) → shifted 0 o ≡ o
 shifted-zero None = refl
 shifted-zero (Some k) = let e : 0 + k ≡ k = omega arith in ap Some e
 
-pub front : (events : List Event) (i : ℕ) (e : Event) → i < length events → e ≡ get_or events i e → drop i events ≡ e ∷ drop (i + 1) events
+pub front : {A : Type 0} (events : List A) (i : ℕ) (e : A) → i < length events → e ≡ get_or events i e → drop i events ≡ e ∷ drop (i + 1) events
 front [] i e h is = absurd (omega arith)
-front (x ∷ xs) zero e h is = ap (λ (y : Event). y ∷ xs) (sym is)
+front {A = A} (x ∷ xs) zero e h is = ap (λ (y : A). y ∷ xs) (sym is)
 front (x ∷ xs) (suc i) e h is = let n : suc i + 1 ≡ suc (i + 1) = omega arith in front xs i e (omega arith) is ∙ ap (λ (k : ℕ). e ∷ drop k (x ∷ xs)) (sym n)
 
-pub nothing-left : (events : List Event) (i : ℕ) → length events ≤ i → drop i events ≡ []
+pub nothing-left : {A : Type 0} (events : List A) (i : ℕ) → length events ≤ i → drop i events ≡ []
 nothing-left [] zero h = refl
 nothing-left [] (suc i) h = refl
 nothing-left (x ∷ xs) zero h = absurd (omega arith)
@@ -250,10 +249,10 @@ back ppq tempo events t messages h = reads-text ppq tempo events (record {
   small = (let n : length (file_text ppq tempo events) ≡ length (events_text 0 events) + 33 = file-length ppq tempo events in omega arith);
 })
 
--- out of memory refuses no events
-pub nothing-refused : {A : Type 0} (r : Result A WriteFault) (o : Option WriteFault) → IfErr r (λ x. x ≡ OutOfMemory) → o ≡ None → IfErr r (λ x. o ≡ told_refusal x)
-nothing-refused (Ok a) o h e = tt
-nothing-refused (Err x) o h e = e ∙ sym (ap told_refusal h)
+-- a fault that says nothing refuses nothing
+pub nothing-refused : {A E R : Type 0} (told : E → Option R) (lack : E) (r : Result A E) (o : Option R) → told lack ≡ None → IfErr r (λ x. x ≡ lack) → o ≡ None → IfErr r (λ x. o ≡ told x)
+nothing-refused told lack (Ok a) o silent h e = tt
+nothing-refused told lack (Err x) o silent h e = e ∙ sym (ap told h ∙ silent)
 
 pub whole-steps : (ppq tempo size : ℕ) (events : List Event) (none head format one division kind tempos written' whole : List ℕ) → size ≡ length (events_text 0 events) →
     none ≡ [] → head ≡ none ++ (77 ∷ 84 ∷ 104 ∷ 100 ∷ []) ++ big_bytes 4 6 → format ≡ head ++ big_bytes 2 0 → one ≡ format ++ big_bytes 2 1 → division ≡ one ++ big_bytes 2 ppq →

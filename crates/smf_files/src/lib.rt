@@ -1,4 +1,4 @@
-//! Standard MIDI Files 1.0 (RP-001), read from lent bytes, and written as format 0.
+//! Standard MIDI Files 1.0 (RP-001), read from lent bytes, and written: events as format 0, tracks as they are.
 #![tactic(auto)]
 
 mod cursor;
@@ -9,12 +9,14 @@ mod heads;
 mod place;
 mod playable;
 mod track;
+mod tracks;
 mod write;
 
 pub use cursor::Cursor;
-pub use fault::WriteFault;
+pub use fault::{TracksFault, WriteFault};
 pub use file::SmfFile;
 pub use memory::OutOfMemory;
-pub use smf_grammar::{Event, QuantityFault, SmfFault, quantity};
+pub use smf_grammar::{Event, EventBytes, PairBytes, QuantityFault, SmfFault, quantity};
 pub use tempo_clock::{TempoEntry, TempoMap};
+pub use tracks::write_tracks;
 pub use write::{stands_in_files, write_format0};

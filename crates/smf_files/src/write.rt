@@ -18,7 +18,7 @@ use std::alloc::Global;
 use tempo_clock::{MOST_PPQ, MOST_TEMPO};
 
 /// The greatest delta time, 0FFFFFFF.
-const MOST_DELTA: u64 = 268_435_455;
+pub(crate) const MOST_DELTA: u64 = 268_435_455;
 
 /// How many bytes a file has besides its events: the headers of the file and of the track, the tempo and the end of
 /// track.
@@ -64,7 +64,7 @@ fn first_bad(events: &[Event]) -> Option<usize>
 
 /// How many bytes the shortest spelling of a quantity has.
 #[tactic(auto, unfolding(smf_grammar::specs::Texts::shortest))]
-fn quantity_size(value: u64) -> usize
+pub(crate) fn quantity_size(value: u64) -> usize
     ensures value { result ≡ length (shortest value) }
     ensures few { result ≤ 4 }
 {
@@ -108,7 +108,7 @@ fn events_size(events: &[Event]) -> Option<usize>
 
 /// Adds the shortest spelling of a quantity.
 #[tactic(auto, unfolding(smf_grammar::specs::Texts::shortest))]
-fn push_quantity(value: u32, out: &mut Vec<u8>) -> Result<(), OutOfMemory>
+pub(crate) fn push_quantity(value: u32, out: &mut Vec<u8>) -> Result<(), OutOfMemory>
     requires { value < 2 ^ 28 }
     ensures { OnOk result (out.new.items ≡ out.old.items ++ shortest value) }
 {
@@ -170,7 +170,11 @@ fn push_events(alloc: Global, events: &[Event], out: &mut Vec<u8>) -> Result<(),
 }
 
 /// Adds the type and the length of a chunk.
-fn push_chunk_header(kind: &[u8], size: u32, out: &mut Vec<u8>) -> Result<(), OutOfMemory>
+pub(crate) fn push_chunk_header(
+    kind: &[u8],
+    size: u32,
+    out: &mut Vec<u8>,
+) -> Result<(), OutOfMemory>
     ensures { OnOk result (out.new.items ≡ out.old.items ++ kind.now ++ big_bytes 4 size) }
 {
     let mut length = [0; 4];
@@ -181,7 +185,7 @@ fn push_chunk_header(kind: &[u8], size: u32, out: &mut Vec<u8>) -> Result<(), Ou
 }
 
 /// Adds a number of two bytes.
-fn push_u16(value: u16, out: &mut Vec<u8>) -> Result<(), OutOfMemory>
+pub(crate) fn push_u16(value: u16, out: &mut Vec<u8>) -> Result<(), OutOfMemory>
     ensures { OnOk result (out.new.items ≡ out.old.items ++ big_bytes 2 value) }
 {
     let mut bytes = [0; 2];

@@ -7,4 +7,5 @@ pub mod Statuses
 pub mod Sound
 pub mod Spelled
 pub mod TextFile
+pub mod WrittenFile
 pub mod Never

@@ -90,7 +90,7 @@ event-spelled (s ∷ tail) = if s == 240 then Exclusive tail else Voice s tail
 byte-text : (b : ℕ) (rest : List ℕ) → nat_lt b 128 ≡ true → data_byte_at (b ∷ rest) ≡ Ok (b, rest)
 byte-text b rest h = let low : is_status b ≡ false = grind (arith, nat_tests) in ap (λ (t : Bool). if t then Err BadData else Ok (b, rest)) low
 
-group-text : (w : Width) (tail more : List ℕ) → IsTrue (is_group w tail) → group_at w (tail ++ more) ≡ Ok (tail, more)
+pub group-text : (w : Width) (tail more : List ℕ) → IsTrue (is_group w tail) → group_at w (tail ++ more) ≡ Ok (tail, more)
 unfolding group_at
 group-text One [] more h = let bad : false ≡ true = h in let none : ⊥ = cc in absurd none
 group-text One (a ∷ []) more h =
@@ -128,14 +128,25 @@ not-exclusive s ne e = grind (arith, nat_tests)
 abbrev EventReads : Option ℕ → List ℕ → List ℕ → Type 0
 EventReads running m more = event_at running (message_text m ++ more) ≡ Ok (event-spelled m, more)
 
-voice-text : (running : Option ℕ) (s : ℕ) (w : Width) (tail more : List ℕ) → begins s ≡ wire.Channel w → IsTrue (is_group w tail) → EventReads running (s ∷ tail) more
-unfolding event_at voice_at event-spelled
-voice-text running s w tail more is group =
+channel-status : (s : ℕ) (w : Width) → begins s ≡ wire.Channel w → (nat_lt s 128 ≡ false) × (nat_lt s 240 ≡ true)
+channel-status s w is =
     let high : nat_lt s 128 ≡ false = elim (leb_tells (suc s) 128) as (λ _. nat_lt s 128 ≡ false) [ inl a ↦ (let bad : wire.Nothing ≡ wire.Channel w = sym (begins-low s a.1) ∙ is in cc) | inr a ↦ a.0 ] in
     let low : nat_lt s 240 ≡ true = elim (leb_tells 240 s) as (λ _. nat_lt s 240 ≡ true) [ inl a ↦ (let bad : true ≡ false = sym (ap is_channel is) ∙ channel-from s a.1 in cc) | inr a ↦ le-leb (suc s) 240 a.1 ] in
-    let other : (s == 240) ≡ false = grind (arith, nat_tests, low) in
-    rw (other, high, low, is)
+    (high, low)
+
+pub voice-whole : (running : Option ℕ) (s : ℕ) (w : Width) (tail more : List ℕ) → begins s ≡ wire.Channel w → IsTrue (is_group w tail) → event_at running (s ∷ (tail ++ more)) ≡ Ok (Voice s tail, more)
+unfolding event_at voice_at
+voice-whole running s w tail more is group =
+    let range : (nat_lt s 128 ≡ false) × (nat_lt s 240 ≡ true) = channel-status s w is in
+    rw (range.0, range.1, is)
     (ap (λ (r : Result (List ℕ × List ℕ) PairFault). r >>= λ group. Ok (Voice s group.0, group.1)) (group-text w tail more group))
+
+voice-text : (running : Option ℕ) (s : ℕ) (w : Width) (tail more : List ℕ) → begins s ≡ wire.Channel w → IsTrue (is_group w tail) → EventReads running (s ∷ tail) more
+unfolding event-spelled
+voice-text running s w tail more is group =
+    let low : nat_lt s 240 ≡ true = (channel-status s w is).1 in
+    let other : (s == 240) ≡ false = grind (arith, nat_tests, low) in
+    rw other (voice-whole running s w tail more is group)
 
 exclusive-text : (running : Option ℕ) (tail more : List ℕ) → length tail ≤ 268435455 → EventReads running (240 ∷ tail) more
 unfolding event_at event-spelled

@@ -1,10 +1,10 @@
 -- A written file is read back.
-use Rattle.std.proofs.Common.{◌≡◌, ◌≢◌, ◌≤◌, ◌<◌, ◌^◌, ℕ, suc, ◌+◌, ◌-◌, Bool, true, false, not, List, [], ◌∷◌, ◌++◌, ◌∙◌, length, drop, map, refl, arith, ap, sym, subst, append_assoc, ◌⊎◌, inl, inr}
+use Rattle.std.proofs.Common.{◌≡◌, ◌≢◌, ◌≤◌, ◌<◌, ◌^◌, ℕ, suc, ◌+◌, ◌-◌, Bool, true, false, not, List, [], ◌∷◌, ◌++◌, ◌∙◌, length, length-append, map, refl, arith, ap, sym, subst, append_assoc, ◌⊎◌, inl, inr}
 use Rattle.std.specs.Prelude.{Option, Some, None, Result, Ok, if◌then◌else◌, IsTrue, nat_le, ◌==◌, ◌&&◌, is_some, codes}
 use Rattle.std.specs.Option.{option_map}
 use Rattle.std.proofs.lemmas.Bool.{le-leb, leb-true}
 use Rattle.std.proofs.lemmas.Bool.Decides.{eqb_tells, nat_tests}
-use Rattle.std.proofs.Math.Seq.{take-length}
+use Rattle.std.proofs.Math.Seq.{take-append_seam, drop-append_seam}
 use Rattle.byteorder.specs.Endian.{big_number, big_bytes}
 use Rattle.byteorder.specs.Numbers.{big_number-reads_back}
 use Rattle.midi_wire.specs.Messages.{IsMessage, AllMessages, is_message, begins}
@@ -20,6 +20,7 @@ use Rattle.smf_grammar.specs.Chunks.{is_frame_division, header_of, header_at, ch
 use Rattle.smf_grammar.specs.Files.{ArePairs, IsTrack, Track}
 use Rattle.smf_grammar.specs.Contents.{put_by_tick, in_order, message_of, event_if, events_from, events_of, tempo_in, tempo_of, entry_if, tempos_from, entries_of, last_at_each, default_entry, is_skipped, skipped_in, skipped_in_all, skipped_of}
 use Rattle.smf_grammar.specs.Texts.{shortest, message_text, events_text, track_text, chunk_text, file_text, can_follow, bad_event, stands_in_files}
+use Rattle.smf_grammar.specs.Written.{header_text}
 use Rattle.smf_grammar.specs.Laws.{ReadsText}
 use Rattle.smf_grammar.proofs.Spelled.{quantity-shortest, quantity-byte, event-spelled, sized-text, event-text, pair-parts}
 
@@ -129,31 +130,37 @@ track-whole tempo events h k =
 
 -- ---- the chunks
 
-chunk-text : (kind : Bool) (content : List ℕ) → length content < 256 ^ 4 → chunk_at (chunk_text (codes "MTrk") content) ≡ Ok (record { is_track = true; content = content }, [])
+-- a track, and what follows it
+pub chunk-text : (content rest : List ℕ) → length content < 256 ^ 4 → chunk_at (chunk_text (codes "MTrk") content ++ rest) ≡ Ok (record { is_track = true; content = content }, rest)
 unfolding chunk_at
-chunk-text kind content small =
-    let number : big_number 4 (big_bytes 4 (length content) ++ content) ≡ length content = big_number-reads_back 4 (length content) content small in
-    let long : nat_le 8 (length (chunk_text (codes "MTrk") content)) ≡ true = le-leb 8 (length (chunk_text (codes "MTrk") content)) (omega arith) in
-    let fits : nat_le (big_number 4 (big_bytes 4 (length content) ++ content)) (length content) ≡ true = le-leb (big_number 4 (big_bytes 4 (length content) ++ content)) (length content) (omega arith) in
-    rw (long, fits, number, take-length content, drop-length content) refl
-  where
-    drop-length : (xs : List ℕ) → drop (length xs) xs ≡ []
-    drop-length [] = refl
-    drop-length (x ∷ xs) = drop-length xs
+chunk-text content rest small =
+    let number : big_number 4 (big_bytes 4 (length content) ++ (content ++ rest)) ≡ length content = big_number-reads_back 4 (length content) (content ++ rest) small in
+    let sum : length (content ++ rest) ≡ length content + length rest = length-append content rest in
+    let long : nat_le 8 (length (chunk_text (codes "MTrk") content ++ rest)) ≡ true = le-leb 8 (length (chunk_text (codes "MTrk") content ++ rest)) (omega arith) in
+    let fits : nat_le (big_number 4 (big_bytes 4 (length content) ++ (content ++ rest))) (length (content ++ rest)) ≡ true = le-leb (big_number 4 (big_bytes 4 (length content) ++ (content ++ rest))) (length (content ++ rest)) (omega arith) in
+    rw (long, fits, number, take-append_seam content rest, drop-append_seam content rest) refl
 
-header-text : (ppq : ℕ) (rest : List ℕ) → IsTrue (is_ppq ppq) → length (chunk_text (codes "MThd") (big_bytes 2 0 ++ big_bytes 2 1 ++ big_bytes 2 ppq) ++ rest) ≤ 16777216 →
-    header_at (chunk_text (codes "MThd") (big_bytes 2 0 ++ big_bytes 2 1 ++ big_bytes 2 ppq) ++ rest) ≡ Ok (record { format = 0; tracks = 1; division = ppq }, rest)
-unfolding header_at header_of
-header-text ppq rest in_range small =
+pub header-text : (format tracks division : ℕ) (rest : List ℕ) → format < 65536 → tracks < 65536 → division < 65536 → header_of format tracks division ≡ Ok (record { format = format; tracks = tracks; division = division }) →
+    length (header_text format tracks division ++ rest) ≤ 16777216 → header_at (header_text format tracks division ++ rest) ≡ Ok (record { format = format; tracks = tracks; division = division }, rest)
+unfolding header_at
+header-text format tracks division rest a b d headed small =
+    let first : big_number 2 (big_bytes 2 format ++ (big_bytes 2 tracks ++ (big_bytes 2 division ++ rest))) ≡ format = big_number-reads_back 2 format (big_bytes 2 tracks ++ (big_bytes 2 division ++ rest)) (omega arith) in
+    let second : big_number 2 (big_bytes 2 tracks ++ (big_bytes 2 division ++ rest)) ≡ tracks = big_number-reads_back 2 tracks (big_bytes 2 division ++ rest) (omega arith) in
+    let third : big_number 2 (big_bytes 2 division ++ rest) ≡ division = big_number-reads_back 2 division rest (omega arith) in
+    let fits : nat_le (length (header_text format tracks division ++ rest)) 16777216 ≡ true = le-leb _ _ small in
+    let long : nat_le 8 (length (header_text format tracks division ++ rest)) ≡ true = le-leb 8 (length (header_text format tracks division ++ rest)) (omega arith) in
+    let content : nat_le 6 (length (big_bytes 2 format ++ big_bytes 2 tracks ++ big_bytes 2 division ++ rest)) ≡ true = le-leb 6 (length (big_bytes 2 format ++ big_bytes 2 tracks ++ big_bytes 2 division ++ rest)) (omega arith) in
+    rw (fits, long, content, first, second, third, headed) refl
+
+-- ticks per quarter note stand in a header of one track
+ticks-header : (ppq : ℕ) → IsTrue (is_ppq ppq) → header_of 0 1 ppq ≡ Ok (record { format = 0; tracks = 1; division = ppq })
+unfolding header_of
+ticks-header ppq in_range =
     let low : 1 ≤ ppq = leb-true 1 ppq (and_true (nat_le 1 ppq) (nat_le ppq 32767) in_range).0 in
     let high : ppq ≤ 32767 = leb-true ppq 32767 (and_true (nat_le 1 ppq) (nat_le ppq 32767) in_range).1 in
-    let number : big_number 2 (big_bytes 2 ppq ++ rest) ≡ ppq = big_number-reads_back 2 ppq rest (omega arith) in
-    let fits : nat_le (length (chunk_text (codes "MThd") (big_bytes 2 0 ++ big_bytes 2 1 ++ big_bytes 2 ppq) ++ rest)) 16777216 ≡ true = le-leb _ _ small in
-    let long : nat_le 8 (length (chunk_text (codes "MThd") (big_bytes 2 0 ++ big_bytes 2 1 ++ big_bytes 2 ppq) ++ rest)) ≡ true = le-leb 8 (length (chunk_text (codes "MThd") (big_bytes 2 0 ++ big_bytes 2 1 ++ big_bytes 2 ppq) ++ rest)) (omega arith) in
-    let content : nat_le 6 (length (big_bytes 2 0 ++ big_bytes 2 1 ++ big_bytes 2 ppq ++ rest)) ≡ true = le-leb 6 (length (big_bytes 2 0 ++ big_bytes 2 1 ++ big_bytes 2 ppq ++ rest)) (omega arith) in
     let some : (ppq == 0) ≡ false = grind (arith, nat_tests) in
     let ticks : nat_le 32768 ppq ≡ false = grind (arith, nat_tests) in
-    rw (fits, long, content, number, some, ticks) refl
+    rw (some, ticks) refl
 
 -- ---- what the file says
 
@@ -278,8 +285,8 @@ reads-text ppq tempo events w =
         after = chunk_text (codes "MTrk") (track_text tempo events);
         items = Track (track-pairs tempo events) ∷ [];
         unread = [];
-        headed = header-text ppq (chunk_text (codes "MTrk") (track_text tempo events)) w.ppq_is whole;
-        stand = (record { is_track = true; content = track_text tempo events }, [], chunk-text true (track_text tempo events) small, (refl, track-whole tempo events w.events_are w.messages), refl);
+        headed = header-text 0 1 ppq (chunk_text (codes "MTrk") (track_text tempo events)) (omega arith) (omega arith) (omega arith) (ticks-header ppq w.ppq_is) whole;
+        stand = (record { is_track = true; content = track_text tempo events }, [], ap chunk_at (sym (append-nil (chunk_text (codes "MTrk") (track_text tempo events)))) ∙ chunk-text (track_text tempo events) [] small, (refl, track-whole tempo events w.events_are w.messages), refl);
         counted = refl;
         format = refl;
         division = refl;

@@ -17,7 +17,7 @@ use Rattle.smf_grammar.proofs.Shorter.{pair-shorter, chunk-shorter}
 
 -- ---- pairs
 
-ends-with : (running : Option ℕ) (left more : List ℕ) (p : Pair) (qs : List Pair) → pair_at running left ≡ Ok (p, more) → is_end p.event ≡ false → EndsIn (running_after p.event) more qs → EndsIn running left (p ∷ qs)
+pub ends-with : (running : Option ℕ) (left more : List ℕ) (p : Pair) (qs : List Pair) → pair_at running left ≡ Ok (p, more) → is_end p.event ≡ false → EndsIn (running_after p.event) more qs → EndsIn running left (p ∷ qs)
 ends-with running left more p qs e f w = record {
   before = p ∷ w.before;
   last = w.last;

@@ -5,6 +5,7 @@ use Rattle.smf_grammar.specs.declared.event.Event.{Event}
 use Rattle.smf_grammar.specs.Pairs.{Pair}
 use Rattle.smf_grammar.specs.Contents.{message_of, events_of, entries_of, skipped_of}
 use Rattle.smf_grammar.specs.Texts.{file_text, bad_event}
+use Rattle.smf_grammar.specs.Written.{written_file, file_refusal}
 use Rattle.smf_grammar.specs.Chunks.{most_bytes}
 use Rattle.midi_wire.specs.Messages.{AllMessages}
 use Rattle.tempo_clock.specs.Entries.{is_ppq, is_tempo}
@@ -116,6 +117,11 @@ abbrev pub ReadsText : Type 0
 ReadsText =
     (ppq tempo : ℕ) (events : List Event) → CanBeWritten ppq tempo events
     → ReadsBack ppq tempo events
+
+-- the text of a file that can be written is just this file: its format, its division, and the pairs
+-- of each of its tracks
+abbrev pub ReadsWritten : Type 0
+ReadsWritten = (f : MidiFile) → file_refusal f ≡ None → IsFile (written_file f) f
 
 -- the fault of bytes is never out of memory
 abbrev pub FaultsOfBytes : Type 0

@@ -7,6 +7,7 @@ pub mod Files
 pub mod Contents
 pub mod Played
 pub mod Texts
+pub mod Written
 pub mod Septets
 pub mod Reading
 pub mod Seen

@@ -1,14 +1,16 @@
 -- Worked rows: What the definitions say of a few files.
-use Rattle.std.specs.Prelude.{◌≡◌, ℕ, List, [], ◌∷◌, ◌++◌, length, take, Result, Ok, Err, slice_set}
+use Rattle.std.specs.Prelude.{◌≡◌, ℕ, List, [], ◌∷◌, ◌++◌, length, take, Some, None, Result, Ok, Err, slice_set}
 use Rattle.tempo_clock.specs.declared.entry.TempoEntry.{TempoEntry}
 use Rattle.smf_grammar.specs.Quantities.{quantity}
 use Rattle.smf_grammar.specs.declared.event.Event.{Event}
 use Rattle.smf_grammar.specs.declared.fault.QuantityFault.TheVariants.{Short, Long}
 use Rattle.smf_grammar.specs.declared.fault.SmfFault.{SmfFault}
 use Rattle.smf_grammar.specs.declared.fault.SmfFault.TheVariants.{NotMidi, ShortHeader, Format2, TrackMissing, Truncated, NoStatus, NoEndOfTrack, ZeroDivision, DropFrame, SmpteDivision}
+use Rattle.smf_grammar.specs.Pairs.{TrackEvent, Voice, Exclusive, Escape, Meta, Pair}
 use Rattle.smf_grammar.specs.Files.{MidiFile}
 use Rattle.smf_grammar.specs.Contents.{events_of, entries_of, skipped_of}
 use Rattle.smf_grammar.specs.Texts.{file_text}
+use Rattle.smf_grammar.specs.Written.{written_file, file_refusal, BadFormat, BadTrackCount, BadDivision, BadPair, EarlyEnd, NoEnd}
 use Rattle.smf_grammar.specs.Reading.{file_reading}
 
 -- ---- quantities
@@ -173,3 +175,56 @@ pub record WrittenFile : Type 0 where
   pub back : Says (file_text 480 500000 (at 0 (144 ∷ 60 ∷ 64 ∷ []) ∷ [])) 0 1 480
       (tempo_entry 0 500000
       ∷ []) (at 0 (144 ∷ 60 ∷ 64 ∷ []) ∷ []) 0
+
+-- ---- files of any tracks, written
+
+abbrev pub after : ℕ → TrackEvent → Pair
+after delta event = record { delta = delta; event = event }
+
+-- a tempo, and the end a quarter note later
+abbrev pub tempo_pairs : List Pair
+tempo_pairs = after 0 (Meta 81 (7 ∷ 161 ∷ 32 ∷ [])) ∷ after 96 (Meta 47 []) ∷ []
+
+-- events of each kind, and the end some ticks later
+abbrev pub all_pairs : List Pair
+all_pairs =
+    after 0 (Voice 144 (60 ∷ 64 ∷ [])) ∷ after 96 (Voice 144 (60 ∷ 0 ∷ []))
+    ∷ after 0 (Meta 1 (65 ∷ [])) ∷ after 0 (Voice 144 (62 ∷ 64 ∷ []))
+    ∷ after 128 (Exclusive (125 ∷ 1 ∷ 247 ∷ [])) ∷ after 0 (Escape (248 ∷ []))
+    ∷ after 5 (Voice 194 (7 ∷ [])) ∷ after 0 (Voice 194 (8 ∷ [])) ∷ after 7 (Meta 47 []) ∷ []
+
+abbrev pub tracks_file : ℕ → ℕ → List (List Pair) → MidiFile
+tracks_file format division tracks =
+    record { format = format; division = division; tracks = tracks }
+
+-- the status runs on to the second note and to the second program, and not over the meta event
+abbrev pub two_tracks_text : List ℕ
+two_tracks_text =
+    77 ∷ 84 ∷ 104 ∷ 100 ∷ 0 ∷ 0 ∷ 0 ∷ 6 ∷ 0 ∷ 1 ∷ 0 ∷ 2 ∷ 0 ∷ 96 ∷ []
+    ++ track_of_length 11 (0 ∷ 255 ∷ 81 ∷ 3 ∷ 7 ∷ 161 ∷ 32 ∷ 96 ∷ 255 ∷ 47 ∷ 0 ∷ [])
+    ++ track_of_length 36 (0 ∷ 144 ∷ 60 ∷ 64 ∷ 96 ∷ 60 ∷ 0 ∷ 0 ∷ 255 ∷ 1 ∷ 1 ∷ 65 ∷ 0 ∷ 144 ∷ 62 ∷ 64
+    ∷ 129 ∷ 0 ∷ 240 ∷ 3 ∷ 125 ∷ 1 ∷ 247 ∷ 0 ∷ 247 ∷ 1 ∷ 248 ∷ 5 ∷ 194 ∷ 7 ∷ 0 ∷ 8 ∷ 7 ∷ 255 ∷ 47 ∷ 0
+    ∷ [])
+
+pub record WrittenTracks : Type 0 where
+  pub text : written_file (tracks_file 1 96 (tempo_pairs ∷ all_pairs ∷ [])) ≡ two_tracks_text
+  pub back : file_reading two_tracks_text ≡ Ok (tracks_file 1 96 (tempo_pairs ∷ all_pairs ∷ []))
+
+-- files that can't be written, each for another reason
+pub record RefusedTracks : Type 0 where
+  pub none : file_refusal (tracks_file 1 96 (tempo_pairs ∷ all_pairs ∷ [])) ≡ None
+  pub format : file_refusal (tracks_file 2 96 (tempo_pairs ∷ [])) ≡ Some BadFormat
+  pub tracks : file_refusal (tracks_file 0 96 (tempo_pairs ∷ tempo_pairs ∷ [])) ≡ Some BadTrackCount
+  pub no_tracks : file_refusal (tracks_file 1 96 []) ≡ Some BadTrackCount
+  pub division : file_refusal (tracks_file 0 58152 (tempo_pairs ∷ [])) ≡ Some BadDivision
+  pub delta : file_refusal (tracks_file 1 96 (tempo_pairs ∷ (after 5 (Meta 1 [])
+      ∷ after 268435456 (Meta 47 []) ∷ []) ∷ [])) ≡ Some (BadPair 1 1)
+  pub data_byte : file_refusal (tracks_file 0 96 ((after 0 (Voice 144 (60 ∷ 128 ∷ []))
+      ∷ after 0 (Meta 47 []) ∷ []) ∷ [])) ≡ Some (BadPair 0 0)
+  pub no_byte : file_refusal (tracks_file 0 96 ((after 0 (Meta 1 (256 ∷ []))
+      ∷ after 0 (Meta 47 []) ∷ []) ∷ [])) ≡ Some (BadPair 0 0)
+  pub early : file_refusal (tracks_file 0 96 ((after 3 (Meta 47 []) ∷ after 0 (Meta 47 []) ∷ [])
+      ∷ [])) ≡ Some (EarlyEnd 0 0)
+  pub no_end : file_refusal (tracks_file 1 96 (tempo_pairs ∷ (after 0 (Meta 1 []) ∷ []) ∷ []))
+      ≡ Some (NoEnd 1)
+  pub no_pairs : file_refusal (tracks_file 0 96 ([] ∷ [])) ≡ Some (NoEnd 0)

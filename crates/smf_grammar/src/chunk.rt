@@ -35,9 +35,9 @@ pub fn counts_frames(division: u16) -> bool
     division >= 0x8000
 }
 
-/// The tests of the three numbers of a header.
+/// The header of a format, a number of tracks and a division, if a file can have it ("Header Chunks").
 #[tactic(auto, unfolding(crate::specs::Chunks::header_of))]
-fn header_of(format: u16, tracks: u16, division: u16) -> Result<Header, SmfFault>
+pub fn header_of(format: u16, tracks: u16, division: u16) -> Result<Header, SmfFault>
     ensures { Gives header_seen result (header_of format tracks division) }
 {
     if format > 2 {

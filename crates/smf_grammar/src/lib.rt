@@ -9,10 +9,10 @@ mod laws;
 mod pair;
 mod rows;
 
-pub use chunk::{ChunkBytes, Header, MOST_BYTES, chunk_at, counts_frames, header_at};
+pub use chunk::{ChunkBytes, Header, MOST_BYTES, chunk_at, counts_frames, header_at, header_of};
 pub use content::{fault_of_pair, tempo_in};
 pub use event::Event;
 pub use fault::{ChunkFault, PairFault, QuantityFault, SmfFault};
-pub use laws::{events_in_order, faults_of_bytes, one_reading, reads_text};
+pub use laws::{events_in_order, faults_of_bytes, one_reading, reads_text, reads_written};
 pub use pair::{EventBytes, PairBytes, pair_at, quantity};
 pub use rows::worked_files;

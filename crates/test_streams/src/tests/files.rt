@@ -1,9 +1,9 @@
-//! Worked files, and a written file with each kind of event.
+//! Worked files, and written files with each kind of event.
 
 use midi_wire::{Kind, Message};
 use smf_files::{
-    Cursor, Event, OutOfMemory, QuantityFault, SmfFault, SmfFile, TempoEntry, WriteFault, quantity,
-    write_format0,
+    Cursor, Event, EventBytes, OutOfMemory, PairBytes, QuantityFault, SmfFault, SmfFile,
+    TempoEntry, TracksFault, WriteFault, quantity, write_format0, write_tracks,
 };
 use std::alloc::Global;
 use std::process::Abort;
@@ -511,5 +511,196 @@ fn refuses_real_time(rt: HostRuntime) -> Result<(), Fail> {
         let refused = write_format0(rt.alloc(), *ppq, *tempo, &events).err();
         assert!(rt; refused == Some(*fault));
     }
+    Ok(())
+}
+
+fn meta(delta: u32, kind: u8, payload: &[u8]) -> PairBytes<'_> {
+    PairBytes {
+        delta,
+        event: EventBytes::Meta { kind, payload },
+    }
+}
+
+fn voice(delta: u32, status: u8, first: u8, second: u8) -> PairBytes<'static> {
+    PairBytes {
+        delta,
+        event: EventBytes::VoiceOfTwo {
+            status,
+            first,
+            second,
+        },
+    }
+}
+
+fn program(delta: u32, status: u8, first: u8) -> PairBytes<'static> {
+    PairBytes {
+        delta,
+        event: EventBytes::VoiceOfOne { status, first },
+    }
+}
+
+/// A tempo, and the end a quarter note later.
+fn tempo_pairs(alloc: Global) -> Result<Vec<PairBytes<'static>>, Fail> {
+    let pairs = [meta(0, 0x51, &[0x07, 0xA1, 0x20]), meta(96, 0x2F, &[])];
+    Ok(Vec::from_slice(alloc, &pairs)?)
+}
+
+/// Events of each kind, and the end some ticks later.
+fn all_pairs(alloc: Global) -> Result<Vec<PairBytes<'static>>, Fail> {
+    let pairs = [
+        voice(0, 0x90, 0x3C, 0x40),
+        voice(96, 0x90, 0x3C, 0x00),
+        meta(0, 0x01, &[0x41]),
+        voice(0, 0x90, 0x3E, 0x40),
+        PairBytes {
+            delta: 128,
+            event: EventBytes::Exclusive(&[0x7D, 0x01, 0xF7]),
+        },
+        PairBytes {
+            delta: 0,
+            event: EventBytes::Escape(&[0xF8]),
+        },
+        program(5, 0xC2, 0x07),
+        program(0, 0xC2, 0x08),
+        meta(7, 0x2F, &[]),
+    ];
+    Ok(Vec::from_slice(alloc, &pairs)?)
+}
+
+/// These tracks as a file: the status runs on to the second note and to the second program, and not over the meta
+/// event.
+const WRITTEN_TRACKS: [u8; 77] = [
+    0x4D, 0x54, 0x68, 0x64, 0x00, 0x00, 0x00, 0x06, 0x00, 0x01, 0x00, 0x02, 0x00, 0x60, 0x4D, 0x54,
+    0x72, 0x6B, 0x00, 0x00, 0x00, 0x0B, 0x00, 0xFF, 0x51, 0x03, 0x07, 0xA1, 0x20, 0x60, 0xFF, 0x2F,
+    0x00, 0x4D, 0x54, 0x72, 0x6B, 0x00, 0x00, 0x00, 0x24, 0x00, 0x90, 0x3C, 0x40, 0x60, 0x3C, 0x00,
+    0x00, 0xFF, 0x01, 0x01, 0x41, 0x00, 0x90, 0x3E, 0x40, 0x81, 0x00, 0xF0, 0x03, 0x7D, 0x01, 0xF7,
+    0x00, 0xF7, 0x01, 0xF8, 0x05, 0xC2, 0x07, 0x00, 0x08, 0x07, 0xFF, 0x2F, 0x00,
+];
+
+/// The tick and the bytes of each message of these tracks.
+const TRACK_EVENTS: &[(u64, &'static [u8])] = &[
+    (0, &[0x90, 0x3C, 0x40]),
+    (96, &[0x90, 0x3C, 0x00]),
+    (96, &[0x90, 0x3E, 0x40]),
+    (224, &[0xF0, 0x7D, 0x01, 0xF7]),
+    (229, &[0xC2, 0x07]),
+    (229, &[0xC2, 0x08]),
+];
+
+fn assert_two_tracks(rt: &impl Abort, alloc: Global, bytes: &[u8]) -> Result<(), Fail> {
+    let file = SmfFile::read(alloc, bytes)?;
+    assert!(rt; (file.format(), file.tracks(), file.division()) == (1, 2, 96));
+    assert!(rt; file.skipped() == 1);
+    assert!(rt; plays(alloc, &mut file.cursor()?, TRACK_EVENTS)?);
+    Ok(())
+}
+
+#[test]
+fn writes_tracks(rt: HostRuntime) -> Result<(), Fail> {
+    let tracks = [tempo_pairs(rt.alloc())?, all_pairs(rt.alloc())?];
+    let bytes = write_tracks(rt.alloc(), 1, 96, &tracks)?;
+    assert!(rt; bytes.as_slice() == WRITTEN_TRACKS.as_slice());
+    assert_two_tracks(&rt, rt.alloc(), bytes.as_slice())
+}
+
+const END: PairBytes<'static> = PairBytes {
+    delta: 0,
+    event: EventBytes::Meta {
+        kind: 0x2F,
+        payload: &[],
+    },
+};
+
+/// A delta time that four bytes can't spell.
+const LATE_END: PairBytes<'static> = PairBytes {
+    delta: 0x1000_0000,
+    event: EventBytes::Meta {
+        kind: 0x2F,
+        payload: &[],
+    },
+};
+
+/// A note whose second data byte is a status.
+const NO_NOTE: PairBytes<'static> = PairBytes {
+    delta: 0,
+    event: EventBytes::VoiceOfTwo {
+        status: 0x90,
+        first: 0x3C,
+        second: 0x80,
+    },
+};
+
+/// A file of one track that is not written.
+struct RefusedTrack {
+    format: u16,
+    division: u16,
+    pairs: &'static [PairBytes<'static>],
+    fault: TracksFault,
+}
+
+const REFUSED_TRACKS: &[RefusedTrack] = &[
+    RefusedTrack {
+        format: 2,
+        division: 96,
+        pairs: &[END],
+        fault: TracksFault::BadFormat,
+    },
+    // 29 frames per second.
+    RefusedTrack {
+        format: 0,
+        division: 0xE328,
+        pairs: &[END],
+        fault: TracksFault::BadDivision,
+    },
+    RefusedTrack {
+        format: 1,
+        division: 96,
+        pairs: &[],
+        fault: TracksFault::NoEnd { track: 0 },
+    },
+    RefusedTrack {
+        format: 1,
+        division: 96,
+        pairs: &[END, END],
+        fault: TracksFault::EarlyEnd { track: 0, pair: 0 },
+    },
+    RefusedTrack {
+        format: 0,
+        division: 96,
+        pairs: &[LATE_END],
+        fault: TracksFault::BadPair { track: 0, pair: 0 },
+    },
+    RefusedTrack {
+        format: 0,
+        division: 96,
+        pairs: &[NO_NOTE, END],
+        fault: TracksFault::BadPair { track: 0, pair: 0 },
+    },
+];
+
+/// Why the one track is not written.
+fn fault_of_track(alloc: Global, refused: &RefusedTrack) -> Result<Option<TracksFault>, Fail> {
+    let tracks = [Vec::from_slice(alloc, refused.pairs)?];
+    Ok(write_tracks(alloc, refused.format, refused.division, &tracks).err())
+}
+
+#[test]
+fn refuses_tracks(rt: HostRuntime) -> Result<(), Fail> {
+    for refused in REFUSED_TRACKS {
+        let fault = fault_of_track(rt.alloc(), refused)?;
+        assert!(rt;
+            fault == Some(refused.fault),
+            "in place of {:?}",
+            refused.fault
+        );
+    }
+    Ok(())
+}
+
+#[test]
+fn refuses_two_tracks_in_format_0(rt: HostRuntime) -> Result<(), Fail> {
+    let tracks = [tempo_pairs(rt.alloc())?, tempo_pairs(rt.alloc())?];
+    let fault = write_tracks(rt.alloc(), 0, 96, &tracks).err();
+    assert!(rt; fault == Some(TracksFault::BadTrackCount));
     Ok(())
 }

@@ -2,7 +2,7 @@
 
 use byte_io::{DeviceFault, OutOfMemory, SinkFault};
 use midi_wire::WireFault;
-use smf_files::QuantityFault;
+use smf_files::{QuantityFault, TracksFault, WriteFault};
 use smf_grammar::{ChunkFault, PairFault};
 use std::alloc::Global;
 use std::fmt;
@@ -28,11 +28,13 @@ fn check_devices(rt: &impl Abort, alloc: Global) -> Result<(), Fail> {
 }
 
 fn check_files(rt: &impl Abort, alloc: Global) -> Result<(), Fail> {
-    let index = smf_files::WriteFault::BadEvent { index: 3 };
+    let event = WriteFault::BadEvent { index: 3 };
+    let pair = TracksFault::BadPair { track: 1, pair: 2 };
     check_text(rt, alloc, &QuantityFault::Short, "the quantity is cut")?;
     check_text(rt, alloc, &PairFault::NoStatus, "no running status")?;
     check_text(rt, alloc, &ChunkFault::Missing, "no chunk")?;
-    check_text(rt, alloc, &index, "event 3 can't be written")
+    check_text(rt, alloc, &event, "event 3 can't be written")?;
+    check_text(rt, alloc, &pair, "pair 2 of track 1 can't be written")
 }
 
 #[test]
