@@ -201,6 +201,17 @@ impl<T> CellStore<T> {
         ensures taken { IsTaken self.old self.new key }
         ensures absent { IfNone result (self.new ≡ self.old) }
     {
+        let (_client, value) = self.take_owned(key)?;
+        Some(value)
+    }
+
+    /// Takes what is under a key, as `take` does, with its client: one look-up for both.
+    #[inline(always)]
+    pub fn take_owned(&mut self, key: CellKey) -> Option<(ClientId, T)>
+        ensures value { result ≡ map.get self.old.cells key }
+        ensures taken { IsTaken self.old self.new key }
+        ensures absent { IfNone result (self.new ≡ self.old) }
+    {
         let Cell {
             client,
             index,
@@ -210,7 +221,7 @@ impl<T> CellStore<T> {
         if let Some(moved) = self.clients.get(client).key_at(index) {
             self.cells[moved.number()].index = index;
         }
-        Some(value)
+        Some((client, value))
     }
 
     /// The key at a place among a client's, from 0 up to and without `used`. It takes no memory.

@@ -7,6 +7,7 @@ use Rattle.std.specs.FinMap.{FinMap}
 use Rattle.tempo_clock.specs.declared.due.Due.{Due}
 use Rattle.std.specs.Prelude.{unwrap_or}
 use Rattle.std.proofs.lemmas.Bool.{eqb-true}
+use Rattle.std.proofs.lemmas.Option.{none-some, same_Some}
 use Rattle.cell_pools.specs.Cells.{Holding, Store, holding_of, no_cells, keys_of, size_of, with_cell}
 use Rattle.seq_state.specs.State.{Client, DueMessage, with_entry}
 use Rattle.seq_state.proofs.Effects.{get-put}
@@ -23,12 +24,6 @@ use Rattle.seq_settle.proofs.Stores.{Fits, get-put_other, put_cells, playbacks-n
 use Rattle.seq_settle.proofs.Timed.{keyed-is, listed-still, timed-added}
 use Rattle.seq_settle.proofs.Turn.{key_of-some}
 
-none_some : {X : Type 0} (x : X) → None ≡ Some x → ⊥
-none_some x e = cc
-
-some_of : {X : Type 0} (x y : X) → Some x ≡ Some y → x ≡ y
-some_of x y e = cc
-
 -- the cells are of commands so far after one more, too
 pub later_cells : (cells : FinMap nat_cmp PlaybackCell) (n : ℕ) → AreCells cells n → AreCells cells (n + 1)
 later_cells cells n are = record {
@@ -42,7 +37,7 @@ later_cells cells n are = record {
 -- nothing to send
 pub none_added : (cells : FinMap nat_cmp PlaybackCell) (n : ℕ) (client port : ℕ) (queue : QueueAddr) (accepted : ℕ) (es : List DueMessage) → AreCells cells n → next_due es ≡ None → playbacks cells (n + 1) ≡ playbacks cells n ++ filter is_left (pending_in (client, new_left n port queue accepted es) ∷ [])
 none_added cells n client port queue accepted [] are e = playbacks-later cells n are ∙ sym (append-nil (playbacks cells n))
-none_added cells n client port queue accepted (x ∷ xs) are e = absurd (none_some x.due (sym e))
+none_added cells n client port queue accepted (x ∷ xs) are e = absurd (none-some x.due (sym e))
 
 module _ (cells cells' : FinMap nat_cmp PlaybackCell) (n k : ℕ) (client port : ℕ) (queue : QueueAddr) (accepted : ℕ) (es : List DueMessage) (due : Due) (are : AreCells cells n) (ordered : are_in_order es ≡ true) (some : next_due es ≡ Some due) (is_queue : IsQueue queue) (free : FinMap.get cells k ≡ None)
     (added : cells' ≡ with_entry cells k (Some ((client, new_left n port queue accepted es)))) where
@@ -50,7 +45,7 @@ module _ (cells cells' : FinMap nat_cmp PlaybackCell) (n k : ℕ) (client port :
   new = (client, new_left n port queue accepted es)
 
   filled : (xs : List DueMessage) → next_due xs ≡ Some due → is_left (pending_in (client, new_left n port queue accepted xs)) ≡ true
-  filled [] e = absurd (none_some due e)
+  filled [] e = absurd (none-some due e)
   filled (x ∷ xs) e = refl
 
   fits : Fits cells k (n + 1) new
@@ -63,7 +58,7 @@ module _ (cells cells' : FinMap nat_cmp PlaybackCell) (n k : ℕ) (client port :
   }
 
   there : AreCells (with_entry cells k (Some new)) (n + 1)
-  there = put_cells cells n (n + 1) k (Some new) (omega arith) (λ d e. subst (Fits cells k (n + 1)) (some_of new d e) fits) are
+  there = put_cells cells n (n + 1) k (Some new) (omega arith) (λ d e. subst (Fits cells k (n + 1)) (same_Some new d e) fits) are
 
   -- the cells with the new one
   pub added_cells : AreCells cells' (n + 1)
@@ -75,7 +70,7 @@ module _ (cells cells' : FinMap nat_cmp PlaybackCell) (n k : ℕ) (client port :
 
   -- what was there is there
   still : (q : ℕ) (d : PlaybackCell) → FinMap.get cells q ≡ Some d → FinMap.get cells' q ≡ Some d
-  still q d e = ap (λ m. FinMap.get m q) added ∙ get-put_other cells k (Some new) q (λ same. none_some d (sym free ∙ ap (FinMap.get cells) (sym same) ∙ e)) ∙ e
+  still q d e = ap (λ m. FinMap.get m q) added ∙ get-put_other cells k (Some new) q (λ same. none-some d (sym free ∙ ap (FinMap.get cells) (sym same) ∙ e)) ∙ e
 
   module _ (clients : FinMap nat_cmp Client) (order : QueueOrder) (agenda : FinMap nat_cmp DueKey) (timed : AreTimed clients cells order agenda) where
     -- the agenda has its key and it is listed, where the lists kept what is there
@@ -90,7 +85,7 @@ module _ (cells cells' : FinMap nat_cmp PlaybackCell) (n k : ℕ) (client port :
     added_fresh x q e f =
         let h = key_of-some clients (Some new) x e in
         let o = key_of-some clients (FinMap.get cells q) x (keyed-is clients cells order agenda timed q x f) in
-        let mine : n ≡ h.0.1.rank = ap (λ (c : PlaybackCell). c.1.rank) (some_of new h.0 h.1) in
+        let mine : n ≡ h.0.1.rank = ap (λ (c : PlaybackCell). c.1.rank) (same_Some new h.0 h.1) in
         let r : h.0.1.rank ≡ x.rank = h.3 in
         let l : o.0.1.rank < n = are.early q o.0 o.1 in
         let s : o.0.1.rank ≡ x.rank = o.3 in

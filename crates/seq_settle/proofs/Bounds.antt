@@ -41,13 +41,20 @@ pub no-sooner-none : (clients : FinMap nat_cmp Client) (queue : QueueAddr) (acce
 no-sooner-none clients queue accepted d e m l f g = subst (λ o. NoLater None o) g (subst (λ o. NoLater o (moment_at clients queue accepted e)) f (no-sooner clients queue accepted d e l))
 
 -- the first that waits in a row has the least time
-pub least-time : (queue : QueueAddr) (first due : Due) (rank : ℕ) (key from : QueueKey) → from ≡ waiting_key queue 0 first → time_of first ≡ 0 → base_of due ≡ base_of first → key.row ≡ from.row →
+least-time : (queue : QueueAddr) (first due : Due) (rank : ℕ) (key from : QueueKey) → from ≡ waiting_key queue 0 first → time_of first ≡ 0 → base_of due ≡ base_of first → key.row ≡ from.row →
     (is_before (waiting_key queue rank due) from ≡ false → is_before (waiting_key queue rank due) key ≡ false) → key.time ≤ time_of due
 least-time queue first due rank key from is zero same row least =
     let start : is_before (waiting_key queue rank due) from ≡ false = rw is (rw zero (rw same (grind (arith, nat_tests)))) in
     let behind : is_before (waiting_key queue rank due) key ≡ false = least start in
     let at : key.row ≡ (waiting_key queue rank due).row = row ∙ ap (λ (k : QueueKey). k.row) is ∙ ap (λ b. 2 * queue_row queue + b) (sym same) in
     grind (arith, nat_tests)
+
+-- so what it is due by is due no later than what waits in the row
+pub first-le : (queue : QueueAddr) (first like due : Due) (rank : ℕ) (key from : QueueKey) → from ≡ waiting_key queue 0 first → time_of first ≡ 0 → base_of due ≡ base_of first → key.row ≡ from.row →
+    (is_before (waiting_key queue rank due) from ≡ false → is_before (waiting_key queue rank due) key ≡ false) → base_of like ≡ base_of first → time_of like ≡ key.time → due_le like due ≡ true
+first-le queue first like due rank key from is zero same row least base time =
+    let first_time : key.time ≤ time_of due = least-time queue first due rank key from is zero same row least in
+    due-rises like due (base ∙ sym same) (omega (arith, time))
 
 -- so a moment, or the last that there is where there is none, is a bound on all later due times
 pub least-is : (clients : FinMap nat_cmp Client) (queue : QueueAddr) (accepted : ℕ) (d e : Due) (last b m : ℕ) → due_le d e ≡ true → b ≡ unwrap_or (moment_at clients queue 0 d) last → moment_at clients queue accepted e ≡ Some m → b ≤ m

@@ -8,6 +8,7 @@ use Rattle.std.specs.Ordering.{nat_cmp}
 use Rattle.std.specs.Cmp.{nat_cmp_total}
 use Rattle.std.specs.FinMap
 use Rattle.std.specs.FinMap.{FinMap}
+use Rattle.std.proofs.lemmas.Option.{none-some, same_Some}
 use Rattle.seq_state.specs.State.{OwnedPlayback, with_entry}
 use Rattle.seq_settle.specs.Cells.{PlaybackCell, pending_in, at_rank, by_rank, playbacks, AreCells}
 use Rattle.cell_pools.specs.Cells.{is_of, cells_of, used_by}
@@ -16,16 +17,10 @@ use Rattle.seq_settle.proofs.Ranks.{at_rank-some, at_rank-here, ranked-agree}
 use Rattle.seq_settle.proofs.Stores.{put-some, put_cells, at_rank-off}
 use Rattle.seq_settle.proofs.Dropped.{kept_playbacks, kept_cells}
 
-none_some : {X : Type 0} (x : X) → None ≡ Some x → ⊥
-none_some x e = cc
-
-some_of : {X : Type 0} (x y : X) → Some x ≡ Some y → x ≡ y
-some_of x y e = cc
-
 len_gone : (cells : FinMap nat_cmp PlaybackCell) (k : ℕ) (c : PlaybackCell) → FinMap.get cells k ≡ Some c → FinMap.len cells ≡ FinMap.len (FinMap.remove cells k) + 1
 len_gone cells k c e =
     let less : FinMap.len (FinMap.remove cells k) ≡ FinMap.len cells - 1 = FinMap.len-remove nat_cmp_total cells k ∙ ap (λ b. cond b (FinMap.len cells - 1) (FinMap.len cells)) (ap is_some e) in
-    let filled : FinMap.len cells ≢ 0 = λ z. none_some c (sym (FinMap.get-empty nat_cmp k) ∙ ap (λ m. FinMap.get m k) (sym (FinMap.empty_of_len cells z)) ∙ e) in
+    let filled : FinMap.len cells ≢ 0 = λ z. none-some c (sym (FinMap.get-empty nat_cmp k) ∙ ap (λ m. FinMap.get m k) (sym (FinMap.empty_of_len cells z)) ∙ e) in
     omega arith
 
 fewer_ranks : (cells : FinMap nat_cmp PlaybackCell) (n : ℕ) → AreCells cells (suc n) → ((q : ℕ) (c : PlaybackCell) → FinMap.get cells q ≡ Some c → c.1.rank ≡ n → ⊥) → AreCells cells n
@@ -54,23 +49,23 @@ as_many (suc n) cells are = go (at_rank cells n) refl (as_many n)
   where
     go : (o : Option OwnedPlayback) → at_rank cells n ≡ o → ((cs : FinMap nat_cmp PlaybackCell) → AreCells cs n → length (playbacks cs n) ≡ FinMap.len cs) → length (playbacks cells n ++ option_to_list (at_rank cells n)) ≡ FinMap.len cells
     go None e more =
-        let none : (q : ℕ) (c : PlaybackCell) → FinMap.get cells q ≡ Some c → c.1.rank ≡ n → ⊥ = λ q c f same. none_some (pending_in c) (sym e ∙ at_rank-here cells are.apart q c f n same) in
+        let none : (q : ℕ) (c : PlaybackCell) → FinMap.get cells q ≡ Some c → c.1.rank ≡ n → ⊥ = λ q c f same. none-some (pending_in c) (sym e ∙ at_rank-here cells are.apart q c f n same) in
         ap (λ o. length (playbacks cells n ++ option_to_list o)) e ∙ ap length (append-nil (playbacks cells n)) ∙ more cells (fewer_ranks cells n are none)
     go (Some p) e more =
         let h = at_rank-some cells n p e in
         let k : ℕ = h.0 in
         let rest : FinMap nat_cmp PlaybackCell = with_entry cells k None in
-        let whole : AreCells rest (suc n) = put_cells cells (suc n) (suc n) k None (omega arith) (λ d f. absurd (none_some d f)) are in
+        let whole : AreCells rest (suc n) = put_cells cells (suc n) (suc n) k None (omega arith) (λ d f. absurd (none-some d f)) are in
         let left : AreCells rest n = fewer_ranks rest n whole (λ q c f same. gone q c same (put-some cells k None q c f)) in
         let same : playbacks rest n ≡ playbacks cells n = ranked-agree (at_rank rest) (at_rank cells) n (λ r l. at_rank-off cells k None r are.apart whole.apart
-        (λ c f g. let one : h.1 ≡ c = some_of h.1 c (sym h.2 ∙ f) in let rank : h.1.1.rank ≡ r = ap (λ (x : PlaybackCell). x.1.rank) one ∙ g in let at : h.1.1.rank ≡ n = h.3 in omega arith) (λ d f g. none_some d f)) in
+        (λ c f g. let one : h.1 ≡ c = same_Some h.1 c (sym h.2 ∙ f) in let rank : h.1.1.rank ≡ r = ap (λ (x : PlaybackCell). x.1.rank) one ∙ g in let at : h.1.1.rank ≡ n = h.3 in omega arith) (λ d f g. none-some d f)) in
         let count : length (playbacks cells n) ≡ FinMap.len rest = ap length (sym same) ∙ more rest left in
         let all : FinMap.len cells ≡ FinMap.len rest + 1 = len_gone cells k h.1 h.2 in
         let last : length (playbacks cells n ++ option_to_list (at_rank cells n)) ≡ length (playbacks cells n) + 1 = ap (λ o. length (playbacks cells n ++ option_to_list o)) e ∙ length-append (playbacks cells n) (p ∷ []) in
         omega arith
       where
         gone : (q : ℕ) (c : PlaybackCell) → c.1.rank ≡ n → ((q ≡ (at_rank-some cells n p e).0) × (None ≡ Some c)) ⊎ ((q ≡ (at_rank-some cells n p e).0 → ⊥) × (FinMap.get cells q ≡ Some c)) → ⊥
-        gone q c same (inl x) = none_some c x.1
+        gone q c same (inl x) = none-some c x.1
         gone q c same (inr x) = let h = at_rank-some cells n p e in x.0 (are.apart q h.0 c h.1 x.1 h.2 (same ∙ sym h.3))
 
 -- the cells of a client are as many as its playbacks

@@ -9,6 +9,7 @@ use Rattle.std.specs.FinMap.{FinMap}
 use Rattle.std.proofs.lemmas.Bool.{false≢true, lt-ltb, le-ltb}
 use Rattle.std.proofs.lemmas.Bool.Decides.{nat_tests}
 use Rattle.std.proofs.lemmas.List.{take-take, drop_all}
+use Rattle.std.proofs.lemmas.Option.{none-some, same_Some}
 use Rattle.cell_pools.specs.Cells.{Store, AreKeys, SameBefore, IsTaken, cells_of, is_of, keys_of, size_of}
 use Rattle.cell_pools.specs.Kept.{IsClient}
 use Rattle.cell_pools.proofs.Walking.{slice_get-take}
@@ -22,20 +23,14 @@ use Rattle.seq_settle.specs.Drops.{kept_cell, stays, cell_goes, IsDropped}
 use Rattle.seq_settle.proofs.Ranks.{at_rank-here, at_rank-some, at_rank-none, ranked-agree, filter-ranked, keep}
 use Rattle.seq_settle.proofs.Marks.{has, has-drop, has-drop_none, has-is, mark-one}
 
-none_some : {X : Type 0} (x : X) → None ≡ Some x → ⊥
-none_some x e = cc
-
-some_of : {X : Type 0} (x y : X) → Some x ≡ Some y → x ≡ y
-some_of x y e = cc
-
 -- a cell that stays was there, and its playback passes
 pub kept-some : (stays : OwnedPlayback → Bool) (o : Option PlaybackCell) (c : PlaybackCell) → kept_cell stays o ≡ Some c → (o ≡ Some c) × (stays (pending_in c) ≡ true)
-kept-some stays None c e = absurd (none_some c e)
+kept-some stays None c e = absurd (none-some c e)
 kept-some stays (Some d) c e = go (stays (pending_in d)) refl e
   where
     go : (b : Bool) → stays (pending_in d) ≡ b → cond b (Some d) None ≡ Some c → (Some d ≡ Some c) × (stays (pending_in c) ≡ true)
-    go true t f = (f, ap (λ (x : PlaybackCell). stays (pending_in x)) (sym (some_of d c f)) ∙ t)
-    go false t f = absurd (none_some c f)
+    go true t f = (f, ap (λ (x : PlaybackCell). stays (pending_in x)) (sym (same_Some d c f)) ∙ t)
+    go false t f = absurd (none-some c f)
 
 kept-here : (stays : OwnedPlayback → Bool) (o : Option PlaybackCell) (c : PlaybackCell) → o ≡ Some c → stays (pending_in c) ≡ true → kept_cell stays o ≡ Some c
 kept-here stays o c e t = ap (kept_cell stays) e ∙ ap (λ b. cond b (Some c) None) t
@@ -69,7 +64,7 @@ module _ (stays : OwnedPlayback → Bool) (cells cells' : FinMap nat_cmp Playbac
   kept_rank r = go (at_rank cells r) refl
     where
       go : (o : Option OwnedPlayback) → at_rank cells r ≡ o → at_rank cells' r ≡ keep stays o
-      go None e = at_rank-none cells' r (λ q c f same. none_some (pending_in c) (sym e ∙ at_rank-here cells are.apart q c (was q c f).0 r same))
+      go None e = at_rank-none cells' r (λ q c f same. none-some (pending_in c) (sym e ∙ at_rank-here cells are.apart q c (was q c f).0 r same))
       go (Some p) e = let h = at_rank-some cells r p e in
           subst (λ x. at_rank cells' r ≡ keep stays (Some x)) h.4 (test (stays (pending_in h.1)) refl)
         where
@@ -78,7 +73,7 @@ module _ (stays : OwnedPlayback → Bool) (cells cells' : FinMap nat_cmp Playbac
           test false t = at_rank-none cells' r (λ q c f same.
               let h = at_rank-some cells r p e in
               let at : q ≡ h.0 = are.apart q h.0 c h.1 (was q c f).0 h.2 (same ∙ sym h.3) in
-              let one : c ≡ h.1 = some_of c h.1 (sym (was q c f).0 ∙ ap (FinMap.get cells) at ∙ h.2) in
+              let one : c ≡ h.1 = same_Some c h.1 (sym (was q c f).0 ∙ ap (FinMap.get cells) at ∙ h.2) in
               false≢true (sym t ∙ ap (λ (x : PlaybackCell). stays (pending_in x)) (sym one) ∙ (was q c f).1))
 
   -- the playbacks that stay
@@ -225,7 +220,7 @@ module _ (client : ℕ) (which : Which) (old : Store RankedPlayback) (key : ℕ)
     where
       go : (o : Option PlaybackCell) → Some head ≡ option_map head_of o → kept_cell (stays client which) o ≡ None
       go None f = refl
-      go (Some c) f = kept-chosen client which c (ap (cell_goes client which) (sym (some_of head (head_of c) f)) ∙ t)
+      go (Some c) f = kept-chosen client which c (ap (cell_goes client which) (sym (same_Some head (head_of c) f)) ∙ t)
 
 -- each cell is of a client
 pub known-client : (cells : FinMap nat_cmp PlaybackCell) → ((q client : ℕ) → option_map (λ v. v.0) (FinMap.get cells q) ≡ Some client → IsClient client) → (q : ℕ) (c : PlaybackCell) → FinMap.get cells q ≡ Some c → IsClient c.0

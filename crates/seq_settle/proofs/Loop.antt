@@ -4,6 +4,7 @@ use Rattle.std.specs.Ordering.{nat_cmp}
 use Rattle.std.specs.FinMap
 use Rattle.std.specs.FinMap.{FinMap}
 use Rattle.std.proofs.lemmas.Bool.{false≢true, eqb-true}
+use Rattle.std.proofs.lemmas.Option.{none-some, same_Some}
 use Rattle.patch_graph.specs.declared.edge.Edge.{Edge}
 use Rattle.seq_state.specs.State.{Client, ClientPool, DueMessage, OwnedPlayback, State, with_entry}
 use Rattle.seq_state.specs.declared.log.Delivery.{Delivery}
@@ -16,12 +17,6 @@ use Rattle.seq_settle.specs.Cells.{PlaybackCell, pending_in, playbacks, seen_sta
 use Rattle.seq_settle.specs.Sends.{copies_of, first_popped, key_of_head, IsWithoutFirst}
 use Rattle.seq_settle.proofs.Stores.{put-put}
 use Rattle.seq_settle.proofs.Turn.{AreFirstKeys, key_of-some, settle_turn, settle_end, after_cells, fewer}
-
-none_some : {X : Type 0} (x : X) → None ≡ Some x → ⊥
-none_some x e = cc
-
-some_of : {X : Type 0} (x y : X) → Some x ≡ Some y → x ≡ y
-some_of x y e = cc
 
 -- the key of the next event is that of what is left of the cell
 pub next_is : (clients : FinMap nat_cmp Client) (c : PlaybackCell) (e : DueMessage) (es : List DueMessage) → key_of_head clients (first_popped c e es).head ≡ key_of clients (cell_rest c es)
@@ -79,7 +74,7 @@ pub turn : (clients : FinMap nat_cmp Client) (edges : List Edge) (n m : ℕ) (go
 turn clients edges n m goal told pools pools' log log' cells cells' agenda agenda' k key r next kept first event rest p l nk a =
     let g : Given cells k = given clients cells agenda n m k key kept.are kept.keys first in
     let c : PlaybackCell = g.cell in
-    let r_is : r ≡ first_popped c g.event g.rest = some_of _ _ (event c g.event g.rest g.here g.events) in
+    let r_is : r ≡ first_popped c g.event g.rest = same_Some _ _ (event c g.event g.rest g.here g.events) in
     let ds : List Delivery = copies_of clients edges key.moment c.0 c.1.port g.event.message in
     let cs : FinMap nat_cmp PlaybackCell = with_entry cells k (cell_rest c g.rest) in
     let cells_is : cells' ≡ cs = rest c g.event g.rest g.here g.events in
@@ -111,14 +106,14 @@ pub fresh_next : (clients : FinMap nat_cmp Client) (n m : ℕ) (cells : FinMap n
     (x : DueKey) (q : ℕ) → next ≡ Some x → FinMap.get agenda1 q ≡ Some x → q ≡ k
 fresh_next clients n m cells agenda agenda1 k key r next are keys first event gone nk x q e f =
     let g : Given cells k = given clients cells agenda n m k key are keys first in
-    let r_is : r ≡ first_popped g.cell g.event g.rest = some_of _ _ (event g.cell g.event g.rest g.here g.events) in
+    let r_is : r ≡ first_popped g.cell g.event g.rest = same_Some _ _ (event g.cell g.event g.rest g.here g.events) in
     let h = key_of-some clients (cell_rest g.cell g.rest) x (sym (nk ∙ ap (λ (x : PoppedMessage). key_of_head clients x.head) r_is ∙ next_is clients g.cell g.event g.rest) ∙ e) in
     let rank : h.0.1.rank ≡ g.cell.1.rank = rest_rank g.cell g.rest h.0 h.1 in
     go (eqb q k) refl (sym (get-put agenda k None q) ∙ ap (λ a. FinMap.get a q) (sym gone) ∙ f) (sym h.3 ∙ rank) g
   where
     rest_rank : (c : PlaybackCell) (es : List DueMessage) (d : PlaybackCell) → cell_rest c es ≡ Some d → d.1.rank ≡ c.1.rank
-    rest_rank c [] d e = absurd (none_some d e)
-    rest_rank c (y ∷ ys) d e = ap (λ (z : PlaybackCell). z.1.rank) (sym (some_of _ d e))
+    rest_rank c [] d e = absurd (none-some d e)
+    rest_rank c (y ∷ ys) d e = ap (λ (z : PlaybackCell). z.1.rank) (sym (same_Some _ d e))
 
     go : (b : Bool) → eqb q k ≡ b → cond b None (FinMap.get agenda q) ≡ Some x → x.rank ≡ (given clients cells agenda n m k key are keys first).cell.1.rank → Given cells k → q ≡ k
     go true t h rank g = eqb-true q k t
@@ -152,7 +147,7 @@ pub has_event : (clients : FinMap nat_cmp Client) (cells : FinMap nat_cmp Playba
     ((c : PlaybackCell) (e : DueMessage) (es : List DueMessage) → FinMap.get cells k ≡ Some c → c.1.events ≡ e ∷ es → o ≡ Some (first_popped c e es)) → o ≡ None → ⊥
 has_event clients cells agenda n m k key o are keys first event none =
     let g : Given cells k = given clients cells agenda n m k key are keys first in
-    none_some (first_popped g.cell g.event g.rest) (sym none ∙ event g.cell g.event g.rest g.here g.events)
+    none-some (first_popped g.cell g.event g.rest) (sym none ∙ event g.cell g.event g.rest g.here g.events)
 
 -- a cell that the agenda gave has no key any more
 pub gone-again : (agenda left : FinMap nat_cmp DueKey) (k : ℕ) → left ≡ FinMap.remove agenda k → left ≡ with_entry left k None

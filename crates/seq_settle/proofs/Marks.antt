@@ -3,12 +3,9 @@ use Rattle.std.proofs.Common.{◌≡◌, ℕ, zero, suc, Bool, true, false, cond
 use Rattle.std.specs.Prelude.{slice_get, drop}
 use Rattle.std.specs.FinMap.{get}
 use Rattle.std.proofs.lemmas.Bool.{false≢true, eqb-true}
-use Rattle.std.proofs.lemmas.Option.{none-some}
+use Rattle.std.proofs.lemmas.Option.{none-some, same_Some}
 use Rattle.cell_pools.specs.Cells.{Cells, AreKeys, cells_of, is_of}
 use Rattle.cell_pools.proofs.Gathering.{of_client, in_client}
-
-some_of : {X : Type 0} (x y : X) → Some x ≡ Some y → x ≡ y
-some_of x y e = cc
 
 -- a key stands in a list of keys
 abbrev pub has : ℕ → List ℕ → Bool
@@ -17,7 +14,7 @@ has q (k ∷ ks) = eqb q k || has q ks
 
 pub has-here : (q : ℕ) (ks : List ℕ) (i : ℕ) → slice_get ks i ≡ Some q → has q ks ≡ true
 has-here q [] i e = absurd (none-some q e)
-has-here q (k ∷ ks) zero e = ap (λ b. b || has q ks) (eq-eqb q k (sym (some_of k q e)))
+has-here q (k ∷ ks) zero e = ap (λ b. b || has q ks) (eq-eqb q k (sym (same_Some k q e)))
 has-here q (k ∷ ks) (suc i) e = ap (λ b. eqb q k || b) (has-here q ks i e) ∙ go (eqb q k)
   where
     go : (b : Bool) → (b || true) ≡ true
@@ -35,7 +32,7 @@ has-some q (k ∷ ks) h = go (eqb q k) refl h (has-some q ks)
 -- from a place on, one key more
 pub has-drop : (q key : ℕ) (ks : List ℕ) (i : ℕ) → slice_get ks i ≡ Some key → has q (drop i ks) ≡ (eqb q key || has q (drop (suc i) ks))
 has-drop q key [] i e = absurd (none-some key e)
-has-drop q key (k ∷ ks) zero e = ap (λ x. eqb q x || has q ks) (some_of k key e)
+has-drop q key (k ∷ ks) zero e = ap (λ x. eqb q x || has q ks) (same_Some k key e)
 has-drop q key (k ∷ ks) (suc i) e = has-drop q key ks i e
 
 pub has-drop_none : (q : ℕ) (ks : List ℕ) (i : ℕ) → slice_get ks i ≡ None → has q (drop i ks) ≡ has q (drop (suc i) ks)
@@ -47,7 +44,7 @@ has-drop_none q (k ∷ ks) (suc i) e = has-drop_none q ks i e
 -- up to a place, one key more
 pub has-take : (q key : ℕ) (ks : List ℕ) (i : ℕ) → slice_get ks i ≡ Some key → has q (take (suc i) ks) ≡ (eqb q key || has q (take i ks))
 has-take q key [] i e = absurd (none-some key e)
-has-take q key (k ∷ ks) zero e = ap (λ x. eqb q x || false) (some_of k key e)
+has-take q key (k ∷ ks) zero e = ap (λ x. eqb q x || false) (same_Some k key e)
 has-take q key (k ∷ ks) (suc i) e = ap (λ b. eqb q k || b) (has-take q key ks i e) ∙ go (eqb q k) (eqb q key) (has q (take i ks))
   where
     go : (a b c : Bool) → (a || (b || c)) ≡ (b || (a || c))

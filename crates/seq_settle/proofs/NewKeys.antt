@@ -1,17 +1,11 @@
 -- Keys that stay, and the key of a head.
-use Rattle.std.proofs.Common.{◌≡◌, List, [], ◌∷◌, Some, None, refl, ap}
+use Rattle.std.proofs.Common.{◌≡◌, List, [], ◌∷◌, Some, refl, ap}
 use Rattle.std.specs.Ordering.{nat_cmp}
 use Rattle.std.specs.FinMap.{FinMap}
 use Rattle.seq_state.specs.State.{Client, DueMessage}
 use Rattle.seq_settle.specs.Moments.{SameMoments}
 use Rattle.seq_settle.specs.Cells.{PlaybackCell, pending_in, key_of, cell_key, first_moment}
 use Rattle.seq_settle.specs.Sends.{head_of, key_of_head, key_of_first, next_due}
-
-none_some : {X : Type 0} (x : X) → None ≡ Some x → ⊥
-none_some x e = cc
-
-some_of : {X : Type 0} (x y : X) → Some x ≡ Some y → x ≡ y
-some_of x y e = cc
 
 -- a cell on a queue that gives the same moments has the same key
 pub key_same : (was clients : FinMap nat_cmp Client) (c : PlaybackCell) → SameMoments was clients c.1.queue → key_of was (Some c) ≡ key_of clients (Some c)

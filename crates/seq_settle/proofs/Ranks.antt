@@ -8,37 +8,32 @@ use Rattle.std.specs.FinMap
 use Rattle.std.specs.FinMap.{FinMap}
 use Rattle.std.proofs.lemmas.Bool.{false≢true, eqb-true, ne_eqb, cases_lt, ltb-true, lt-ltb, le-ltb}
 use Rattle.std.proofs.lemmas.Bool.Decides.{nat_tests}
+use Rattle.std.proofs.lemmas.Option.{none-some, same_Some}
 use Rattle.seq_state.specs.State.{OwnedPlayback}
 use Rattle.seq_state.proofs.Lists.{filter-append, list_all-append, and_both}
 use Rattle.seq_settle.specs.Cells.{PlaybackCell, pending_in, of_rank, or_else, first_of, at_rank, by_rank}
 
-some_of : {X : Type 0} (x y : X) → Some x ≡ Some y → x ≡ y
-some_of x y e = cc
-
-none_some : {X : Type 0} (x : X) → None ≡ Some x → ⊥
-none_some x e = cc
-
 -- ---- one rank
 
 of_rank-some : (r : ℕ) (o : Option PlaybackCell) (p : OwnedPlayback) → of_rank r o ≡ Some p → (c : PlaybackCell) × (o ≡ Some c) × (c.1.rank ≡ r) × ((pending_in c) ≡ p)
-of_rank-some r None p e = absurd (none_some p e)
+of_rank-some r None p e = absurd (none-some p e)
 of_rank-some r (Some c) p e = go (eqb c.1.rank r) refl e
   where
     go : (b : Bool) → eqb c.1.rank r ≡ b → cond b (Some (pending_in c)) None ≡ Some p → (d : PlaybackCell) × (Some c ≡ Some d) × (d.1.rank ≡ r) × ((pending_in d) ≡ p)
-    go true t f = (c, refl, eqb-true c.1.rank r t, some_of (pending_in c) p f)
-    go false t f = absurd (none_some p f)
+    go true t f = (c, refl, eqb-true c.1.rank r t, same_Some (pending_in c) p f)
+    go false t f = absurd (none-some p f)
 
 of_rank-here : (r : ℕ) (o : Option PlaybackCell) (c : PlaybackCell) → o ≡ Some c → c.1.rank ≡ r → of_rank r o ≡ Some (pending_in c)
 of_rank-here r o c e f = ap (of_rank r) e ∙ ap (λ b. cond b (Some (pending_in c)) None) (eq-eqb c.1.rank r f)
 
 first_of-some : (cells : FinMap nat_cmp PlaybackCell) (r : ℕ) (p : OwnedPlayback) (qs : List ℕ) → first_of cells r qs ≡ Some p → (q : ℕ) × (c : PlaybackCell) × (FinMap.get cells q ≡ Some c) × (c.1.rank ≡ r) × ((pending_in c) ≡ p)
-first_of-some cells r p [] e = absurd (none_some p e)
+first_of-some cells r p [] e = absurd (none-some p e)
 first_of-some cells r p (q ∷ qs) e = go (of_rank r (FinMap.get cells q)) refl e (λ g. first_of-some cells r p qs g)
   where
     go : (o : Option OwnedPlayback) → of_rank r (FinMap.get cells q) ≡ o → or_else o (first_of cells r qs) ≡ Some p → (first_of cells r qs ≡ Some p → (k : ℕ) × (c : PlaybackCell) × (FinMap.get cells k ≡ Some c) × (c.1.rank ≡ r) × ((pending_in c) ≡ p)) →
         (k : ℕ) × (c : PlaybackCell) × (FinMap.get cells k ≡ Some c) × (c.1.rank ≡ r) × ((pending_in c) ≡ p)
     go None f g later = later g
-    go (Some x) f g later = let h = of_rank-some r (FinMap.get cells q) x f in (q, h.0, h.1, h.2, h.3 ∙ some_of x p g)
+    go (Some x) f g later = let h = of_rank-some r (FinMap.get cells q) x f in (q, h.0, h.1, h.2, h.3 ∙ same_Some x p g)
 
 pub same_number : (q c : ℕ) → eq_by_cmp nat_cmp q c ≡ eqb q c
 same_number q c = grind (arith, nat_tests)
@@ -49,7 +44,7 @@ first_of-here cells r k p here one [] h = absurd (false≢true h)
 first_of-here cells r k p here one (q ∷ qs) h = go (of_rank r (FinMap.get cells q)) refl (λ g. first_of-here cells r k p here one qs g)
   where
     other : (b : Bool) → eqb k q ≡ b → of_rank r (FinMap.get cells q) ≡ None → (b || list_any (eq_by_cmp nat_cmp k) qs) ≡ true → list_any (eq_by_cmp nat_cmp k) qs ≡ true
-    other true t n g = let same : k ≡ q = eqb-true k q t in absurd (none_some p (sym n ∙ subst (λ j. of_rank r (FinMap.get cells j) ≡ Some p) same here))
+    other true t n g = let same : k ≡ q = eqb-true k q t in absurd (none-some p (sym n ∙ subst (λ j. of_rank r (FinMap.get cells j) ≡ Some p) same here))
     other false t n g = g
 
     go : (o : Option OwnedPlayback) → of_rank r (FinMap.get cells q) ≡ o → (list_any (eq_by_cmp nat_cmp k) qs ≡ true → first_of cells r qs ≡ Some p) → or_else o (first_of cells r qs) ≡ Some p
@@ -73,7 +68,7 @@ at_rank-here cells apart k c here r e =
     first_of-here cells r k (pending_in c) (of_rank-here r (FinMap.get cells k) c here e)
     (λ q x f. let h = of_rank-some r (FinMap.get cells q) x f in
     let same : q ≡ k = apart q k h.0 c h.1 here (h.2 ∙ sym e) in
-    let one : h.0 ≡ c = some_of h.0 c (sym h.1 ∙ ap (FinMap.get cells) same ∙ here) in
+    let one : h.0 ≡ c = same_Some h.0 c (sym h.1 ∙ ap (FinMap.get cells) same ∙ here) in
     sym h.3 ∙ ap (λ (d : PlaybackCell). pending_in d) one)
     (FinMap.keys cells) (sym (FinMap.contains_key-keys cells k) ∙ ap is_some here)
 

@@ -6,14 +6,12 @@ use Rattle.std.specs.Cmp.{nat_cmp_total}
 use Rattle.std.specs.FinMap
 use Rattle.std.specs.FinMap.{FinMap}
 use Rattle.std.proofs.lemmas.Bool.{false≢true, eqb-true, ne_eqb}
+use Rattle.std.proofs.lemmas.Option.{none-some}
 use Rattle.seq_state.specs.State.{OwnedPlayback, with_entry}
 use Rattle.seq_state.specs.Step.{is_left}
 use Rattle.seq_state.proofs.Effects.{get-put}
 use Rattle.seq_settle.specs.Cells.{PlaybackCell, pending_in, at_rank, by_rank, playbacks, are_in_order, AreCells, IsQueue}
 use Rattle.seq_settle.proofs.Ranks.{AreApart, at_rank-here, at_rank-some, at_rank-none, ranked-agree, ranked_from, ranked_from-agree, ranked-split}
-
-none_some : {X : Type 0} (x : X) → None ≡ Some x → ⊥
-none_some x e = cc
 
 -- what stands in a map of which one key changed
 pub put-some : {X : Type 0} (m : FinMap nat_cmp X) (k : ℕ) (o : Option X) (q : ℕ) (x : X) → FinMap.get (with_entry m k o) q ≡ Some x → ((q ≡ k) × (o ≡ Some x)) ⊎ ((q ≡ k → ⊥) × (FinMap.get m q ≡ Some x))
@@ -87,7 +85,7 @@ at_rank-agree cells others r a b to back = go (at_rank cells r) refl
   where
     go : (o : Option OwnedPlayback) → at_rank cells r ≡ o → o ≡ at_rank others r
     go (Some p) e = let h = at_rank-some cells r p e in sym (at_rank-here others b h.0 h.1 (to h.0 h.1 h.3 h.2) r h.3 ∙ ap (λ x. Some x) h.4)
-    go None e = sym (at_rank-none others r (λ q c f same. none_some (pending_in c) (sym e ∙ at_rank-here cells a q c (back q c same f) r same)))
+    go None e = sym (at_rank-none others r (λ q c f same. none-some (pending_in c) (sym e ∙ at_rank-here cells a q c (back q c same f) r same)))
 
 -- the ranks that neither the old nor the new cell of the key has
 pub at_rank-off : (cells : FinMap nat_cmp PlaybackCell) (k : ℕ) (o : Option PlaybackCell) (r : ℕ) → AreApart cells → AreApart (with_entry cells k o) →
@@ -131,7 +129,7 @@ playbacks-changed cells n k c o a b here same =
     at None e = at_rank-none (with_entry cells k o) c.1.rank (λ q d f g. gone q d g (put-some cells k o q d f))
       where
         gone : (q : ℕ) (d : PlaybackCell) → d.1.rank ≡ c.1.rank → ((q ≡ k) × (o ≡ Some d)) ⊎ ((q ≡ k → ⊥) × (FinMap.get cells q ≡ Some d)) → ⊥
-        gone q d g (inl h) = none_some d (sym e ∙ h.1)
+        gone q d g (inl h) = none-some d (sym e ∙ h.1)
         gone q d g (inr h) = h.0 (a.apart q k d c h.1 here g)
 
 -- as it was
@@ -155,7 +153,7 @@ unfolding by_rank
 playbacks-new cells n k d a b free rank =
     ap (playbacks (with_entry cells k (Some d))) (add-one n)
     ∙ ap (λ xs. xs ++ option_to_list (at_rank (with_entry cells k (Some d)) n)) (ranked-agree (at_rank (with_entry cells k (Some d))) (at_rank cells) n
-    (λ r l. at_rank-off cells k (Some d) r a.apart b.apart (λ c e f. none_some c (sym free ∙ e)) (λ c e f. let same : c.1.rank ≡ n = ap (λ (x : Option PlaybackCell). rank_or x) (sym e) ∙ rank in omega arith)))
+    (λ r l. at_rank-off cells k (Some d) r a.apart b.apart (λ c e f. none-some c (sym free ∙ e)) (λ c e f. let same : c.1.rank ≡ n = ap (λ (x : Option PlaybackCell). rank_or x) (sym e) ∙ rank in omega arith)))
     ∙ ap (λ o. by_rank (at_rank cells) n ++ option_to_list o) (at_rank-here (with_entry cells k (Some d)) b.apart k d (get-put_here cells k (Some d)) n rank)
   where
     rank_or : Option PlaybackCell → ℕ

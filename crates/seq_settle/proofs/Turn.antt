@@ -8,6 +8,7 @@ use Rattle.std.specs.Cmp.{nat_cmp_is}
 use Rattle.std.specs.FinMap
 use Rattle.std.specs.FinMap.{FinMap}
 use Rattle.std.proofs.lemmas.Bool.{lt-leb, cases_lt}
+use Rattle.std.proofs.lemmas.Option.{none-some, same_Some}
 use Rattle.patch_graph.specs.declared.edge.Edge.{Edge}
 use Rattle.seq_state.specs.State.{Client, ClientPool, DueMessage, OwnedPlayback, State, with_entry}
 use Rattle.seq_state.specs.Step.{event_moment, is_by, all_at, upto, Timed, playback_after, is_left, event_copies, Settled, with_copies, settle}
@@ -22,12 +23,6 @@ use Rattle.seq_settle.specs.Moments.{moment_at}
 use Rattle.seq_settle.proofs.Ranks.{at_rank-some, ranked_from, ranked-all, all_of}
 use Rattle.seq_settle.proofs.Stores.{Fits, put_cells, pending_of_cell, playbacks-changed, playbacks-here}
 
-some_of : {X : Type 0} (x y : X) → Some x ≡ Some y → x ≡ y
-some_of x y e = cc
-
-none_some : {X : Type 0} (x : X) → None ≡ Some x → ⊥
-none_some x e = cc
-
 -- ---- keys
 
 -- a map has for each cell the key of its first event
@@ -35,13 +30,13 @@ pub record AreFirstKeys (clients : FinMap nat_cmp Client) (cells : FinMap nat_cm
   pub keyed : (q : ℕ) → FinMap.get agenda q ≡ key_of clients (FinMap.get cells q)
 
 pub key_at-some : (c : PlaybackCell) (o : Option ℕ) (key : DueKey) → cell_key c o ≡ Some key → (o ≡ Some key.moment) × (c.1.rank ≡ key.rank)
-key_at-some c None key e = absurd (none_some key e)
-key_at-some c (Some m) key e = let same : record { moment = m; rank = c.1.rank; place = 0 } ≡ key = some_of _ key e in
+key_at-some c None key e = absurd (none-some key e)
+key_at-some c (Some m) key e = let same : record { moment = m; rank = c.1.rank; place = 0 } ≡ key = same_Some _ key e in
     (ap (λ (k : DueKey). Some k.moment) same, ap (λ (k : DueKey). k.rank) same)
 
 -- a cell with a key is there
 pub key_of-some : (clients : FinMap nat_cmp Client) (o : Option PlaybackCell) (key : DueKey) → key_of clients o ≡ Some key → (c : PlaybackCell) × (o ≡ Some c) × (first_moment clients (pending_in c) c.1.events ≡ Some key.moment) × (c.1.rank ≡ key.rank)
-key_of-some clients None key e = absurd (none_some key e)
+key_of-some clients None key e = absurd (none-some key e)
 key_of-some clients (Some c) key e = let h = key_at-some c (first_moment clients (pending_in c) c.1.events) key e in (c, refl, h.0, h.1)
 
 -- what is not less has no earlier moment
@@ -118,15 +113,15 @@ module _ (clients : FinMap nat_cmp Client) (cells : FinMap nat_cmp PlaybackCell)
         (event_moment-is clients (pending_in c) e ∙ h.0, h.1)
 
     rest_rank : (xs : List DueMessage) (d : PlaybackCell) → cell_rest c xs ≡ Some d → d.1.rank ≡ c.1.rank
-    rest_rank [] d f = absurd (none_some d f)
-    rest_rank (x ∷ xs) d f = ap (λ (y : PlaybackCell). y.1.rank) (sym (some_of _ d f))
+    rest_rank [] d f = absurd (none-some d f)
+    rest_rank (x ∷ xs) d f = ap (λ (y : PlaybackCell). y.1.rank) (sym (same_Some _ d f))
 
     pub after_cells : AreCells after n
     after_cells = put_cells cells n n k (cell_rest c es) (omega arith) (λ d f. fits es (both_right (list_all (λ x. due_le e.due x.due) es) (are_in_order es) (subst (λ xs. are_in_order xs ≡ true) events (are.ordered k c here))) d f) are
       where
         fits : (xs : List DueMessage) → are_in_order xs ≡ true → (d : PlaybackCell) → cell_rest c xs ≡ Some d → Fits cells k n d
-        fits [] o d f = absurd (none_some d f)
-        fits (x ∷ xs) o d f = subst (Fits cells k n) (some_of _ d f) (record {
+        fits [] o d f = absurd (none-some d f)
+        fits (x ∷ xs) o d f = subst (Fits cells k n) (same_Some _ d f) (record {
           early = are.early k c here;
           alone = λ q b g same. are.apart q k b c g here same;
           filled = refl;
@@ -167,7 +162,7 @@ module _ (clients : FinMap nat_cmp Client) (cells : FinMap nat_cmp PlaybackCell)
     unfolding before
     late_before = late_all key.moment c.1.rank (λ q d other f l g.
         let h = key_of-some clients (FinMap.get cells q) other (sym (keys.keyed q) ∙ g) in
-        let same : h.0 ≡ d = some_of h.0 d (sym h.1 ∙ f) in
+        let same : h.0 ≡ d = same_Some h.0 d (sym h.1 ∙ f) in
         let rank : d.1.rank ≡ other.rank = ap (λ (x : PlaybackCell). x.1.rank) (sym same) ∙ h.3 in
         let mine : c.1.rank ≡ key.rank = its_key.1 in
         let low : other.rank < key.rank = omega arith in

@@ -63,10 +63,7 @@ pub(crate) fn pop_scheduled(
     if !is_scheduled_at(cells, key) {
         return Ok(None);
     }
-    let Some(client) = cells.client_of(key) else {
-        unreachable!()
-    };
-    let Some(playing) = cells.take(key) else {
+    let Some((client, playing)) = cells.take_owned(key) else {
         unreachable!()
     };
     Ok(Some(playing.into_popped(client)?))

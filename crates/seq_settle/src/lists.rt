@@ -52,8 +52,33 @@ impl QueueLists {
         }
     }
 
-    /// Lists a cell in a row. Before the list grows, those go that are no more: so each pays for one or two.
+    /// Lists a cell in a row.
+    // Inline where there is room, so that an event pays for little more than what it writes.
+    #[inline(always)]
     pub fn add(
+        &mut self,
+        cells: &CellStore<Playback<'_>>,
+        row: usize,
+        listed: Listed,
+    ) -> Result<(), OutOfMemory>
+        ensures own { OnOk result (IsIn listed (list_at self.new row)) }
+        ensures kept { OnOk result ((e : Listed) → IsLive cells.now.cells e →
+            IsIn e (list_at self.old row) → IsIn e (list_at self.new row)) }
+        ensures others { OnOk result ((r : ℕ) → r ≢ row → list_at self.new r ≡ list_at self.old r) }
+    {
+        if row < self.rows.len() && self.rows[row].len() < self.rows[row].capacity() {
+            self.rows[row].push_reserved(listed);
+            return Ok(());
+        }
+        self.add_swept(cells, row, listed)
+    }
+
+    /// Lists a cell in a row, of which those go first that are no more.
+    ///
+    /// There is room then for twice as many as stay, so that each that is listed pays for looking at one or two.
+    #[cold]
+    #[inline(never)]
+    fn add_swept(
         &mut self,
         cells: &CellStore<Playback<'_>>,
         row: usize,
@@ -68,10 +93,8 @@ impl QueueLists {
             self.rows.push(Vec::new(self.alloc))?;
         }
         let list = &mut self.rows[row];
-        if list.len() == list.capacity() {
-            list.retain(|e| is_live(cells, e));
-            list.reserve(list.len() + LEAST)?;
-        }
+        list.retain(|e| is_live(cells, e));
+        list.reserve(list.len().saturating_mul(2).saturating_add(LEAST))?;
         list.push(listed)?;
         Ok(())
     }

@@ -99,11 +99,19 @@ fn hasten<D: Desk>(desk: &D, order: &mut QueueOrder, queue: &QueueAddr, first: D
     if key.row != from.row {
         return;
     }
-    let due = match first {
-        Due::Tick(_) => Due::Tick(key.time),
-        Due::Nanos(_) => Due::Nanos(key.time),
-    };
+    let due = due_like(first, key.time);
     if let Some(moment) = desk.moment_of(queue, 0, due) {
         order.earliest = order.earliest.min(moment);
+    }
+}
+
+/// A due time that is counted in ticks or in nanoseconds, as another is.
+fn due_like(other: Due, time: u64) -> Due
+    ensures base { base_of result ≡ base_of other }
+    ensures time { time_of result ≡ time }
+{
+    match other {
+        Due::Tick(_) => Due::Tick(time),
+        Due::Nanos(_) => Due::Nanos(time),
     }
 }

@@ -26,9 +26,8 @@ use cell_pools::{CellKey, CellStore};
 use memory::OutOfMemory;
 
 /// Brings all that waits and is due by a moment into the agenda.
-///
-/// Of each queue only what is due is looked at, and one cell more. Running out of memory may leave a cell that is in
-/// neither.
+// Inline where nothing is, so that an event pays for one comparison.
+#[inline(always)]
 pub(crate) fn wake<D: Desk, A: Agenda>(
     desk: &D,
     cells: &CellStore<Playback<'_>>,
@@ -50,6 +49,32 @@ pub(crate) fn wake<D: Desk, A: Agenda>(
     if moment < order.earliest {
         return Ok(());
     }
+    wake_due(desk, cells, order, agenda, steps, moment)
+}
+
+/// Brings all that waits and is due by a moment into the agenda.
+///
+/// Of each queue only what is due is looked at, and one cell more. Running out of memory may leave a cell that is in
+/// neither.
+#[inline(never)]
+fn wake_due<D: Desk, A: Agenda>(
+    desk: &D,
+    cells: &CellStore<Playback<'_>>,
+    order: &mut QueueOrder,
+    agenda: &mut A,
+    steps: u64,
+    moment: u64,
+) -> Result<(), OutOfMemory>
+    requires cells { AreCells cells.now.cells steps }
+    requires timed { AreTimed (D.clients desk.now) cells.now.cells order.old
+        (A.content agenda.old) }
+    ensures timed { OnOk result
+        (AreTimed (D.clients desk.now) cells.now.cells order.new (A.content agenda.new)) }
+    ensures later { OnOk result (AreLater (D.clients desk.now) cells.now.cells order.new moment) }
+
+    // Where nothing is due no memory is asked for.
+    ensures idle { NoneComes (D.clients desk.now) cells.now.cells moment → IsOk result }
+{
     let mut earliest = u64::MAX;
     let mut from = FIRST;
     while let Some(first) = order.waiting.first_from(from) {

@@ -121,7 +121,7 @@ fn pools_answer_step_by_step(rt: HostRuntime) -> Result<(), Fail> {
     Ok(())
 }
 
-// One cell is put.
+// One cell is put, and one more when it is gone.
 fn assert_put(rt: &impl Abort, store: &mut CellStore<char>) -> Result<(), Fail> {
     let one = client(rt, 128);
     store.set_size(one, 1);
@@ -129,6 +129,8 @@ fn assert_put(rt: &impl Abort, store: &mut CellStore<char>) -> Result<(), Fail> 
     let key = store.put(one, 'a').ok().ok_or("full")?;
     assert!(rt; store.client_of(key) == Some(one));
     assert_taken(rt, store, key);
+    let key = store.put(one, 'c').ok().ok_or("full")?;
+    assert!(rt; store.take_owned(key) == Some((one, 'c')));
     Ok(())
 }
 

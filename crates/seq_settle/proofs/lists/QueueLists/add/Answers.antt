@@ -1,37 +1,21 @@
 use Rattle.std.proofs.Common.{◌<◌, ◌∙◌, length, ap, sym, subst, arith}
-use Rattle.std.proofs.lemmas.Grind.{common_steps}
 use Rattle.seq_settle.specs.Lists.{list_at, IsIn}
-use Rattle.seq_settle.proofs.Listings.{in-end, in-front, in-swept, answers-live, lists_of, row-read, row-more, row-set, row-others}
+use Rattle.seq_settle.proofs.Listings.{in-end, in-front, row-read, row-set, row-others}
 use Rattle.seq_settle.proofs.lists.QueueLists.add.Goals as goal
-use Rattle.seq_settle.proofs.lists.QueueLists.add.Goals.{then-len-capacity+in_ok-reserve, else-len-capacity}
 
-pub loop-self-init : goal.loop-self-init
-loop-self-init c = λ r. ap (λ ls. list_at ls r) c.self.view_is
-
-pub loop-self-preserved : goal.loop-self-preserved
-loop-self-preserved c = λ r.
-    ap (λ vs. list_at (lists_of vs) r) c.in_ok-push.ensures.items ∙ row-more c.loop-self.self-inside.rows.items c.new.result r c.new.ensures.items ∙ c.loop-self.invariant r
-
-pub returns-clause-own : goal.returns-clause-own
-returns-clause-own c =
-    let rows = c.loop-self.self-inside.rows.items in
+pub returns-then-len-capacity-clause-own : goal.returns-then-len-capacity-clause-own
+returns-then-len-capacity-clause-own c =
+    let rows = c.self.inside.rows.items in
     let there : c.args.row < length rows = omega arith in
-    subst (IsIn c.args.listed) (sym (row-set rows c.args.row c.push-2.new.self there ∙ c.in_ok-push-2.ensures.items)) (in-end c.args.listed c.if-len-capacity.list.items)
+    subst (IsIn c.args.listed) (sym (row-set rows c.args.row c.push_reserved.new.self there ∙ c.push_reserved.ensures.items)) (in-end c.args.listed c.index_mut.result.now.items)
 
-pub returns-clause-kept : goal.returns-clause-kept
-returns-clause-kept c = λ e alive m.
-    let rows = c.loop-self.self-inside.rows.items in
-    let old = c.index_mut-list.result.now in
-    let list = c.if-len-capacity.list in
+pub returns-then-len-capacity-clause-kept : goal.returns-then-len-capacity-clause-kept
+returns-then-len-capacity-clause-kept c = λ e alive m.
+    let rows = c.self.inside.rows.items in
+    let old = c.index_mut.result.now in
     let there : c.args.row < length rows = omega arith in
-    let was : IsIn e old.items = subst (IsIn e) (sym (row-read rows c.args.row old there c.index_mut-list.ensures.value ∙ c.loop-self.invariant c.args.row)) m in
-    let still : IsIn e list.items =
-    elim c.if-len-capacity.branch [
-      | then-len-capacity+in_ok-reserve w ↦ subst (IsIn e) (sym (ap (λ v. v.items) w.list-is ∙ w.in_ok-reserve.ensures.items))
-          (in-swept _ c.args.cells.now.cells _ (λ x b f call. grind (arith, common_steps, answers-live c.args.cells.now.cells x b)) old.items _ w.retain.ensures.filtered e alive was)
-      | else-len-capacity w ↦ subst (IsIn e) (sym (ap (λ v. v.items) w.list-is)) was
-    ] in
-    subst (IsIn e) (sym (row-set rows c.args.row c.push-2.new.self there ∙ c.in_ok-push-2.ensures.items)) (in-front e c.args.listed list.items still)
+    let was : IsIn e old.items = subst (IsIn e) (sym (row-read rows c.args.row old there c.index_mut.ensures.value ∙ ap (λ ls. list_at ls c.args.row) c.self.view_is)) m in
+    subst (IsIn e) (sym (row-set rows c.args.row c.push_reserved.new.self there ∙ c.push_reserved.ensures.items)) (in-front e c.args.listed old.items was)
 
-pub returns-clause-others : goal.returns-clause-others
-returns-clause-others c = λ r other. row-others c.loop-self.self-inside.rows.items c.args.row r c.push-2.new.self other ∙ c.loop-self.invariant r
+pub returns-then-len-capacity-clause-others : goal.returns-then-len-capacity-clause-others
+returns-then-len-capacity-clause-others c = λ r other. row-others c.self.inside.rows.items c.args.row r c.push_reserved.new.self other ∙ ap (λ ls. list_at ls r) c.self.view_is

@@ -2,7 +2,7 @@ use Rattle.std.proofs.Common.{◌<◌, ◌-◌, ◌^◌}
 use Rattle.seq_settle.specs.Order.{AreTimed}
 use Rattle.seq_settle.proofs.QueueKeys.{place_of}
 use Rattle.seq_settle.proofs.Woken.{ArePassed}
-use Rattle.seq_settle.proofs.waking.wake.Given as goal
+use Rattle.seq_settle.proofs.waking.wake_due.Given as goal
 
 abbrev pub invariant-loop-first : goal.invariant-loop-first
 invariant-loop-first g l = record {

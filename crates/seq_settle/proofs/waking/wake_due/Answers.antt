@@ -7,7 +7,7 @@ use Rattle.seq_settle.specs.Waking.{IsLeastMoment}
 use Rattle.seq_settle.proofs.Looked.{looked-none, looked-here, looked-keyed}
 use Rattle.seq_settle.proofs.Timed.{waits-here, waits-left}
 use Rattle.seq_settle.proofs.Woken.{passed-one, passed-row, row-small}
-use Rattle.seq_settle.proofs.waking.wake.Goals as goal
+use Rattle.seq_settle.proofs.waking.wake_due.Goals as goal
 
 pub unreachable-requires : goal.unreachable-requires
 unreachable-requires g c =

@@ -1,17 +1,16 @@
 use Rattle.std.proofs.Common.{◌≡◌, ap, sym, subst, ◌∙◌}
-use Rattle.std.specs.Option.{option_map}
 use Rattle.slab.specs.Slab.{Slab}
 use Rattle.cell_pools.specs.declared.store.Cell.{Cell}
 use Rattle.cell_pools.specs.Cells.{Store, IsTaken}
 use Rattle.cell_pools.specs.Kept.{cells_kept}
 use Rattle.cell_pools.proofs.Keeping.{found}
 use Rattle.cell_pools.proofs.Taking.{taken-inside, stands-now, removed-last, removed-moved, moved-there, take-kept, take-shown, none-taken}
-use Rattle.cell_pools.proofs.store.CellStore.take.Goals as goal
-use Rattle.cell_pools.proofs.store.CellStore.take.Goals.{in-Some, in_default}
+use Rattle.cell_pools.proofs.store.CellStore.take_owned.Goals as goal
+use Rattle.cell_pools.proofs.store.CellStore.take_owned.Goals.{in-Some, in_default}
 
 pub returns-in_err-client-clause-value : goal.returns-in_err-client-clause-value
 returns-in_err-client-clause-value g c =
-    c.from_residual.ensures ∙ sym (ap (option_map (λ v. v.1)) (found _ _ c.self.invariant _ c.self.view_is _ _ _ c.number.ensures (sym c.in_err-client.ensures.value)))
+    c.from_residual.ensures ∙ sym (found _ _ c.self.invariant _ c.self.view_is _ _ _ c.number.ensures (sym c.in_err-client.ensures.value))
 
 pub returns-in_err-client-clause-taken : goal.returns-in_err-client-clause-taken
 returns-in_err-client-clause-taken g c =
@@ -41,7 +40,7 @@ invariant_of-self-in_default g c =
     _ c.swap_remove.ensures
 
 pub returns-clause-value : goal.returns-clause-value
-returns-clause-value g c = sym (ap (option_map (λ v. v.1)) (found _ _ c.self.invariant _ c.self.view_is _ _ _ c.number.ensures (sym c.in_ok-client.ensures.value)))
+returns-clause-value g c = sym (found _ _ c.self.invariant _ c.self.view_is _ _ _ c.number.ensures (sym c.in_ok-client.ensures.value))
 
 pub returns-clause-taken : goal.returns-clause-taken
 returns-clause-taken g c = elim c.match-key_at.branch [
