@@ -1,6 +1,8 @@
 //! What a sequencer has.
 
 ghost use Rattle.std.specs.Prelude.{◌≡◌, ◌++◌, None, IsOk, IfOk, OnOk};
+ghost use Rattle.std.specs.FinMap.{get};
+ghost use Rattle.seq_clients.specs.Roster.{lost_count};
 ghost use Rattle.seq_state.specs.State.{start};
 ghost use Rattle.seq_state.specs.Step.{settle};
 ghost use Rattle.seq_settle.specs.Cells.{AreCells};
@@ -66,6 +68,13 @@ impl<'f, 'b> Sequencer<'f, 'b> {
         ensures { result ≡ self.now.steps }
     {
         self.steps
+    }
+
+    /// How many messages found no room in the client's input pool since it opened; 0 where it is not open.
+    pub fn lost(&self, client: ClientId) -> u64
+        ensures { result ≡ lost_count (get (state_of self.now).pools client) }
+    {
+        self.patchbay.clients().lost(client)
     }
 
     /// Sends all that is due by a moment, in nanoseconds, and adds what came to ports to `out`.

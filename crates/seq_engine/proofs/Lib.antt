@@ -2,3 +2,4 @@ pub mod Logs
 pub mod Lasting
 pub mod Heard
 pub mod Idle
+pub mod Lost

@@ -2,3 +2,4 @@ pub mod Seen
 pub mod Begun
 pub mod Ending
 pub mod Faults
+pub mod Losses

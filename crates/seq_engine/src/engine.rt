@@ -3,8 +3,10 @@
 ghost use Rattle.std.specs.Prelude.{◌≡◌, ◌≤◌, ◌<◌, ◌+◌, ◌-◌, ◌^◌, ◌↔◌, [], map, true, false, IsTrue, IsOk, IsErrOf, IfOk, OnOk, OnErr};
 ghost use Rattle.std.specs.List.{list_all};
 ghost use Rattle.std.specs.FinMap as finmap;
+ghost use Rattle.std.specs.FinMap.{get};
 ghost use Rattle.smf_grammar.specs.Played.{as_played};
 ghost use Rattle.seq_patchbay.specs.Listing.{listing};
+ghost use Rattle.seq_clients.specs.Roster.{lost_count};
 ghost use Rattle.seq_commands.specs.Turns.{takes_none};
 ghost use Rattle.seq_state.specs.State.{start};
 ghost use Rattle.seq_state.specs.Step.{due, step, settle, IsRefusal};
@@ -13,6 +15,7 @@ ghost use Rattle.seq_state.specs.Laws.{has_ticks, Bounded};
 use crate::fault::EngineFault;
 use agenda_heap::Agenda;
 use memory::Items;
+use node_table::ClientId;
 use seq_commands::{Files, Sequencer};
 use seq_state::{Delivery, Input, Reply};
 use smf_files::SmfFile;
@@ -105,6 +108,14 @@ impl<'f, 'b, A: Agenda> Engine<'f, 'b, A> {
         ensures { result ≡ self.now.steps }
     {
         self.sequencer.steps()
+    }
+
+    /// How many messages found no room in the client's input pool since it opened; 0 where it is not open. The count
+    /// stays at 2^64 - 1.
+    pub fn lost(&self, client: ClientId) -> u64
+        ensures { result ≡ lost_count (get self.now.state.pools client) }
+    {
+        self.sequencer.lost(client)
     }
 
     /// Takes one input: sends all that is due by its moment, and then carries its command out or refuses it.

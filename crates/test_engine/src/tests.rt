@@ -7,6 +7,7 @@ mod kept_ways;
 mod lines;
 mod logs;
 mod long_runs;
+mod losses;
 mod many_ways;
 mod patchbay;
 mod sending;
