@@ -29,6 +29,7 @@ tracks_fault_text (tracks_fault.BadPair track pair) =
     pair_fault_text track pair (codes " can't be written")
 tracks_fault_text (tracks_fault.EarlyEnd track pair) =
     pair_fault_text track pair (codes " ends it too early")
-tracks_fault_text (tracks_fault.NoEnd track) = codes "track " ++ decimal track ++ codes " has no end"
+tracks_fault_text (tracks_fault.NoEnd track) =
+    codes "track " ++ decimal track ++ codes " has no end"
 tracks_fault_text tracks_fault.TooLarge = codes "the file is too large"
 tracks_fault_text tracks_fault.OutOfMemory = out_of_memory_text

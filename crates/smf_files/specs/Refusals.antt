@@ -1,4 +1,4 @@
--- Definition: Which events are refused as a file of format 0, and how the refusal of tracks is told.
+-- Definition: Which events are refused as a file of format 0, and how a refusal of tracks is told.
 use Rattle.std.specs.Prelude.{ℕ, List, length, not, nat_le, Option, Some, None, if◌then◌else◌}
 use Rattle.tempo_clock.specs.Entries.{is_ppq, is_tempo}
 use Rattle.smf_grammar.specs.declared.event.Event.{Event}
