@@ -80,7 +80,8 @@ fn lift_all(nodes: &mut [Addr], ages: &mut [u64], place: usize)
     ensures node_count { length nodes.new ≡ length nodes.old }
     ensures age_count { length ages.new ≡ length ages.old }
 {
-    let at = lift::<8>(nodes, ages, place);
+    let at = lift::<16>(nodes, ages, place);
+    let at = lift::<8>(nodes, ages, at);
     let at = lift::<4>(nodes, ages, at);
     let at = lift::<2>(nodes, ages, at);
     lift::<1>(nodes, ages, at);
@@ -95,7 +96,8 @@ fn lower_all(nodes: &mut [Addr], ages: &mut [u64], place: usize)
     ensures node_count { length nodes.new ≡ length nodes.old }
     ensures age_count { length ages.new ≡ length ages.old }
 {
-    let at = lower::<8>(nodes, ages, place);
+    let at = lower::<16>(nodes, ages, place);
+    let at = lower::<8>(nodes, ages, at);
     let at = lower::<4>(nodes, ages, at);
     let at = lower::<2>(nodes, ages, at);
     lower::<1>(nodes, ages, at);

@@ -297,7 +297,7 @@ pub fn deliver<M: Carried + Drop>(
         OnOk result (out.new.items
         ≡ out.old.items ++ copies_with_room clients.old.pools (option_to_list c)) }
 {
-    make_room(out)?;
+    out.reserve(1)?;
     deliver_reserved(clients, moment, target, message, out)
 }
 
@@ -332,20 +332,6 @@ fn deliver_reserved<M: Carried + Drop>(
             target,
             message: message.into_message(),
         });
-    }
-    Ok(())
-}
-
-/// Makes room for one delivery more: for that alone where it is the first, since most commands bring no other.
-#[inline(always)]
-fn make_room(out: &mut Vec<Delivery>) -> Result<(), OutOfMemory>
-    ensures items { out.new.items ≡ out.old.items }
-    ensures room { OnOk result (vec_len out.new < vec_capacity out.new) }
-{
-    if out.is_empty() {
-        out.reserve_exact(1)?;
-    } else {
-        out.reserve(1)?;
     }
     Ok(())
 }
