@@ -47,8 +47,8 @@ _midiseq() {
     case $sub in
         run | record | circle)
             if [[ $word == -* ]]; then
-                local options='--until --for --to-end --dir --list --help'
-                [[ $sub == record ]] && options='--until --for --to-end --dir --raw --port --out --help'
+                local options='--until --for --to-end --dir --list --explain --strict --help'
+                [[ $sub == record ]] && options='--until --for --to-end --dir --explain --strict --raw --port --out --help'
                 [[ $sub == circle ]] && options='--until --for --to-end --dir --owner --session --help'
                 mapfile -t COMPREPLY < <(compgen -W "$options" -- "$word")
             elif [[ $word == *=* ]]; then

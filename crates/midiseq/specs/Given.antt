@@ -1,5 +1,5 @@
 -- Definition: What the command line gives the subcommands that take scripts.
-use Rattle.std.specs.Prelude.{◌≡◌, ◌≢◌, ℕ, Bool, true, false, List, [], Some, None, codes, unwrap_or, MatchOption}
+use Rattle.std.specs.Prelude.{◌≡◌, ◌≢◌, ℕ, Bool, true, false, ◌||◌, if◌then◌else◌, List, [], Some, None, codes, unwrap_or, MatchOption}
 use Rattle.std.specs.Option.{option_map}
 use Rattle.clap.specs.declared.parser.matches.Found.{Found}
 use Rattle.clap.specs.Matches.{first_value, matched_of, one_text, raw_values}
@@ -8,12 +8,13 @@ use Rattle.program_tasks.specs.declared.answer.CircleAnswer.{CircleAnswer}
 use Rattle.program_tasks.specs.declared.end_word.EndWord.{EndWord}
 use Rattle.program_tasks.specs.declared.end_word.EndWord.TheVariants.{Until, For, ToEnd}
 use Rattle.program_tasks.specs.declared.ending.Ended.{Ended}
-use Rattle.program_tasks.specs.declared.ending.Ended.TheVariants.{Done, Answered}
+use Rattle.program_tasks.specs.declared.ending.Ended.TheVariants.{Done, Answered, Judged}
 use Rattle.program_tasks.specs.declared.question.CircleQuestion.TheVariants.{Of, OfAll}
 use Rattle.program_tasks.specs.Words.{port_named, scripts_named, scripts_seen}
 use Rattle.program_tasks.specs.declared.recording.Recording.{Recording}
+use Rattle.program_tasks.specs.declared.run_answer.RunAnswer.{RunAnswer}
 use Rattle.program_tasks.specs.declared.session.Session.{Session}
-use Rattle.program_tasks.specs.Subcommands.{IsRunPrinted, IsCircleAnswered, IsRunRecorded}
+use Rattle.program_tasks.specs.Subcommands.{IsRunPrinted, IsRunExplained, IsCircleAnswered, IsRunRecorded}
 use Rattle.program_tasks.specs.Tasks.{IsDone}
 use Rattle.program_tasks.specs.Times.{end_said}
 use Rattle.program_tasks.specs.declared.choice.Task.{Task}
@@ -59,17 +60,35 @@ pub record IsFlag (found : Found) (id : List ℕ) (given : Bool) : Type 0 where
 module _ {R W : Type 0} (IsOpened : List ℕ → R → Type 0) (HasLeft : R → List ℕ → Type 0)
     (CannotOpen : List ℕ → Type 0)
     (failed : R → Bool) (HasNames : List ℕ → List (List ℕ) → Type 0) where
-  -- The session of these words was printed, with the listing where --list is given.
+  -- A run of this session has ended so: where it is strict, explained and judged; where it is to
+  -- explain, explained; else it was printed.
+  abbrev pub RanAs : {N : Type 0} → (W → List ℕ → Type 0) → (N → List ℕ → Type 0) → Session → Bool →
+      (strict explains : Bool) → W → W → N → N → Ended → Type 0
+  RanAs HasTaken HasTold session listed true explains old new before after (Judged answer) =
+      IsRunExplained IsOpened HasLeft CannotOpen failed HasNames HasTaken HasTold session listed
+      answer old new before after
+  RanAs HasTaken HasTold session listed false true old new before after Done =
+      (answer : RunAnswer) × IsRunExplained IsOpened HasLeft CannotOpen failed HasNames HasTaken
+      HasTold session listed answer old new before after
+  RanAs HasTaken HasTold session listed false false old new before after Done =
+      IsRunPrinted IsOpened HasLeft CannotOpen failed HasNames HasTaken HasTold session listed
+      old new before after
+  RanAs HasTaken HasTold session listed strict explains old new before after _ = ⊥
+
+  -- The session of these words was run, with the listing where --list is given, as --strict and
+  -- --explain say.
   pub record RunsAsGiven {N : Type 0} (HasTaken : W → List ℕ → Type 0)
       (HasTold : N → List ℕ → Type 0) (found : Found)
-      (old new : W) (before after : N) : Type 0 where
+      (old new : W) (before after : N) (ended : Ended) : Type 0 where
     pub session : Session
     pub given : IsGiven found session
     pub listed : Bool
-    pub flag : IsFlag found (codes "list") listed
-    pub printed : IsRunPrinted IsOpened HasLeft CannotOpen failed HasNames HasTaken HasTold session
-        listed
-        old new before after
+    pub list_flag : IsFlag found (codes "list") listed
+    pub strict : Bool
+    pub strict_flag : IsFlag found (codes "strict") strict
+    pub explains : Bool
+    pub explain_flag : IsFlag found (codes "explain") explains
+    pub ran : RanAs HasTaken HasTold session listed strict explains old new before after ended
 
   -- The circle round the client that the word names was printed, with --session also whether it is
   -- closed in the session, and the answer is that circle's.
@@ -97,20 +116,26 @@ module _ {R W : Type 0} (IsOpened : List ℕ → R → Type 0) (HasLeft : R → 
         (IsAnsweredRound HasTaken HasTold found session answer old new before after)
 
   -- The session of these words was recorded: the port of --port, as --raw says, to the file of
-  -- --out.
+  -- --out; it was explained where --strict or --explain says so, and judged with --strict.
   pub record RecordsAsGiven {N : Type 0} (IsBegun : List ℕ → W → Type 0)
       (HasTaken : W → List ℕ → Type 0)
       (IsStored : List ℕ → W → Type 0) (HasTold : N → List ℕ → Type 0) (found : Found)
-      (before after : N) : Type 0 where
+      (before after : N) (ended : Ended) : Type 0 where
     pub session : Session
     pub given : IsGiven found session
     pub recording : Recording
     pub port : Some recording.port ≡ port_named (text_of found (codes "port"))
     pub flag : IsFlag found (codes "raw") recording.raw
     pub path : recording.path.now ≡ text_of found (codes "out")
+    pub strict : Bool
+    pub strict_flag : IsFlag found (codes "strict") strict
+    pub explains : Bool
+    pub explain_flag : IsFlag found (codes "explain") explains
+    pub answer : RunAnswer
     pub recorded : IsRunRecorded IsOpened HasLeft CannotOpen failed HasNames IsBegun HasTaken
         IsStored HasTold
-        session recording before after
+        session recording (strict || explains) answer before after
+    pub ends : ended ≡ (if strict then Judged answer else Done)
 
 -- The tool of this name has done its work on the stream that the word FILE names, or without one on
 -- standard input.
@@ -124,31 +149,17 @@ pub record ToolDoesAsGiven {R I W : Type 0} (IsOpened : List ℕ → R → Type 
   pub stream : IsNamedBy task.stream (unwrap_or (first_value found (codes "FILE")) (codes "-"))
   pub done : IsDone IsOpened HasLeft HasInput HasTaken task before after old new
 
--- What each subcommand does that ends without an answer: run prints, record writes a file, and each
--- other is a tool's.
-pub record DoesSilently {R V I W N : Type 0} (IsOpened : List ℕ → R → Type 0)
-    (HasLeft : R → List ℕ → Type 0)
-    (CannotOpen : List ℕ → Type 0) (failed : R → Bool) (HasNames : List ℕ → List (List ℕ) → Type 0)
-    (IsBegun : List ℕ → V → Type 0) (HasWritten : V → List ℕ → Type 0)
-    (IsStored : List ℕ → V → Type 0)
-    (HasInput : I → List ℕ → Type 0) (HasTaken : W → List ℕ → Type 0)
-    (HasTold : N → List ℕ → Type 0)
-    (name : List ℕ) (found : Found) (asked left : I) (old new : W) (before after : N) : Type 0 where
-  pub ran : name ≡ codes "run" →
-      RunsAsGiven IsOpened HasLeft CannotOpen failed HasNames HasTaken HasTold found old new before
-      after
-  pub recorded : name ≡ codes "record" →
-      RecordsAsGiven IsOpened HasLeft CannotOpen failed HasNames IsBegun HasWritten IsStored HasTold
-      found before after
-  pub tool : name ≢ codes "run" → name ≢ codes "record" →
-      ToolDoesAsGiven IsOpened HasLeft HasInput HasTaken name found asked left old new
+-- the name is that of no subcommand that takes scripts
+abbrev pub IsOfTool : List ℕ → Type 0
+IsOfTool name = (name ≢ codes "circle") × (name ≢ codes "run") × (name ≢ codes "record")
 
 -- The program ends with an answer of which this holds.
 abbrev pub IfAnswered : Ended → (CircleAnswer → Type 0) → Type 0
 IfAnswered (Answered answer) P = P answer
 IfAnswered _ P = ⊥
 
--- What each subcommand does: circle prints and answers, and each other does its work.
+-- What each subcommand does: circle prints and answers, run prints and record writes a file, where
+-- both may explain and judge, and each other is a tool's.
 pub record DoesAsGiven {R V I W N : Type 0} (IsOpened : List ℕ → R → Type 0)
     (HasLeft : R → List ℕ → Type 0)
     (CannotOpen : List ℕ → Type 0) (failed : R → Bool) (HasNames : List ℕ → List (List ℕ) → Type 0)
@@ -161,7 +172,12 @@ pub record DoesAsGiven {R V I W N : Type 0} (IsOpened : List ℕ → R → Type 
   pub circled : name ≡ codes "circle" → IfAnswered ended
       (CirclesAsGiven IsOpened HasLeft CannotOpen failed HasNames HasTaken HasTold found old new
       before after)
-  pub ends : name ≢ codes "circle" → ended ≡ Done
-  pub does : name ≢ codes "circle" →
-      DoesSilently IsOpened HasLeft CannotOpen failed HasNames IsBegun HasWritten IsStored HasInput
-      HasTaken HasTold name found asked left old new before after
+  pub ran : name ≡ codes "run" →
+      RunsAsGiven IsOpened HasLeft CannotOpen failed HasNames HasTaken HasTold found old new before
+      after ended
+  pub recorded : name ≡ codes "record" →
+      RecordsAsGiven IsOpened HasLeft CannotOpen failed HasNames IsBegun HasWritten IsStored HasTold
+      found before after ended
+  pub tool : IsOfTool name →
+      ToolDoesAsGiven IsOpened HasLeft HasInput HasTaken name found asked left old new
+      × (ended ≡ Done)

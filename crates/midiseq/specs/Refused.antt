@@ -17,7 +17,7 @@ use Rattle.program_tasks.specs.declared.choice.Tool.{Tool}
 use Rattle.program_tasks.specs.declared.program_fault.ProgramFault.{ProgramFault}
 use Rattle.program_tasks.specs.declared.program_fault.ProgramFault.TheVariants.{NoSubcommand, NotAClient, NotAPort}
 use Rattle.program_tasks.specs.Program.{tool_name, IsNamedBy}
-use Rattle.midiseq.specs.Given.{text_of, IsEndGiven, IsGiven}
+use Rattle.midiseq.specs.Given.{text_of, IsEndGiven, IsGiven, IsOfTool}
 
 -- The word for the session's end says none.
 pub record IsOfEndWord (found : Found) (fault : ProgramFault) : Type 0 where
@@ -109,32 +109,6 @@ abbrev pub IsOfNoTool : List ℕ → ProgramFault → Type 0
 IsOfNoTool name NoSubcommand = (t : Tool) → tool_name t ≢ name
 IsOfNoTool name _ = ⊥
 
--- Why each subcommand stops that ends without an answer.
-pub record IsSilentStopped {R V I N : Type 0} (IsOpened : List ℕ → R → Type 0)
-    (HasLeft : R → List ℕ → Type 0)
-    (CannotOpen CannotList : List ℕ → Type 0) (failed : R → Bool)
-    (HasNames : List ℕ → List (List ℕ) → Type 0)
-    (AreOne : List ℕ → List ℕ → Type 0) (IsBegun : List ℕ → V → Type 0)
-    (writer_failed takes_some : V → Bool)
-    (CannotBegin CannotStore : List ℕ → Type 0) (HasInput : I → List ℕ → Type 0)
-    (input_failed : I → Bool)
-    (stuck : Type 0) (HasTold : N → List ℕ → Type 0) (name : List ℕ) (found : Found)
-    (asked left : I)
-    (before after : N) (fault : ProgramFault) : Type 0 where
-  pub ran : name ≡ codes "run" →
-      IsOfSessionWords found fault
-      ⊎ IsRunStopped IsOpened HasLeft CannotOpen CannotList failed stuck found fault
-  pub recorded : name ≡ codes "record" →
-      IsOfSessionWords found fault
-      ⊎ (IsNotAPort (text_of found (codes "port")) fault
-      ⊎ IsRecordStopped IsOpened HasLeft CannotOpen CannotList failed HasNames AreOne IsBegun
-      writer_failed takes_some
-      CannotBegin CannotStore HasTold found before after fault)
-  pub tool : name ≢ codes "run" → name ≢ codes "record" →
-      IsOfNoTool name fault
-      ⊎ IsToolStopped IsOpened CannotOpen HasLeft failed HasInput input_failed stuck name found
-      asked left fault
-
 -- Why each subcommand stops.
 pub record IsStoppedAsGiven {R V I N : Type 0} (IsOpened : List ℕ → R → Type 0)
     (HasLeft : R → List ℕ → Type 0)
@@ -152,7 +126,16 @@ pub record IsStoppedAsGiven {R V I N : Type 0} (IsOpened : List ℕ → R → Ty
       ⊎ (IsNotAClient (text_of found (codes "owner")) fault
       ⊎ IsCircleStopped IsOpened HasLeft CannotOpen CannotList failed HasNames stuck HasTold found
       before after fault)
-  pub does : name ≢ codes "circle" →
-      IsSilentStopped IsOpened HasLeft CannotOpen CannotList failed HasNames AreOne IsBegun
-      writer_failed takes_some CannotBegin CannotStore HasInput input_failed stuck HasTold
-      name found asked left before after fault
+  pub ran : name ≡ codes "run" →
+      IsOfSessionWords found fault
+      ⊎ IsRunStopped IsOpened HasLeft CannotOpen CannotList failed stuck found fault
+  pub recorded : name ≡ codes "record" →
+      IsOfSessionWords found fault
+      ⊎ (IsNotAPort (text_of found (codes "port")) fault
+      ⊎ IsRecordStopped IsOpened HasLeft CannotOpen CannotList failed HasNames AreOne IsBegun
+      writer_failed takes_some
+      CannotBegin CannotStore HasTold found before after fault)
+  pub tool : IsOfTool name →
+      IsOfNoTool name fault
+      ⊎ IsToolStopped IsOpened CannotOpen HasLeft failed HasInput input_failed stuck name found
+      asked left fault

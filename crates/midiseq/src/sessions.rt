@@ -1,6 +1,6 @@
 //! The subcommands that take scripts.
 
-ghost use Rattle.std.specs.Prelude.{◌≡◌, ◌⊎◌, false, codes, IfOk, IfErr, OnOk};
+ghost use Rattle.std.specs.Prelude.{◌≡◌, ◌⊎◌, ◌||◌, false, codes, IfOk, IfErr, OnOk};
 ghost use Rattle.clap.specs.Matches.{found_of};
 ghost use Rattle.midiseq.specs.Given.{text_of, IsEndGiven, IsGiven, RunsAsGiven, CirclesAsGiven, RecordsAsGiven};
 ghost use Rattle.midiseq.specs.Refused.{IsOfSessionWords, IsNotAClient, IsNotAPort, IsRunStopped, IsCircleStopped, IsRecordStopped};
@@ -12,8 +12,8 @@ use byte_io::Sink;
 use clap::ArgMatches;
 use file_store::FileStore;
 use program_tasks::{
-    CircleAnswer, CircleQuestion, EndWord, Notes, ProgramFault, Recording, Session, client_named,
-    port_named,
+    CircleAnswer, CircleQuestion, EndWord, Ended, Notes, ProgramFault, Recording, Session,
+    client_named, port_named,
 };
 use std::alloc::Global;
 
@@ -40,16 +40,17 @@ fn session_of<'a>(alloc: Global, found: &ArgMatches<'a>) -> Result<Session<'a>, 
     Session::of_words(alloc, end_of(found), found.get_str("dir"), scripts)
 }
 
-/// Runs the scripts, and prints each client's log and, where asked for, the listing at the end.
+/// Runs the scripts, and prints each client's log and, where asked for, the listing at the end. With --explain and
+/// --strict it tells what the run did not do, and with --strict whether that is nothing.
 pub(crate) fn run<'a, S: FileStore, W: Sink, N: Notes>(
     alloc: Global,
     store: &S,
     found: &ArgMatches<'a>,
     out: &mut W,
     notes: &mut N,
-) -> Result<(), ProgramFault<'a>>
+) -> Result<Ended, ProgramFault<'a>>
     requires { W.failed out.old ≡ false }
-    ensures ran { OnOk result (RunsAsGiven S.IsOpened S.Reader.HasLeft S.CannotOpen S.Reader.failed
+    ensures ran { IfOk result (RunsAsGiven S.IsOpened S.Reader.HasLeft S.CannotOpen S.Reader.failed
         S.HasNames W.HasTaken N.HasTold (found_of found.now)
         out.old out.new notes.old notes.new) }
     ensures fault { IfErr result (λ e. IsOfSessionWords (found_of found.now) e
@@ -58,17 +59,29 @@ pub(crate) fn run<'a, S: FileStore, W: Sink, N: Notes>(
 {
     let session = session_of(alloc, found)?;
     let listed = found.get_flag("list");
-    program_tasks::run(alloc, store, &session, listed, out, notes)
+    let strict = found.get_flag("strict");
+    let explains = found.get_flag("explain");
+    if strict {
+        let answer = program_tasks::explain(alloc, store, &session, listed, out, notes)?;
+        return Ok(Ended::Judged(answer));
+    }
+    if explains {
+        program_tasks::explain(alloc, store, &session, listed, out, notes)?;
+        return Ok(Ended::Done);
+    }
+    program_tasks::run(alloc, store, &session, listed, out, notes)?;
+    Ok(Ended::Done)
 }
 
-/// Runs the scripts, and writes what came to a port to a file, once all else is done.
+/// Runs the scripts, and writes what came to a port to a file, once all else is done. With --explain and --strict it
+/// tells what the run did not do, and with --strict whether that is nothing.
 pub(crate) fn record<'a, S: FileStore, N: Notes>(
     alloc: Global,
     store: &S,
     found: &ArgMatches<'a>,
     notes: &mut N,
-) -> Result<(), ProgramFault<'a>>
-    ensures recorded { OnOk result (RecordsAsGiven S.IsOpened S.Reader.HasLeft S.CannotOpen S.Reader.failed
+) -> Result<Ended, ProgramFault<'a>>
+    ensures recorded { IfOk result (RecordsAsGiven S.IsOpened S.Reader.HasLeft S.CannotOpen S.Reader.failed
         S.HasNames S.IsBegun S.Writer.HasTaken S.IsStored N.HasTold (found_of found.now)
         notes.old notes.new) }
     ensures fault { IfErr result (λ e. IsOfSessionWords (found_of found.now) e
@@ -87,7 +100,20 @@ pub(crate) fn record<'a, S: FileStore, N: Notes>(
         raw: found.get_flag("raw"),
         path: found.get_str("out").unwrap_or(""),
     };
-    program_tasks::record(alloc, store, &session, &recording, notes)
+    let strict = found.get_flag("strict");
+    let asked = found.get_flag("explain");
+    let explains = is_either(strict, asked);
+    let answer = program_tasks::record(alloc, store, &session, &recording, explains, notes)?;
+    if strict {
+        return Ok(Ended::Judged(answer));
+    }
+    Ok(Ended::Done)
+}
+
+fn is_either(strict: bool, asked: bool) -> bool
+    ensures { result ≡ (strict || asked) }
+{
+    strict || asked
 }
 
 /// Prints the circle round the client of --owner, with --session also whether it is closed there, and tells whether it

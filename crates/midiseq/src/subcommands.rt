@@ -2,8 +2,8 @@
 
 ghost use Rattle.std.specs.Prelude.{◌≡◌, ◌⊎◌, false, IfErr, IfOk, OnOk};
 ghost use Rattle.clap.specs.Matches.{found_of};
-ghost use Rattle.midiseq.specs.Given.{ToolDoesAsGiven, DoesSilently, DoesAsGiven};
-ghost use Rattle.midiseq.specs.Refused.{IsOfNoTool, IsToolStopped, IsSilentStopped, IsStoppedAsGiven};
+ghost use Rattle.midiseq.specs.Given.{ToolDoesAsGiven, DoesAsGiven};
+ghost use Rattle.midiseq.specs.Refused.{IsOfNoTool, IsToolStopped, IsStoppedAsGiven};
 ghost use Rattle.program_tasks.specs.Faults.{IsStuck};
 
 use crate::sessions;
@@ -40,39 +40,12 @@ pub(crate) fn perform<'a, S: FileStore, I: Source, W: Sink, N: Notes>(
             let answer = sessions::circle(alloc, store, found, out, notes)?;
             Ok(Ended::Answered(answer))
         }
-        _ => {
-            perform_silent(alloc, store, name, found, input, out, notes)?;
-            Ok(Ended::Done)
-        }
-    }
-}
-
-/// Does what a subcommand says that ends without an answer.
-fn perform_silent<'a, S: FileStore, I: Source, W: Sink, N: Notes>(
-    alloc: Global,
-    store: &S,
-    name: &str,
-    found: &ArgMatches<'a>,
-    input: &mut I,
-    out: &mut W,
-    notes: &mut N,
-) -> Result<(), ProgramFault<'a>>
-    requires input_sound { I.failed input.old ≡ false }
-    requires out_sound { W.failed out.old ≡ false }
-    ensures done { OnOk result (DoesSilently S.IsOpened S.Reader.HasLeft S.CannotOpen
-        S.Reader.failed S.HasNames S.IsBegun S.Writer.HasTaken S.IsStored I.HasLeft W.HasTaken
-        N.HasTold name.now (found_of found.now) input.old input.new out.old out.new
-        notes.old notes.new) }
-    ensures fault { IfErr result (IsSilentStopped S.IsOpened S.Reader.HasLeft S.CannotOpen
-        S.CannotList S.Reader.failed S.HasNames S.AreOne S.IsBegun S.Writer.failed
-        S.Writer.takes_some S.CannotBegin S.CannotStore I.HasLeft I.failed
-        (IsStuck W.failed W.takes_some out.old out.new) N.HasTold
-        name.now (found_of found.now) input.old input.new notes.old notes.new) }
-{
-    match name {
         "run" => sessions::run(alloc, store, found, out, notes),
         "record" => sessions::record(alloc, store, found, notes),
-        _ => perform_tool(alloc, store, name, found, input, out),
+        _ => {
+            perform_tool(alloc, store, name, found, input, out)?;
+            Ok(Ended::Done)
+        }
     }
 }
 

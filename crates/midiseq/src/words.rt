@@ -34,7 +34,8 @@ Status:
      output that cannot be written, out of memory, a damaged file, a recording
      that no file can hold
   2  words that midiseq cannot follow
-  3  midiseq circle has found the circle open";
+  3  midiseq circle has found the circle open, or run or record by --strict a
+     line that did nothing, a message that was lost or a file that was left out";
 
 const THRU_HELP: &str = "\
 The bytes are a MIDI 1.0 stream as it comes from a cable: status and data
@@ -98,6 +99,11 @@ for each line of its script that is skipped; and in the order of the run
 said. With --list comes the listing at the end: clients, ports, filters, queues
 and subscriptions.
 
+With --explain standard error tells of each line that did nothing, whether it
+was skipped or its command refused, with what to do about it, and of each client
+that lost messages since its input pool was full. --strict does the same, and
+where there was any, or a file was left out, the status is 3.
+
 The files in D whose names end in .mid can be played by these names; the first
 256 in byte order are taken. One that cannot be read, or is no regular file or
 no Standard MIDI File, is left out, and standard error has a line
@@ -119,7 +125,8 @@ note of half a second, without system common and real time messages, or with
 --raw the messages as one MIDI stream. A port at which nothing arrived gives a
 file without messages. FILE is made or replaced when all else is done; until
 the new one is whole, what was there stays. It can be none of the scripts and
-none of the files of D that scripts may play.
+none of the files of D that scripts may play. --explain and --strict do what
+they do of `midiseq run`.
 `cannot record` comes where more than 268,435,455 ticks lie between two
 messages, or the file would have more than 16,777,216 bytes.
 
@@ -202,6 +209,8 @@ fn run<'a>(alloc: Global) -> Result<Command<'a>, AllocError> {
         .arg(to_end(alloc)?)?
         .arg(dir(alloc))?
         .arg(list(alloc))?
+        .arg(explain(alloc))?
+        .arg(strict(alloc))?
         .arg(scripts(alloc))
 }
 
@@ -213,6 +222,8 @@ fn record<'a>(alloc: Global) -> Result<Command<'a>, AllocError> {
         .arg(time(alloc)?)?
         .arg(to_end(alloc)?)?
         .arg(dir(alloc))?
+        .arg(explain(alloc))?
+        .arg(strict(alloc))?
         .arg(raw(alloc))?
         .arg(port(alloc))?
         .arg(out(alloc))?
@@ -283,6 +294,20 @@ fn list<'a>(alloc: Global) -> Arg<'a> {
         .long("list")
         .action(ArgAction::SetTrue)
         .help("print the listing at the end, too")
+}
+
+fn explain<'a>(alloc: Global) -> Arg<'a> {
+    Arg::new(alloc, "explain")
+        .long("explain")
+        .action(ArgAction::SetTrue)
+        .help("tell which lines did nothing, and what was lost")
+}
+
+fn strict<'a>(alloc: Global) -> Arg<'a> {
+    Arg::new(alloc, "strict")
+        .long("strict")
+        .action(ArgAction::SetTrue)
+        .help("the same, with status 3 where there is any")
 }
 
 fn raw<'a>(alloc: Global) -> Arg<'a> {

@@ -1,7 +1,7 @@
 -- First parts of a text that a sink has taken.
-use Rattle.std.proofs.Common.{◌≡◌, ℕ, ◌+◌, ◌<◌, List, [], ◌++◌, length, refl, sym, ap, subst, ◌∙◌, append_assoc, append-nil, length-append, arith}
+use Rattle.std.proofs.Common.{◌≡◌, ℕ, ◌+◌, ◌<◌, List, ◌++◌, length, sym, ap, ◌∙◌, append_assoc, length-append, arith}
 use Rattle.byte_io.specs.Moved.{Took, TookPart}
-use Rattle.byte_io.proofs.Moved.{took_none, took_more}
+use Rattle.byte_io.proofs.Moved.{took_more}
 
 module _ {W : Type 0} (HasTaken : W → List ℕ → Type 0) where
   -- more was to follow
@@ -25,30 +25,3 @@ module _ {W : Type 0} (HasTaken : W → List ℕ → Type 0) where
     split = ap (λ ys. front ++ ys) g.split ∙ sym (append_assoc front g.gained g.missing);
     short = g.short;
   }
-
-  -- the first part of the text was taken, and the rest is to follow
-  pub record TakesFront (old new : W) (text rest : List ℕ) : Type 0 where
-    pub front : List ℕ
-    pub took : Took HasTaken old front new
-    pub split : text ≡ front ++ rest
-
-  -- nothing is taken yet
-  pub no_front : (old : W) (text : List ℕ) → TakesFront old old text text
-  no_front old text = record { front = []; took = took_none HasTaken old; split = refl }
-
-  -- the next part is taken too
-  pub front_grows : (old mid new : W) (text part rest : List ℕ) → TakesFront old mid text (part ++ rest) → Took HasTaken mid part new → TakesFront old new text rest
-  front_grows old mid new text part rest f t = record {
-    front = f.front ++ part;
-    took = took_more HasTaken old mid new f.front part f.took t;
-    split = f.split ∙ sym (append_assoc f.front part rest);
-  }
-
-  -- all is taken
-  pub whole_front : (old new : W) (text : List ℕ) → TakesFront old new text [] → Took HasTaken old text new
-  whole_front old new text f = subst (λ (ys : List ℕ). Took HasTaken old ys new) (sym (f.split ∙ append-nil f.front)) f.took
-
-  -- the next part is not taken whole
-  pub front_stops : (old mid new : W) (text part rest : List ℕ) → TakesFront old mid text (part ++ rest) → TookPart HasTaken mid part new → TookPart HasTaken old text new
-  front_stops old mid new text part rest f g =
-      subst (λ (ys : List ℕ). TookPart HasTaken old ys new) (sym f.split) (gained_after old mid new f.front (part ++ rest) f.took (gained_before mid new part rest g))

@@ -16,3 +16,5 @@ pub mod PrintedLogs
 pub mod WordsTold
 pub mod Ticks
 pub mod Lengths
+pub mod AllTaken
+pub mod Diagnosed

@@ -1,6 +1,6 @@
 -- The files of a session, from what each step gives.
-use Rattle.std.proofs.Common.{◌≡◌, ◌++◌, ℕ, Bool, List, Option, map, take, drop, sym, subst}
-use Rattle.std.specs.Prelude.{string_bytes}
+use Rattle.std.proofs.Common.{◌≡◌, ◌++◌, ℕ, Bool, List, Option, Result, Ok, Err, map, take, drop, sym, subst}
+use Rattle.std.specs.Prelude.{string_bytes, IfErr, IsErrAnd}
 use Rattle.std.proofs.lemmas.List.{take-map, drop-map}
 use Rattle.byte_io.specs.Moved.{Took}
 use Rattle.script_text.specs.declared.script.TheConstants.{MOST_FILES}
@@ -29,3 +29,8 @@ module _ {R N : Type 0} (HasTold : N → List ℕ → Type 0) (IsOpened : List �
     files_are = files_are;
     told = subst (λ more. Took HasTold before (left_out_lines ((seen_files opened).left_out ++ more)) after) (sym (drop-map string_bytes MOST_FILES folder.names.items)) told;
   }
+
+-- what holds of an error that was passed on
+pub err_is : {T E : Type 0} (P : E → Type 0) (r : Result T E) (x : E) → IsErrAnd r (λ e. e ≡ x) → P x → IfErr r P
+err_is P (Ok v) x same h = tt
+err_is P (Err e) x same h = subst P (sym same) h

@@ -10,6 +10,7 @@ pub mod Opened
 pub mod Apart
 pub mod Sessions
 pub mod Printed
+pub mod Explained
 pub mod Circles
 pub mod Recorded
 pub mod Faults

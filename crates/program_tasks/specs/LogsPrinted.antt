@@ -1,7 +1,6 @@
 -- Definition: What is printed of a run.
-use Rattle.std.specs.Prelude.{ℕ, List, [], ◌∷◌, ◌++◌, Option, Some, None, codes}
+use Rattle.std.specs.Prelude.{ℕ, Bool, true, false, List, [], ◌∷◌, ◌++◌, Option, Some, None, codes}
 use Rattle.std.specs.Fmt.{decimal}
-use Rattle.byte_io.specs.Memory.{MemOutput}
 use Rattle.program_tasks.specs.declared.words.ScriptWord.{ScriptWord}
 use Rattle.tool_text.specs.declared.fault.ToolFault.{ToolFault}
 use Rattle.tool_text.specs.declared.fault.ToolFault.TheVariants.{OutOfMemory, Write}
@@ -15,15 +14,20 @@ abbrev pub headed_log : ℕ → List ℕ → List ℕ
 headed_log client log = client_heading client ++ log
 
 -- the number of each script's client and the log in the same place
-abbrev pub logs_text : List ScriptWord → List MemOutput → List ℕ
+abbrev pub logs_text : List ScriptWord → List (List ℕ) → List ℕ
 logs_text [] logs = []
 logs_text (s ∷ scripts) [] = []
-logs_text (s ∷ scripts) (l ∷ logs) = headed_log s.client l.taken ++ logs_text scripts logs
+logs_text (s ∷ scripts) (l ∷ logs) = headed_log s.client l ++ logs_text scripts logs
 
 -- and then the listing where there is one
-abbrev pub printed_text : List ScriptWord → List MemOutput → Option (List ℕ) → List ℕ
+abbrev pub printed_text : List ScriptWord → List (List ℕ) → Option (List ℕ) → List ℕ
 printed_text scripts logs None = logs_text scripts logs
 printed_text scripts logs (Some listing) = logs_text scripts logs ++ listing
+
+-- the listing, where it is asked for
+abbrev pub listing_where : Bool → List ℕ → Option (List ℕ)
+listing_where true listing = Some listing
+listing_where false listing = None
 
 -- a fault of printing: never one of reading, nor of a file
 abbrev pub IsOfPrinting : ToolFault → Type 0

@@ -14,7 +14,9 @@ use Rattle.program_tasks.specs.declared.choice.Tool.TheVariants.{Thru, Wire, Dum
 use Rattle.program_tasks.specs.declared.choice.Stream.{Stream}
 use Rattle.program_tasks.specs.declared.choice.Stream.TheVariants.{Standard, Path}
 use Rattle.program_tasks.specs.declared.ending.Ended.{Ended}
-use Rattle.program_tasks.specs.declared.ending.Ended.TheVariants.{Done, Shown, Answered}
+use Rattle.program_tasks.specs.declared.ending.Ended.TheVariants.{Done, Shown, Answered, Judged}
+use Rattle.program_tasks.specs.declared.run_answer.RunAnswer.{RunAnswer}
+use Rattle.program_tasks.specs.declared.run_answer.RunAnswer.TheVariants.{Complete, Incomplete}
 use Rattle.tool_text.specs.declared.fault.ToolFault.{ToolFault}
 use Rattle.tool_text.specs.declared.fault.ToolFault.TheVariants as tool
 use Rattle.program_tasks.specs.declared.program_fault.ProgramFault.{ProgramFault}
@@ -147,11 +149,17 @@ abbrev pub answer_status : CircleAnswer → ℕ
 answer_status circle.Shut = 0
 answer_status circle.Open = 3
 
+-- 0 for a run that is complete, 3 for one that is not
+abbrev pub run_status : RunAnswer → ℕ
+run_status Complete = 0
+run_status Incomplete = 3
+
 -- the status with which it ends
 abbrev pub end_status : Result Ended ProgramFault → ℕ
 end_status (Ok Done) = 0
 end_status (Ok (Shown status)) = status
 end_status (Ok (Answered answer)) = answer_status answer
+end_status (Ok (Judged answer)) = run_status answer
 end_status (Err fault) = exit_status fault
 
 -- the lines that are shown as it ends: one for a fault, and else none

@@ -11,6 +11,9 @@ use Rattle.program_tasks.specs.Program.{left_out_lines}
 use Rattle.program_tasks.specs.declared.recording.Recording.{Recording}
 use Rattle.program_tasks.specs.declared.session.Session.{Session}
 use Rattle.program_tasks.specs.Faults.{IsOfRefusal, IsOfScripts, IsOfSharing, IsOfWriting}
+use Rattle.program_tasks.specs.declared.explanation.Explanation.{Explanation}
+use Rattle.program_tasks.specs.declared.run_answer.RunAnswer.{RunAnswer}
+use Rattle.program_tasks.specs.Explained.{are_none, explanation_lines, told_where, run_answer, IsSessionExplained}
 use Rattle.program_tasks.specs.Opened.{IsFolder}
 use Rattle.program_tasks.specs.declared.answer.CircleAnswer.{CircleAnswer}
 use Rattle.program_tasks.specs.declared.question.CircleQuestion.{CircleQuestion}
@@ -45,6 +48,23 @@ module _ {R : Type 0} (IsOpened : List ℕ → R → Type 0) (HasLeft : R → Li
         IsSessionPrinted IsOpened HasLeft HasTaken files session.until listed session.scripts.items
         old new
 
+  -- The session was run, and the sink took what it takes of a run; what the run did not do was told
+  -- behind the files that are left out, and the answer is that of all of this.
+  pub record IsRunExplained {W N : Type 0} (HasTaken : W → List ℕ → Type 0)
+      (HasTold : N → List ℕ → Type 0)
+      (session : Session) (listed : Bool) (answer : RunAnswer) (old new : W)
+      (before after : N) : Type 0 where
+    pub between : N
+    pub files : FolderContents
+    pub are : AreFilesOf HasTold (option_map (λ d. d.now) session.dir) before between files
+    pub explanation : Explanation
+    pub explained :
+        IsSessionExplained IsOpened HasLeft HasTaken files session.until listed
+        session.scripts.items explanation old new
+    pub told : Took HasTold between (explanation_lines session.scripts.items explanation) after
+    pub answered : answer
+        ≡ run_answer (are_none (are.found.left_out ++ drop MOST_FILES are.names)) explanation
+
   -- The sink took the circles of the session that are asked for, and the answer is theirs.
   pub record IsCircleAnswered {W N : Type 0} (HasTaken : W → List ℕ → Type 0)
       (HasTold : N → List ℕ → Type 0)
@@ -63,16 +83,23 @@ module _ {R : Type 0} (IsOpened : List ℕ → R → Type 0) (HasLeft : R → Li
     pub are : AreFilesOf HasTold (option_map (λ d. d.now) session.dir) before after files
     pub why : IsOfTime IsOpened HasLeft files session.until session.scripts.items fault
 
-  -- The session was run, and what came to a port was written to a path.
+  -- The session was run, and what came to a port was written to a path; where it is asked for, what
+  -- the run did not do was told behind the files that are left out, and the answer is that of all of
+  -- this.
   pub record IsRunRecorded {W N : Type 0} (IsBegun : List ℕ → W → Type 0)
       (HasTaken : W → List ℕ → Type 0)
       (IsStored : List ℕ → W → Type 0) (HasTold : N → List ℕ → Type 0) (session : Session)
-      (recording : Recording)
+      (recording : Recording) (explains : Bool) (answer : RunAnswer)
       (before after : N) : Type 0 where
+    pub between : N
     pub files : FolderContents
-    pub are : AreFilesOf HasTold (option_map (λ d. d.now) session.dir) before after files
+    pub are : AreFilesOf HasTold (option_map (λ d. d.now) session.dir) before between files
+    pub explanation : Explanation
     pub recorded : IsSessionRecorded IsOpened HasLeft IsBegun HasTaken IsStored files session.until
-        session.scripts.items recording
+        session.scripts.items recording explanation
+    pub told : Took HasTold between (told_where explains session.scripts.items explanation) after
+    pub answered : answer
+        ≡ run_answer (are_none (are.found.left_out ++ drop MOST_FILES are.names)) explanation
 
   -- The session was not recorded, for one of these reasons, once its folder was read.
   pub record IsRecordingStopped {W N : Type 0} (AreOne : List ℕ → List ℕ → Type 0)

@@ -7,6 +7,7 @@ ghost use Rattle.program_tasks.specs.Program.{end_status, end_lines};
 use crate::answer::CircleAnswer;
 use crate::notes::Notes;
 use crate::program_fault::{FaultLine, ProgramFault};
+use crate::run_answer::RunAnswer;
 
 /// How the program ends where no fault came.
 #[derive(Clone, Copy, Debug, PartialEq, Eq)]
@@ -17,6 +18,8 @@ pub enum Ended {
     Shown(u8),
     /// It has printed a circle, which is shut or open.
     Answered(CircleAnswer),
+    /// It has run a session strictly.
+    Judged(RunAnswer),
 }
 
 /// Ends the program: tells a fault in one line, and gives the status to end with.
@@ -28,6 +31,7 @@ pub fn finish<N: Notes>(ended: Result<Ended, ProgramFault<'_>>, notes: &mut N) -
         Ok(Ended::Done) => 0,
         Ok(Ended::Shown(status)) => status,
         Ok(Ended::Answered(answer)) => answer.status(),
+        Ok(Ended::Judged(answer)) => answer.status(),
         Err(fault) => {
             notes.tell(FaultLine(fault));
             fault.status()

@@ -4,6 +4,7 @@ ghost use Rattle.std.specs.Prelude.{◌≡◌, ◌≤◌, ◌+◌, ◌++◌, Som
 ghost use Rattle.std.specs.Option.{option_map};
 ghost use Rattle.byte_io.specs.Moved.{Took};
 ghost use Rattle.script_text.specs.declared.script.TheConstants.{MOST_FILES};
+ghost use Rattle.program_tasks.specs.Explained.{are_none};
 ghost use Rattle.program_tasks.specs.FolderFiles.{bytes_read, seen_files, AreOpened};
 ghost use Rattle.program_tasks.specs.Faults.{IsOfMemory, IsOfListing};
 ghost use Rattle.program_tasks.specs.Opened.{path_in, IsContent, IsFolder};
@@ -82,6 +83,17 @@ impl Folder {
         tell_unplayable(notes, opened.left_out.as_slice());
         tell_beyond(notes, rest);
         Ok(opened)
+    }
+}
+
+impl Folder {
+    /// Whether none of the files is left out, of which these were opened.
+    pub fn takes_all(&self, opened: &FolderFiles<'_>) -> bool
+        ensures { result ≡ are_none ((seen_files opened.now).left_out
+            ++ map string_bytes (drop MOST_FILES self.now.names.items)) }
+    {
+        let (_, rest) = taken_files(self.names.as_slice());
+        opened.left_out.is_empty() && rest.is_empty()
     }
 }
 

@@ -1,7 +1,7 @@
 //! What the program does: the words that it is given, the files that these name, the work itself, and the line and the
 //! status of each fault.
 //!
-//! `run` is what `midiseq run` does, `record` what `midiseq record` does, `circle` what `midiseq circle` does, and
+//! `run` is what `midiseq run` does, and `explain` what it does where it explains; `record` what `midiseq record` does, `circle` what `midiseq circle` does, and
 //! `perform` what the tools do, over every store of files: from the files that the words name to the text that is
 //! printed, or to the file that is written.
 #![tactic(auto)]
@@ -14,6 +14,8 @@ mod circling;
 mod end_word;
 mod ending;
 mod escaped;
+mod explaining;
+mod explanation;
 mod folder;
 mod logs;
 mod names;
@@ -26,10 +28,13 @@ mod question;
 mod reading;
 mod recording;
 mod rows;
+mod run_answer;
+mod running;
 mod session;
 mod subcommands;
 mod tabling;
 mod task;
+mod telling;
 mod times;
 mod words;
 mod writing;
@@ -39,6 +44,8 @@ pub use answering::print_circle;
 pub use choice::{STANDARD, Stream, Task, Tool};
 pub use end_word::EndWord;
 pub use ending::{Ended, finish};
+pub use explaining::explain_session;
+pub use explanation::Explanation;
 pub use folder::{Folder, named};
 pub use logs::print_logs;
 pub use names::{midi_files, taken_files};
@@ -51,9 +58,11 @@ pub use question::CircleQuestion;
 pub use reading::read_scripts;
 pub use recording::{Recording, record_session, recorded};
 pub use rows::worked_recording;
+pub use run_answer::RunAnswer;
 pub use session::Session;
-pub use subcommands::{circle, record, run};
+pub use subcommands::{circle, explain, record, run};
 pub use task::perform;
+pub use telling::{DiagnosticLine, LossLine};
 pub use times::time_named;
 pub use words::{ScriptWord, client_named, port_named, scripts_named, until_named};
 pub use writing::write_file;

@@ -1,6 +1,6 @@
 //! The printing of logs.
 
-ghost use Rattle.std.specs.Prelude.{◌≡◌, ◌++◌, false, length, IfErr, OnOk, OnErr};
+ghost use Rattle.std.specs.Prelude.{◌≡◌, ◌++◌, false, map, IfErr, IfOk, OnOk, OnErr};
 ghost use Rattle.std.specs.Option.{option_map};
 ghost use Rattle.byte_io.specs.Marks.{SinkMarks};
 ghost use Rattle.byte_io.specs.Moved.{Took, TookPart};
@@ -16,55 +16,60 @@ use text_forms::push_decimal;
 use tool_text::{ToolFault, send};
 
 /// Prints the number of each script's client and the log in the same place, and then the listing where there is one.
-/// Each log is written at once, and only the lines with the numbers take memory.
+/// Where one of both lists is longer, what is left of it is not printed. Each log is written at once, and only the lines
+/// with the numbers take memory.
 ///
 /// At a fault the sink has taken the first part of the text.
 pub fn print_logs<W: Sink>(
     alloc: Global,
     scripts: &[ScriptWord<'_>],
-    logs: &[MemSink],
+    logs: &[&[u8]],
     listing: Option<&[u8]>,
     out: &mut W,
 ) -> Result<(), ToolFault>
-    requires paired { length scripts.now ≡ length logs.now }
     requires sound { W.failed out.old ≡ false }
 
     ensures text { OnOk result (Took W.HasTaken out.old
-        (printed_text scripts.now logs.now (option_map (λ l. l.now) listing.entry)) out.new) }
+        (printed_text scripts.now (map (λ l. l.now) logs.now)
+        (option_map (λ l. l.now) listing.entry)) out.new) }
     ensures short { OnErr result (TookPart W.HasTaken out.old
-        (printed_text scripts.now logs.now (option_map (λ l. l.now) listing.entry)) out.new) }
+        (printed_text scripts.now (map (λ l. l.now) logs.now)
+        (option_map (λ l. l.now) listing.entry)) out.new) }
     ensures marks { SinkMarks W.failed W.takes_some out.old out.new (blames_sink result) }
     ensures only { IfErr result IsOfPrinting }
 {
-    print_all(alloc, scripts, logs, out)?;
+    let mut line = Vec::new(alloc);
+    print_all(scripts, logs, &mut line, out)?;
     match listing {
         Some(listing) => send(out, listing),
         None => Ok(()),
     }
 }
 
-/// Prints each client's number and its log.
+/// Prints each client's number and its log. What was in `line` is lost.
+// There are at most as many as clients, so this goes no deeper.
 fn print_all<W: Sink>(
-    alloc: Global,
     scripts: &[ScriptWord<'_>],
-    logs: &[MemSink],
+    logs: &[&[u8]],
+    line: &mut Vec<u8>,
     out: &mut W,
 ) -> Result<(), ToolFault>
-    requires paired { length scripts.now ≡ length logs.now }
     requires sound { W.failed out.old ≡ false }
     ensures text { OnOk result
-        (Took W.HasTaken out.old (logs_text scripts.now logs.now) out.new) }
+        (Took W.HasTaken out.old (logs_text scripts.now (map (λ l. l.now) logs.now)) out.new) }
     ensures short { OnErr result
-        (TookPart W.HasTaken out.old (logs_text scripts.now logs.now) out.new) }
+        (TookPart W.HasTaken out.old (logs_text scripts.now (map (λ l. l.now) logs.now)) out.new) }
     ensures marks { SinkMarks W.failed W.takes_some out.old out.new (blames_sink result) }
     ensures only { IfErr result IsOfPrinting }
 {
-    let mut line = Vec::new(alloc);
-    for (place, script) in scripts.iter().enumerate() {
-        let log = &logs[place];
-        print_log(script.client, log.bytes(), &mut line, out)?;
-    }
-    Ok(())
+    let Some((script, more_scripts)) = scripts.split_first() else {
+        return Ok(());
+    };
+    let Some((log, more_logs)) = logs.split_first() else {
+        return Ok(());
+    };
+    print_log(script.client, log, line, out)?;
+    print_all(more_scripts, more_logs, line, out)
 }
 
 /// Prints a client's number and its log. What was in `line` is lost.
@@ -94,4 +99,29 @@ fn push_client(line: &mut Vec<u8>, client: ClientId) -> Result<(), OutOfMemory>
     push_decimal(line, u64::from(client.number()))?;
     line.push(b'\n')?;
     Ok(())
+}
+
+/// What each log has taken.
+pub(crate) fn taken_of<'l>(alloc: Global, logs: &'l [MemSink]) -> Result<Vec<&'l [u8]>, OutOfMemory>
+    ensures { IfOk result (λ v. map (λ t. t.now) v.items ≡ map (λ l. l.taken) logs.now) }
+{
+    let mut texts = Vec::new(alloc);
+    for log in logs {
+        texts.push(log.bytes())?;
+    }
+    Ok(texts)
+}
+
+/// The bytes of each text.
+pub(crate) fn slices_of<'l>(
+    alloc: Global,
+    texts: &'l [Vec<u8>],
+) -> Result<Vec<&'l [u8]>, OutOfMemory>
+    ensures { IfOk result (λ v. map (λ t. t.now) v.items ≡ map (λ l. l.items) texts.now) }
+{
+    let mut slices = Vec::new(alloc);
+    for text in texts {
+        slices.push(text.as_slice())?;
+    }
+    Ok(slices)
 }

@@ -1,13 +1,15 @@
 //! A session run, and its logs printed.
 
-ghost use Rattle.std.specs.Prelude.{◌≡◌, ◌⊎◌, false, length, IfErr, OnOk};
+ghost use Rattle.std.specs.Prelude.{◌≡◌, ◌⊎◌, false, map, IfErr, OnOk};
+ghost use Rattle.byte_io.specs.Moved.{Took};
 ghost use Rattle.seq_session.specs.Rising.{AreRising};
-ghost use Rattle.program_tasks.specs.Faults.{IsOfScripts, IsOfOutput, IsStuck};
+ghost use Rattle.program_tasks.specs.Faults.{IsOfMemory, IsOfScripts, IsOfOutput, IsStuck};
+ghost use Rattle.program_tasks.specs.LogsPrinted.{listing_where, printed_text};
 ghost use Rattle.program_tasks.specs.Printed.{IsSessionPrinted, IsSessionLogged};
 ghost use Rattle.program_tasks.specs.Sessions.{owners, MayBeRun};
 
 use crate::choice::STANDARD;
-use crate::logs::print_logs;
+use crate::logs::{print_logs, taken_of};
 use crate::program_fault::ProgramFault;
 use crate::session::Session;
 use agenda_heap::HeapAgenda;
@@ -40,7 +42,33 @@ pub fn print_session<'a, S: FileStore, W: Sink>(
     let logs = all.as_mut_slice();
     let mut listing = MemSink::new(alloc, 0)?;
     run(alloc, store, session, files, logs, &mut listing)?;
-    let listing = if listed { Some(listing.bytes()) } else { None };
+    let texts = taken_of(alloc, logs)?;
+    print_texts(
+        alloc,
+        session,
+        texts.as_slice(),
+        listing.bytes(),
+        listed,
+        out,
+    )
+}
+
+/// Prints the log of each script's client, and the listing where `listed` says so.
+pub(crate) fn print_texts<'a, W: Sink>(
+    alloc: Global,
+    session: &Session<'a>,
+    logs: &[&[u8]],
+    listing: &[u8],
+    listed: bool,
+    out: &mut W,
+) -> Result<(), ProgramFault<'a>>
+    requires sound { W.failed out.old ≡ false }
+    ensures printed { OnOk result (Took W.HasTaken out.old (printed_text session.now.scripts.items
+        (map (λ l. l.now) logs.now) (listing_where listed listing.now)) out.new) }
+    ensures fault { IfErr result (λ e. IsOfMemory e
+        ⊎ IsOfOutput (IsStuck W.failed W.takes_some out.old out.new) e) }
+{
+    let listing = if listed { Some(listing) } else { None };
     match print_logs(alloc, session.scripts.as_slice(), logs, listing, out) {
         Ok(()) => Ok(()),
         Err(ToolFault::OutOfMemory) => Err(ProgramFault::OutOfMemory),

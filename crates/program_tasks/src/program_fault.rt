@@ -209,7 +209,7 @@ impl<T: Drop> From<AllocFailed<T>> for ProgramFault<'_> {
 pub const LINE_START: &str = "midiseq: ";
 
 /// Writes what each line of the program begins with.
-fn write_start<W: fmt::Write>(f: &mut fmt::Formatter<W>) -> fmt::Result
+pub(crate) fn write_start<W: fmt::Write>(f: &mut fmt::Formatter<W>) -> fmt::Result
     ensures { WritesOnOk W.write_str_gives f.old result line_start f.new }
 {
     f.write_str(LINE_START)

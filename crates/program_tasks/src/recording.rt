@@ -10,17 +10,18 @@ ghost use Rattle.program_tasks.specs.Recorded.{recorded_text, IsSessionRecorded}
 ghost use Rattle.program_tasks.specs.Sessions.{owners};
 
 use crate::apart::is_apart;
+use crate::explanation::Explanation;
 use crate::folder::Folder;
 use crate::names::taken_files;
 use crate::port_file::record_file;
 use crate::program_fault::ProgramFault;
+use crate::running::run_session;
 use crate::session::Session;
 use crate::writing::write_file;
-use agenda_heap::HeapAgenda;
 use file_store::FileStore;
 use node_table::PortAddr;
 use seq_engine::RunLog;
-use seq_session::{NamedFiles, run_scripts};
+use seq_session::NamedFiles;
 use smf_files::WriteFault;
 use std::alloc::Global;
 
@@ -36,7 +37,8 @@ pub struct Recording<'a> {
 }
 
 /// Runs the scripts of a session, and writes what came to a port to a file: with `raw` as one MIDI stream, and else as
-/// a Standard MIDI File. What stands at the path stays until all else is done; it is no file that the session reads.
+/// a Standard MIDI File. What stands at the path stays until all else is done; it is no file that the session reads. It gives
+/// what the run did not do.
 pub fn record_session<'a, S: FileStore>(
     alloc: Global,
     store: &S,
@@ -44,9 +46,9 @@ pub fn record_session<'a, S: FileStore>(
     folder: &Folder,
     files: &NamedFiles<'_, '_>,
     recording: &Recording<'a>,
-) -> Result<(), ProgramFault<'a>>
+) -> Result<Explanation, ProgramFault<'a>>
     requires rising { AreRising (owners session.now.scripts.items) }
-    ensures recorded { OnOk result (IsSessionRecorded S.IsOpened S.Reader.HasLeft S.IsBegun
+    ensures recorded { IfOk result (IsSessionRecorded S.IsOpened S.Reader.HasLeft S.IsBegun
         S.Writer.HasTaken S.IsStored files.now session.now.until session.now.scripts.items
         recording.now) }
     ensures apart { OnOk result (IsApart S.AreApart recording.now.path.now
@@ -67,14 +69,15 @@ pub fn record_session<'a, S: FileStore>(
     if !is_apart(alloc, store, recording.path, session, taken)? {
         return Err(ProgramFault::OutIsRead(recording.path));
     }
-    let mut sources = session.open(alloc, store)?;
-    let agenda = HeapAgenda::new(alloc);
-    let log = match run_scripts(alloc, sources.as_mut_slice(), files, agenda, session.until) {
-        Ok(log) => log,
-        Err(fault) => return Err(session.fault_of(fault)),
-    };
+    let run = run_session(alloc, store, session, files)?;
+    let diagnostics = run.diagnostics(alloc)?;
+    let log = run.log;
     let bytes = recorded(alloc, &log, recording.port, recording.raw)?;
-    write_file(alloc, store, recording.path, bytes.as_slice())
+    write_file(alloc, store, recording.path, bytes.as_slice())?;
+    Ok(Explanation {
+        diagnostics,
+        losses: log.losses,
+    })
 }
 
 /// What came to a port: with `raw` as one MIDI stream, and else as a Standard MIDI File.

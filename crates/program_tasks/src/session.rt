@@ -4,6 +4,7 @@ ghost use Rattle.std.specs.Prelude.{◌≡◌, Some, None, length, map, IfOk, If
 ghost use Rattle.seq_session.specs.Rising.{AreRising};
 ghost use Rattle.seq_session.specs.Devices.{clients, AreSound, AreOpen, reader_of, IsAmong};
 ghost use Rattle.program_tasks.specs.Words.{scripts_named, scripts_seen, IsOfWords};
+ghost use Rattle.program_tasks.specs.Explained.{path_for};
 ghost use Rattle.program_tasks.specs.Faults.{IsOfMemory, IsOfOpening};
 ghost use Rattle.program_tasks.specs.Opened.{AreSourcesOf};
 ghost use Rattle.program_tasks.specs.Sessions.{owners, AreEmpty, IsToldAs};
@@ -14,6 +15,7 @@ use crate::program_fault::ProgramFault;
 use crate::words::{ScriptWord, scripts_named};
 use byte_io::MemSink;
 use file_store::FileStore;
+use node_table::ClientId;
 use seq_session::{ScriptSource, SessionFault};
 use std::alloc::Global;
 
@@ -75,6 +77,18 @@ impl<'a> Session<'a> {
             sources.push(ScriptSource { client, reader })?;
         }
         Ok(sources)
+    }
+
+    /// The path of a client's script.
+    pub(crate) fn path_for(&self, client: ClientId) -> &'a str
+        ensures { result.now ≡ path_for self.now.scripts.items client }
+    {
+        for script in &self.scripts {
+            if script.client == client {
+                return script.path;
+            }
+        }
+        ""
     }
 
     /// A log in memory for each script.

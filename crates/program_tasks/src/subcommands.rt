@@ -3,18 +3,23 @@
 ghost use Rattle.std.specs.Prelude.{◌≡◌, ◌⊎◌, false, IfErr, IfOk, OnOk};
 ghost use Rattle.std.specs.Option.{option_map};
 ghost use Rattle.seq_session.specs.Rising.{AreRising};
+ghost use Rattle.byte_io.specs.Moved.{Took};
+ghost use Rattle.program_tasks.specs.Explained.{told_where};
 ghost use Rattle.program_tasks.specs.Faults.{IsOfListing, IsOfScripts, IsOfOutput, IsStuck};
 ghost use Rattle.program_tasks.specs.Sessions.{owners};
-ghost use Rattle.program_tasks.specs.Subcommands.{IsRunPrinted, IsCircleAnswered, IsTimeless, IsRunRecorded, IsRecordingStopped};
+ghost use Rattle.program_tasks.specs.Subcommands.{IsRunPrinted, IsRunExplained, IsCircleAnswered, IsTimeless, IsRunRecorded, IsRecordingStopped};
 
 use crate::answer::CircleAnswer;
 use crate::answering::print_circle;
+use crate::explaining::explain_session;
+use crate::explanation::Explanation;
 use crate::folder::{Folder, named};
 use crate::notes::Notes;
 use crate::printing::print_session;
 use crate::program_fault::ProgramFault;
 use crate::question::CircleQuestion;
 use crate::recording::{Recording, record_session};
+use crate::run_answer::RunAnswer;
 use crate::session::Session;
 use byte_io::Sink;
 use file_store::FileStore;
@@ -47,6 +52,36 @@ pub fn run<'a, S: FileStore, W: Sink, N: Notes>(
     print_session(alloc, store, session, &named(&opened), listed, out)
 }
 
+/// Runs the scripts of a session and prints its logs, as `run` does, and tells which lines did nothing, and why, and
+/// which clients lost messages. It gives whether the run was complete.
+///
+/// Tells first which files of the folder are left out.
+pub fn explain<'a, S: FileStore, W: Sink, N: Notes>(
+    alloc: Global,
+    store: &S,
+    session: &Session<'a>,
+    listed: bool,
+    out: &mut W,
+    notes: &mut N,
+) -> Result<RunAnswer, ProgramFault<'a>>
+    requires rising { AreRising (owners session.now.scripts.items) }
+    requires sound { W.failed out.old ≡ false }
+    ensures explained { IfOk result (λ answer. IsRunExplained S.IsOpened S.Reader.HasLeft S.CannotOpen
+        S.Reader.failed S.HasNames W.HasTaken N.HasTold session.now listed answer
+        out.old out.new notes.old notes.new) }
+    ensures fault { IfErr result (λ e.
+        IsOfListing S.CannotList (option_map (λ d. d.now) session.now.dir) e
+        ⊎ (IsOfScripts S.IsOpened S.Reader.HasLeft S.CannotOpen S.Reader.failed
+        session.now.scripts.items e
+        ⊎ IsOfOutput (IsStuck W.failed W.takes_some out.old out.new) e)) }
+{
+    let folder = Folder::read(alloc, store, session.dir)?;
+    let opened = folder.open(alloc, notes)?;
+    let explanation = explain_session(alloc, store, session, &named(&opened), listed, out)?;
+    explanation.tell(session, notes);
+    Ok(explanation.answer(folder.takes_all(&opened)))
+}
+
 /// Prints the circles that are asked for of a session, and tells whether each is shut. Nothing is run, but where a
 /// circle is asked for in its session.
 ///
@@ -77,20 +112,22 @@ pub fn circle<'a, S: FileStore, W: Sink, N: Notes>(
     print_circle(alloc, store, session, &named(&opened), question, out)
 }
 
-/// Runs the scripts of a session, and writes what came to a port to a file, once all else is done.
+/// Runs the scripts of a session, and writes what came to a port to a file, once all else is done. It gives whether the
+/// run was complete, and where `explains` says so it tells, as `explain` does, what it did not do.
 ///
-/// Tells which files of the folder are left out.
+/// Tells first which files of the folder are left out.
 pub fn record<'a, S: FileStore, N: Notes>(
     alloc: Global,
     store: &S,
     session: &Session<'a>,
     recording: &Recording<'a>,
+    explains: bool,
     notes: &mut N,
-) -> Result<(), ProgramFault<'a>>
+) -> Result<RunAnswer, ProgramFault<'a>>
     requires { AreRising (owners session.now.scripts.items) }
-    ensures recorded { OnOk result (IsRunRecorded S.IsOpened S.Reader.HasLeft S.CannotOpen
+    ensures recorded { IfOk result (λ answer. IsRunRecorded S.IsOpened S.Reader.HasLeft S.CannotOpen
         S.Reader.failed S.HasNames S.IsBegun S.Writer.HasTaken S.IsStored N.HasTold
-        session.now recording.now notes.old notes.new) }
+        session.now recording.now explains answer notes.old notes.new) }
     ensures fault { IfErr result (λ e.
         IsOfListing S.CannotList (option_map (λ d. d.now) session.now.dir) e
         ⊎ IsRecordingStopped S.IsOpened S.Reader.HasLeft S.CannotOpen S.Reader.failed S.HasNames
@@ -99,5 +136,23 @@ pub fn record<'a, S: FileStore, N: Notes>(
 {
     let folder = Folder::read(alloc, store, session.dir)?;
     let opened = folder.open(alloc, notes)?;
-    record_session(alloc, store, session, &folder, &named(&opened), recording)
+    let files = named(&opened);
+    let explanation = record_session(alloc, store, session, &folder, &files, recording)?;
+    tell_where(explains, &explanation, session, notes);
+    Ok(explanation.answer(folder.takes_all(&opened)))
+}
+
+/// Tells what a run did not do, where `explains` says so.
+fn tell_where<N: Notes>(
+    explains: bool,
+    explanation: &Explanation,
+    session: &Session<'_>,
+    notes: &mut N,
+)
+    ensures { Took N.HasTold notes.old
+        (told_where explains session.now.scripts.items explanation.now) notes.new }
+{
+    if explains {
+        explanation.tell(session, notes);
+    }
 }

@@ -1,7 +1,8 @@
 -- Words at the front of a line.
-use Rattle.std.proofs.Common.{◌≡◌, ℕ, ◌+◌, Bool, true, false, not, cond, List, [], ◌∷◌, length, take, drop, refl, sym, ap, ◌∙◌, arith}
+use Rattle.std.proofs.Common.{◌≡◌, ℕ, ◌+◌, ◌≤◌, Bool, true, false, not, cond, List, [], ◌∷◌, length, take, drop, refl, sym, ap, ◌∙◌, arith}
 use Rattle.std.specs.List.{filter, slice_split, onto_first, position_or_len, prefix_len}
-use Rattle.std.proofs.lemmas.List.Splits.{slice_split-cons_yes, slice_split-cons_no}
+use Rattle.std.proofs.lemmas.List.Splits.{slice_split-cons_yes, slice_split-cons_no, length-slice_split}
+use Rattle.std.proofs.lemmas.List.Sums.{length-filter, count_by-le-length}
 use Rattle.script_text.specs.Words.{is_blank, is_empty, words}
 use Rattle.script_text.proofs.Places.{one-more}
 
@@ -56,6 +57,14 @@ words-word (b ∷ bytes) c rest e h =
     ∙ ap (λ t. cond (not (is_empty (take (cond (not t) (1 + position_or_len is_blank bytes) 0) (b ∷ bytes)))) (take (position_or_len is_blank (b ∷ bytes)) (b ∷ bytes) ∷ some_words ps.0) (some_words ps.0)) (ap is_blank same ∙ h)
     ∙ ap (λ n. cond (not (is_empty (take n (b ∷ bytes)))) (take (position_or_len is_blank (b ∷ bytes)) (b ∷ bytes) ∷ some_words ps.0) (some_words ps.0)) (one-more (position_or_len is_blank bytes))
     ∙ ap (λ ws. take (position_or_len is_blank (b ∷ bytes)) (b ∷ bytes) ∷ ws) ps.2
+
+-- ---- how many words
+
+pub words-few : (bytes : List ℕ) → length (words bytes) ≤ length bytes + 1
+words-few bytes =
+    let parts_few : length (parts bytes) ≤ length bytes + 1 = omega (arith, length-slice_split is_blank bytes, count_by-le-length is_blank bytes) in
+    let words_fewer : length (words bytes) ≤ length (parts bytes) = omega (arith, length-filter (λ w. not (is_empty w)) (parts bytes), count_by-le-length (λ w. not (is_empty w)) (parts bytes)) in
+    omega arith
 
 -- ---- the next word of a cursor
 

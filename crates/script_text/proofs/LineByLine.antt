@@ -1,7 +1,8 @@
 -- A script read line by line.
-use Rattle.std.proofs.Common.{◌≡◌, ℕ, ◌+◌, ◌≤◌, ◌<◌, List, [], ◌∷◌, ◌++◌, length, take, drop, sym, ap, ◌∙◌, arith, add_assoc, append_assoc, append-nil}
+use Rattle.std.proofs.Common.{◌≡◌, ℕ, ◌+◌, ◌≤◌, ◌<◌, Bor, map, List, [], ◌∷◌, ◌++◌, length, take, drop, sym, ap, ◌∙◌, arith, add_assoc, append_assoc, append-nil}
 use Rattle.std.specs.List.{position_or_len}
 use Rattle.std.proofs.lemmas.List.Splits.{slice_split_first}
+use Rattle.std.proofs.lemmas.List.{map-append}
 use Rattle.seq_state.specs.declared.input.Command.{Command}
 use Rattle.script_text.specs.declared.line.Fate.{Fate}
 use Rattle.script_text.specs.declared.line.Fate.TheVariants.{PassedOver, Skipped, Taken}
@@ -14,6 +15,34 @@ use Rattle.script_text.specs.Scripts.{read_from, with_line, fate, latest_after}
 use Rattle.script_text.specs.Words.{is_line_end, lines}
 use Rattle.script_text.proofs.Places.{uncut}
 use Rattle.script_text.proofs.Read.{read_from-client}
+
+-- ---- a text
+
+-- the first line of a text, and what follows it
+pub first_of_lines : (text line next : List ℕ) (n : ℕ) → n ≡ position_or_len is_line_end text → n < length text → line ≡ take n text → next ≡ drop (n + 1) text → line ∷ lines next ≡ lines text
+first_of_lines text line next n e l f g =
+    ap (λ x. x ∷ lines next) f ∙ ap (λ x. take n text ∷ lines x) g
+    ∙ ap (λ k. take k text ∷ lines (drop (k + 1) text)) e
+    ∙ sym (slice_split_first is_line_end text 0 (omega arith))
+
+-- lines found in a text, and one more
+pub one_more_line : (found more : List (Bor (List ℕ))) (line : Bor (List ℕ)) (rest next : List ℕ) (n : ℕ) (whole : List (List ℕ)) → n ≡ position_or_len is_line_end rest → n < length rest → line.now ≡ take n rest → next ≡ drop (n + 1) rest → more ≡ found ++ line ∷ [] →
+    map (λ x. x.now) found ++ lines rest ≡ whole → map (λ x. x.now) more ++ lines next ≡ whole
+one_more_line found more line rest next n whole e l f g m h =
+    ap (λ xs. map (λ x. x.now) xs ++ lines next) m
+    ∙ ap (λ xs. xs ++ lines next) (map-append (λ x. x.now) found (line ∷ []))
+    ∙ append_assoc (map (λ x. x.now) found) (line.now ∷ []) (lines next)
+    ∙ ap (λ xs. map (λ x. x.now) found ++ xs) (first_of_lines rest line.now next n e l f g)
+    ∙ h
+
+pub last_of_lines : (found more : List (Bor (List ℕ))) (line : Bor (List ℕ)) (rest : List ℕ) (n : ℕ) (whole : List (List ℕ)) → n ≡ position_or_len is_line_end rest → n ≤ length rest → length rest ≤ n → line.now ≡ rest → more ≡ found ++ line ∷ [] →
+    map (λ x. x.now) found ++ lines rest ≡ whole → map (λ x. x.now) more ≡ whole
+last_of_lines found more line rest n whole e l k f m h =
+    ap (map (λ x. x.now)) m
+    ∙ map-append (λ x. x.now) found (line ∷ [])
+    ∙ ap (λ x. map (λ y. y.now) found ++ x ∷ []) f
+    ∙ ap (λ ls. map (λ x. x.now) found ++ ls) (sym (uncut is_line_end rest (omega arith)))
+    ∙ h
 
 -- ---- one line
 
@@ -58,14 +87,8 @@ module _ (client : ℕ) (names : List (List ℕ)) (end : ℕ) (rest line : List 
       ap (λ k. with_fate inputs' skips' (read_from client names end latest' (k + 1) (lines next))) m
       ∙ ap (λ k. with_fate inputs' skips' (read_from client names end latest' k (lines next))) (add_assoc number 1 1)
       ∙ sym (on (lines next))
-      ∙ ap (λ ls. with_fate inputs skips (read_from client names end latest (number + 1) ls)) same
+      ∙ ap (λ ls. with_fate inputs skips (read_from client names end latest (number + 1) ls)) (first_of_lines rest line next n e l f g)
       ∙ h
-    where
-      same : line ∷ lines next ≡ lines rest
-      same =
-          ap (λ x. x ∷ lines next) f ∙ ap (λ x. take n rest ∷ lines x) g
-          ∙ ap (λ k. take k rest ∷ lines (drop (k + 1) rest)) e
-          ∙ sym (slice_split_first is_line_end rest 0 (omega arith))
 
   pub last_line : n ≡ position_or_len is_line_end rest → n ≤ length rest → length rest ≤ n → line ≡ rest →
       IsLineRead client names end line inputs skips latest number inputs' skips' latest' →

@@ -4,4 +4,6 @@ pub mod Table
 pub mod Reasons
 pub mod Scripts
 pub mod Parsing
+pub mod LineFaults
+pub mod Laws
 pub mod Rows

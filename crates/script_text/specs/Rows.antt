@@ -8,9 +8,12 @@ use Rattle.seq_state.specs.declared.input.Command.{Command}
 use Rattle.seq_state.specs.declared.input.Command.TheVariants.{Open, Close, CreatePort, DeletePort, CreateFilter, SetFilter, DeleteFilter, Connect, Disconnect, Bytes, Send, CreateQueue, CreateQueueFrom, DeleteQueue, Start, Stop, Continue, Tempo, QueueStatus, Share, Schedule, Play, DropOutput, Receive, PoolStatus}
 use Rattle.seq_state.specs.declared.input.DueAt.TheVariants.{Tick, TickAfter, Nanos, NanosAfter}
 use Rattle.seq_state.specs.Step.{port_addr}
+use Rattle.script_text.specs.declared.line_faults.LineFault.TheVariants.{NoMoment, NoCommand, UnknownCommand, Missing, Wrong, NoMessage, TooMany}
 use Rattle.script_text.specs.declared.reading.Skip.{Skip}
 use Rattle.script_text.specs.declared.reading.SkipReason.{SkipReason}
 use Rattle.script_text.specs.declared.reading.SkipReason.TheVariants.{Unreadable, PastEnd, Late}
+use Rattle.script_text.specs.declared.word_kind.WordKind.TheVariants.{NodeNumber, Number8, Number32, Byte, Address, Due, File}
+use Rattle.script_text.specs.LineFaults.{line_fault, line_fault_text}
 use Rattle.script_text.specs.Words.{lines, words, without_return}
 use Rattle.script_text.specs.Numbers.{number, u8, u32, u64, shift, caps, addr, queue, due_word, some_bytes, message}
 use Rattle.script_text.specs.Table.{command}
@@ -167,6 +170,38 @@ pub record CommandForms : Type 0 where
   pub status : said_by (codes "status 128:q0") ≡ Some (QueueStatus (numbered_queue 128 0))
   pub drop_output : said_by (codes "drop") ≡ Some DropOutput
   pub receive : said_by (codes "receive 2000") ≡ Some (Receive 2000)
+
+-- ---- faults
+
+-- The first word that is wrong is told, by its place in the line; that of the moment is 1.
+pub record FaultForms : Type 0 where
+  pub readable : line_fault (codes "0 open a 8 8") ≡ None
+  pub no_words : line_fault (codes " \t\r") ≡ None
+  pub remark : line_fault (codes "#1 close close") ≡ None
+  pub no_moment : line_fault (codes "soon closed") ≡ Some NoMoment
+  pub no_command : line_fault (codes "7") ≡ Some NoCommand
+  pub unknown : line_fault (codes "7 Close") ≡ Some UnknownCommand
+  pub first_wrong : line_fault (codes "7 connect 128:q0 129:q0") ≡ Some (Wrong 3 Address)
+  pub second_wrong : line_fault (codes "7 connect 128:p0 129:q0") ≡ Some (Wrong 4 Address)
+  pub first_before_last : line_fault (codes "7 port 16 in 4 5") ≡ Some (Wrong 3 NodeNumber)
+  pub missing : line_fault (codes "7 open a 8") ≡ Some (Missing Number32)
+  pub missing_file : line_fault (codes "7 play 128:q0 0") ≡ Some (Missing File)
+  pub too_many : line_fault (codes "7 drop 1 2") ≡ Some (TooMany 3)
+  pub no_byte : line_fault (codes "7 send 0 90 3C 4G") ≡ Some (Wrong 6 Byte)
+  pub missing_byte : line_fault (codes "7 bytes 0") ≡ Some (Missing Byte)
+  pub no_message : line_fault (codes "7 send 0 90 3C") ≡ Some NoMessage
+  pub bytes_alone : line_fault (codes "7 bytes 0 90 3C") ≡ None
+  pub no_due : line_fault (codes "7 schedule 128:q0 0 t FE") ≡ Some (Wrong 5 Due)
+  pub no_channel :
+      line_fault (codes "7 setfilter 0 1 1 0 127 0 256") ≡ Some (Wrong 9 Number8)
+  pub two_channels :
+      line_fault (codes "7 setfilter 0 1 1 0 127 0 16 16") ≡ Some (TooMany 10)
+
+pub record FaultTexts : Type 0 where
+  pub wrong : line_fault_text (Wrong 3 Address) ≡ codes "word 3 is not a node (as 128:p0)"
+  pub missing : line_fault_text (Missing Address) ≡ codes "a node (as 128:p0) is missing"
+  pub too_many :
+      line_fault_text (TooMany 10) ≡ codes "there are too many words, from word 10 on"
 
 -- ---- scripts
 

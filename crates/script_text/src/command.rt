@@ -351,7 +351,7 @@ const KEYWORDS: [&[u8]; 25] = [
 ];
 
 /// The place of a word in the table; that past the last where it is none of them.
-fn keyword(word: &[u8]) -> usize
+pub(crate) fn keyword(word: &[u8]) -> usize
     ensures { result ≡ position_or_len (λ k. bytes_eq k.now word.now) KEYWORDS }
 {
     place_in(&KEYWORDS, word)

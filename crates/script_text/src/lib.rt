@@ -1,17 +1,28 @@
-//! Scripts: a line of text to an input, and a text to its inputs and the lines that are skipped.
+//! Scripts: a line of text to an input, a text to its inputs and the lines that are skipped, and why a line is
+//! unreadable.
 #![tactic(auto)]
 
 mod address;
 mod command;
+mod laws;
 mod line;
+mod line_faults;
+mod line_form;
+mod line_slices;
+mod message_words;
 mod number;
 mod reading;
 mod rows;
 mod script;
 mod unread;
+mod word_kind;
 mod words;
 
+pub use laws::unreadable_lines_have_faults;
+pub use line_faults::{LineFault, line_fault};
+pub use line_slices::lines_of;
 pub use number::{client_of, number_of, port_of};
 pub use reading::{ScriptInput, ScriptRead, Skip, SkipReason};
-pub use rows::worked_scripts;
+pub use rows::{worked_faults, worked_scripts};
 pub use script::{MOST_FILES, MOST_SCRIPT, parse_script};
+pub use word_kind::WordKind;

@@ -106,7 +106,7 @@ impl Reading {
 }
 
 /// How many bytes stand before the first line end.
-fn line_len(text: &[u8]) -> usize
+pub(crate) fn line_len(text: &[u8]) -> usize
     ensures value { result ≡ position_or_len is_line_end text.now }
     ensures within { result ≤ length text.now }
 {

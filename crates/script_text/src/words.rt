@@ -1,6 +1,6 @@
 //! A cursor over the words of a line.
 
-ghost use Rattle.std.specs.Prelude.{◌≡◌, ◌≤◌, ◌∷◌, length, [], Some, None, IfSome, IfNone, IfOk, IfErr, IsErrOf, map, OnOk, OnErr, true, false};
+ghost use Rattle.std.specs.Prelude.{◌≡◌, ◌≤◌, ◌^◌, ◌∷◌, length, [], Some, None, IfSome, IfNone, IfOk, IfErr, IsErrOf, map, OnOk, OnErr, true, false};
 ghost use Rattle.script_text.specs.Words.{is_blank, words};
 ghost use Rattle.std.specs.List.{position, position_or_len, prefix_len};
 ghost use Rattle.script_text.specs.Table.{word_as, no_more, maybe, file};
@@ -74,6 +74,21 @@ impl<'b> Words<'b> {
         ensures { result ≡ words line.now }
     {
         Words { rest: line }
+    }
+
+    /// The same words once more.
+    pub(crate) fn again(&self) -> Words<'b>
+        ensures { result ≡ self.now }
+    {
+        Words { rest: self.rest }
+    }
+
+    /// A line has fewer words than a slice has bytes at most. It does nothing.
+    pub(crate) fn are_few(&self)
+        ensures { length self.now ≤ 2 ^ 63 }
+    {
+        // The length is known only once it is read.
+        let _len = self.rest.len();
     }
 
     /// The next word.

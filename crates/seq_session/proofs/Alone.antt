@@ -4,21 +4,24 @@ use Rattle.std.specs.List.{AllByRecursion}
 use Rattle.std.proofs.lemmas.Bool.{eq-eqb, ne_eqb}
 use Rattle.std.proofs.lemmas.List.{length-map}
 use Rattle.seq_state.specs.declared.log.LogEntry.{LogEntry}
-use Rattle.seq_state.specs.Step.{plain}
+use Rattle.seq_state.specs.State.{start}
+use Rattle.seq_state.specs.Step.{plain, state_after}
+use Rattle.seq_engine.specs.Ending.{listing_of}
+use Rattle.seq_engine.specs.Losses.{losses}
 use Rattle.byte_io.specs.Moved.{Took, TookPart}
-use Rattle.script_text.specs.declared.reading.ScriptRead.{ScriptRead}
 use Rattle.script_text.proofs.Read.{script-client}
 use Rattle.seq_session.specs.declared.fault.SessionFault.{SessionFault}
 use Rattle.seq_session.specs.declared.fault.SessionFault.TheVariants.{OutOfMemory, Read, Write, WriteListing}
 use Rattle.seq_session.specs.declared.merged.Merged.{Merged}
+use Rattle.seq_session.specs.declared.session_run.SessionRun.{SessionRun}
 use Rattle.seq_session.specs.declared.source.Script.{Script}
 use Rattle.seq_session.specs.declared.source.ScriptSource.{ScriptSource}
 use Rattle.seq_session.specs.Rising.{RiseFrom, AreRising}
 use Rattle.seq_session.specs.Merging.{merge_of}
 use Rattle.seq_session.specs.Logs.{log_text}
 use Rattle.seq_session.specs.AllLogs.{clients_read}
-use Rattle.seq_session.specs.Sessions.{FolderContents, script_reading, log_of, all_logs, listing_after, script_clients, script_for}
-use Rattle.seq_session.specs.Devices.{clients, AreRead, AreOpen, Wrote, AreAlone, IsSession, log_of_fault, IsReading, LogsTell}
+use Rattle.seq_session.specs.Sessions.{FolderContents, script_reading, happens, log_of, all_logs, listing_after, script_clients, script_for}
+use Rattle.seq_session.specs.Devices.{clients, AreRead, AreOpen, Wrote, AreAlone, IsSession, IsRunOf, log_of_fault, IsReading, LogsTell}
 use Rattle.seq_session.proofs.Blamed.{none_told}
 use Rattle.seq_session.proofs.Isolated.{log_law}
 
@@ -35,13 +38,27 @@ each_text : (folder : FolderContents) (end : ℕ) (lines : List ℕ) (entries : 
 each_text folder end lines entries [] = refl
 each_text folder end lines entries (s ∷ scripts) = ap (λ ts. log_text (script_reading folder end s) lines entries ∷ ts) (each_text folder end lines entries scripts)
 
-pub logs_made : (folder : FolderContents) (end : ℕ) (scripts : List Script) (reads : List ScriptRead) (m : Merged) (entries : List LogEntry) →
-    reads ≡ map (script_reading folder end) scripts → m ≡ merge_of (map (script_reading folder end) scripts) → entries ≡ plain folder.files m.inputs end → map (λ r. log_text r m.lines entries) reads ≡ all_logs folder end scripts
-logs_made folder end scripts reads m entries r e p =
-    ap (map (λ r. log_text r m.lines entries)) r
-    ∙ each_text folder end m.lines entries scripts
-    ∙ ap (λ es. map (λ s. log_text (script_reading folder end s) m.lines es) scripts) p
-    ∙ ap (λ (n : Merged). map (λ s. log_text (script_reading folder end s) n.lines (plain folder.files n.inputs end)) scripts) e
+pub logs_made : (folder : FolderContents) (end : ℕ) (scripts : List Script) (run : SessionRun) → IsRunOf folder end scripts run →
+    map (λ r. log_text r run.merged.lines run.log.entries) run.reads ≡ all_logs folder end scripts
+logs_made folder end scripts run is =
+    ap (map (λ r. log_text r run.merged.lines run.log.entries)) is.reads
+    ∙ each_text folder end run.merged.lines run.log.entries scripts
+    ∙ ap (λ es. map (λ s. log_text (script_reading folder end s) run.merged.lines es) scripts) is.plain
+    ∙ ap (λ ls. map (λ s. log_text (script_reading folder end s) ls (happens folder end scripts)) scripts) is.lines
+
+-- what was read, merged and run is the run of the scripts
+pub run_of : (folder : FolderContents) (end : ℕ) (scripts : List Script) (run : SessionRun) →
+    run.scripts ≡ scripts → run.reads ≡ map (script_reading folder end) scripts → run.merged ≡ merge_of (map (script_reading folder end) scripts) →
+    run.log.entries ≡ plain folder.files run.merged.inputs end → run.log.listing ≡ listing_of (state_after folder.files start run.merged.inputs) →
+    run.log.losses ≡ losses folder.files run.merged.inputs end → IsRunOf folder end scripts run
+run_of folder end scripts run s r m p l x = record {
+  scripts_are = s;
+  reads = r;
+  lines = ap (λ (n : Merged). n.lines) m;
+  plain = p ∙ ap (λ (n : Merged). plain folder.files n.inputs end) m;
+  listing = l ∙ ap (λ (n : Merged). listing_of (state_after folder.files start n.inputs)) m;
+  losses = x ∙ ap (λ (n : Merged). losses folder.files n.inputs end) m;
+}
 
 -- ---- each log is isolated
 

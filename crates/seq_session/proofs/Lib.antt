@@ -8,3 +8,4 @@ pub mod Blamed
 pub mod Alone
 pub mod Ports
 pub mod Later
+pub mod Wrong

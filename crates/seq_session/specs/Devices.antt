@@ -5,11 +5,11 @@ use Rattle.byte_io.specs.Moved.{GaveAll, Took, TookPart}
 use Rattle.script_text.specs.declared.script.TheConstants.{MOST_SCRIPT}
 use Rattle.seq_session.specs.declared.fault.SessionFault.{SessionFault}
 use Rattle.seq_session.specs.declared.fault.SessionFault.TheVariants.{OutOfMemory, Read, Write, WriteListing}
-use Rattle.seq_engine.specs.declared.runs.RunLog.{RunLog}
 use Rattle.seq_session.specs.declared.source.Script.{Script}
+use Rattle.seq_session.specs.declared.session_run.SessionRun.{SessionRun}
 use Rattle.seq_session.specs.declared.source.ScriptSource.{ScriptSource}
-use Rattle.seq_session.specs.Merging.{inputs_of}
-use Rattle.seq_session.specs.Sessions.{FolderContents, script_reading, session, happens, log_of, all_logs, listing_after, script_clients, only_scripts}
+use Rattle.seq_session.specs.Merging.{inputs_of, lines_of}
+use Rattle.seq_session.specs.Sessions.{FolderContents, script_reading, session, happens, log_of, all_logs, listing_after, lost_in, script_clients, only_scripts}
 use Rattle.seq_session.specs.Blank.{blank}
 use Rattle.seq_state.specs.Circle.{IsClosed}
 
@@ -139,13 +139,22 @@ pub record IsSession {T R W : Type 0} (HasLeft : R → List ℕ → Type 0)
   pub read : AreRead HasLeft sources rests scripts
   pub written : IsWritten HasTaken folder end scripts olds news before after result
 
--- Scripts were read from these readers, and the log is that of the run of just these scripts.
+-- The run is that of these scripts.
+pub record IsRunOf (folder : FolderContents) (end : ℕ) (scripts : List Script)
+    (run : SessionRun) : Type 0 where
+  pub scripts_are : run.scripts ≡ scripts
+  pub reads : run.reads ≡ map (script_reading folder end) scripts
+  pub lines : run.merged.lines ≡ lines_of (session folder end scripts)
+  pub plain : run.log.entries ≡ happens folder end scripts
+  pub listing : run.log.listing ≡ listing_after folder end scripts
+  pub losses : run.log.losses ≡ lost_in folder end scripts
+
+-- Scripts were read from these readers, and the run is that of just these scripts.
 pub record IsRun {R : Type 0} (HasLeft : R → List ℕ → Type 0) (folder : FolderContents) (end : ℕ)
-    (sources rests : List (ScriptSource R)) (log : RunLog) : Type 0 where
+    (sources rests : List (ScriptSource R)) (run : SessionRun) : Type 0 where
   pub scripts : List Script
   pub read : AreRead HasLeft sources rests scripts
-  pub plain : log.entries ≡ happens folder end scripts
-  pub listing : log.listing ≡ listing_after folder end scripts
+  pub is : IsRunOf folder end scripts run
 
 -- ---- faults
 

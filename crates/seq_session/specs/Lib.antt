@@ -2,6 +2,7 @@ pub mod Rising
 pub mod Merging
 pub mod Logs
 pub mod AllLogs
+pub mod Diagnostics
 pub mod Sessions
 pub mod Blank
 pub mod Devices

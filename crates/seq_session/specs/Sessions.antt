@@ -6,10 +6,14 @@ use Rattle.smf_grammar.specs.Played.{PlayedFile}
 use Rattle.seq_state.specs.State.{start}
 use Rattle.seq_state.specs.Step.{plain, state_after}
 use Rattle.seq_engine.specs.Ending.{listing_of}
+use Rattle.seq_engine.specs.Losses.{losses}
+use Rattle.seq_engine.specs.declared.losses.Loss.{Loss}
 use Rattle.script_text.specs.declared.reading.ScriptRead.{ScriptRead}
 use Rattle.script_text.specs.declared.reading.ScriptInput.{ScriptInput}
 use Rattle.script_text.specs.Scripts.{script}
+use Rattle.seq_session.specs.declared.diagnostic.Diagnostic.{Diagnostic}
 use Rattle.seq_session.specs.declared.source.Script.{Script}
+use Rattle.seq_session.specs.Diagnostics.{diagnostics}
 use Rattle.seq_session.specs.Merging.{inputs_in_order, inputs_of, lines_of}
 use Rattle.seq_session.specs.Logs.{log_text}
 
@@ -43,6 +47,16 @@ all_logs folder end scripts = map (log_of folder end scripts) scripts
 abbrev pub listing_after : FolderContents → ℕ → List Script → List ℕ
 listing_after folder end scripts =
     listing_of (state_after folder.files start (inputs_of (session folder end scripts)))
+
+-- what the clients lose
+abbrev pub lost_in : FolderContents → ℕ → List Script → List Loss
+lost_in folder end scripts = losses folder.files (inputs_of (session folder end scripts)) end
+
+-- the lines that did nothing
+abbrev pub diagnosed_in : FolderContents → ℕ → List Script → List Diagnostic
+diagnosed_in folder end scripts =
+    diagnostics scripts (map (script_reading folder end) scripts)
+    (lines_of (session folder end scripts)) (happens folder end scripts)
 
 -- ---- scripts by client
 

@@ -4,6 +4,8 @@
 //! a log tells within a closed circle of clients what it tells in the session of the circle's scripts alone.
 #![tactic(auto)]
 
+mod diagnosing;
+mod diagnostic;
 mod fault;
 mod join;
 mod laws;
@@ -16,10 +18,12 @@ mod named_files;
 mod parse;
 mod reading;
 mod rows;
+mod session_run;
 mod sessions;
 mod source;
 mod writing;
 
+pub use diagnostic::{Cause, Diagnostic};
 pub use fault::SessionFault;
 pub use laws::{logs_alone, merges_of_a_circle, readings_are_sorted, sessions_are_timed};
 pub use log::{log_text, log_texts};
@@ -29,5 +33,6 @@ pub use named_files::NamedFiles;
 pub use parse::parse_script;
 pub use rows::worked_logs;
 pub use script_text::{MOST_FILES, MOST_SCRIPT, ScriptInput, ScriptRead, Skip, SkipReason};
+pub use session_run::SessionRun;
 pub use sessions::{run_scripts, run_sessions};
 pub use source::{Script, ScriptSource, clients_rise, logs_are_open, readers_are_sound};

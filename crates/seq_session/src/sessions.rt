@@ -5,24 +5,26 @@ ghost use Rattle.std.specs.FinMap as finmap;
 ghost use Rattle.seq_state.specs.State.{start};
 ghost use Rattle.seq_state.specs.Step.{plain, state_after, IsTimed};
 ghost use Rattle.seq_engine.specs.Ending.{listing_of};
+ghost use Rattle.seq_engine.specs.Losses.{losses};
+ghost use Rattle.seq_session.specs.AllLogs.{clients_read};
 ghost use Rattle.seq_session.specs.Rising.{AreRising};
 ghost use Rattle.seq_session.specs.Merging.{inputs_of};
-ghost use Rattle.seq_session.specs.Sessions.{happens, all_logs, listing_after, script_clients};
-ghost use Rattle.seq_session.specs.Devices.{clients, AreSound, AreOpen, IsSession, IsRun};
+ghost use Rattle.seq_session.specs.Sessions.{all_logs, listing_after, script_clients};
+ghost use Rattle.seq_session.specs.Devices.{clients, AreSound, AreOpen, IsSession, IsRun, IsRunOf};
 ghost use Rattle.seq_session.specs.Devices.{reader_blamed, log_blamed, blames_listing, has_read, IsAmong, IsReading, ReadersTell, IsTold, LogsTell};
 
 use crate::fault::SessionFault;
-use crate::log::log_texts;
 use crate::merged::Merged;
 use crate::merging::merge;
 use crate::named_files::NamedFiles;
 use crate::parse::parse_all;
 use crate::reading::read_all;
+use crate::session_run::SessionRun;
 use crate::source::{Script, ScriptSource};
 use crate::writing::{write_listing, write_logs};
 use agenda_heap::Agenda;
 use byte_io::{Sink, Source};
-use memory::OutOfMemory;
+use memory::{Items, OutOfMemory};
 use seq_engine::{RunLog, run};
 use std::alloc::Global;
 
@@ -75,12 +77,12 @@ pub fn run_sessions<'f, 'b, R: Source, W: Sink, A: Agenda + Drop>(
 {
     let mut told = Vec::new(alloc);
     read_all(alloc, scripts, &mut told)?;
-    let texts = run_texts(alloc, told.as_slice(), files, agenda, until)?;
-    write_logs(told.as_slice(), logs, texts.logs.as_slice())?;
-    write_listing(listing, texts.run.listing.as_slice())
+    let texts = run_texts(alloc, told, files, agenda, until)?;
+    write_logs(texts.run.scripts.as_slice(), logs, texts.logs.as_slice())?;
+    write_listing(listing, texts.run.log.listing.as_slice())
 }
 
-/// Reads the script of each client and runs all of them together up to `until`, without their logs.
+/// Reads the script of each client and runs all of them together up to `until`, without writing their logs.
 ///
 /// The numbers of the clients rise, no device has failed, and the agenda is empty. A reader that finds no memory is
 /// `Read`; `OutOfMemory` is out of memory anywhere else.
@@ -90,37 +92,45 @@ pub fn run_scripts<'f, 'b, R: Source, A: Agenda + Drop>(
     files: &NamedFiles<'f, 'b>,
     agenda: A,
     until: u64,
-) -> Result<RunLog, SessionFault>
+) -> Result<SessionRun, SessionFault>
     requires rising { AreRising (clients scripts.old) }
     requires readers { AreSound R.failed scripts.old }
     requires empty { A.content agenda ≡ finmap.empty }
-    ensures run { IfOk result (λ log.
-        IsRun R.HasLeft files.now until scripts.old scripts.new log) }
+    ensures run { IfOk result (λ run.
+        IsRun R.HasLeft files.now until scripts.old scripts.new run) }
+    ensures rising { IfOk result (λ run. AreRising (clients_read run.reads)) }
     ensures only { IfErr result IsReading }
     ensures clients { clients scripts.new ≡ clients scripts.old }
     ensures reader_marks { ReadersTell R.failed (reader_blamed result) scripts.new }
     ensures reader_blamed { IfSome (reader_blamed result) (λ k. IsAmong k (clients scripts.old)) }
 {
-    let mut read = Vec::new(alloc);
-    read_all(alloc, scripts, &mut read)?;
-    Ok(run_told(alloc, read.as_slice(), files, agenda, until)?)
+    let mut told = Vec::new(alloc);
+    read_all(alloc, scripts, &mut told)?;
+    Ok(run_told(alloc, told, files, agenda, until)?)
 }
 
 /// Runs the scripts.
 fn run_told<'f, 'b, A: Agenda + Drop>(
     alloc: Global,
-    scripts: &[Script],
+    scripts: Vec<Script>,
     files: &NamedFiles<'f, 'b>,
     agenda: A,
     until: u64,
-) -> Result<RunLog, OutOfMemory>
+) -> Result<SessionRun, OutOfMemory>
+    requires rising { AreRising (script_clients scripts.items) }
     requires empty { A.content agenda ≡ finmap.empty }
-    ensures plain { IfOk result (λ log. log.entries ≡ happens files.now until scripts.now) }
-    ensures listing { IfOk result (λ log. log.listing ≡ listing_after files.now until scripts.now) }
+    ensures run { IfOk result (IsRunOf files.now until scripts.items) }
+    ensures rising { IfOk result (λ run. AreRising (clients_read run.reads)) }
 {
-    let reads = parse_all(alloc, scripts, files, until)?;
+    let reads = parse_all(alloc, scripts.as_slice(), files, until)?;
     let merged = merge(alloc, reads.as_slice())?;
-    run_merged(alloc, files, agenda, &merged, until)
+    let log = run_merged(alloc, files, agenda, &merged, until)?;
+    Ok(SessionRun {
+        scripts: Items::new(scripts),
+        reads: Items::new(reads),
+        merged,
+        log,
+    })
 }
 
 /// What a session writes.
@@ -129,27 +139,27 @@ struct SessionTexts {
     /// The log of each client.
     logs: Vec<Vec<u8>>,
     /// The run, with its listing.
-    run: RunLog,
+    run: SessionRun,
 }
 
 /// Runs the scripts, and makes the texts.
 fn run_texts<'f, 'b, A: Agenda + Drop>(
     alloc: Global,
-    scripts: &[Script],
+    scripts: Vec<Script>,
     files: &NamedFiles<'f, 'b>,
     agenda: A,
     until: u64,
 ) -> Result<SessionTexts, OutOfMemory>
-    requires rising { AreRising (script_clients scripts.now) }
+    requires rising { AreRising (script_clients scripts.items) }
     requires empty { A.content agenda ≡ finmap.empty }
+    ensures scripts { IfOk result (λ t. t.run.scripts ≡ scripts.items) }
     ensures logs { IfOk result (λ t.
-        map (λ l. l.items) t.logs.items ≡ all_logs files.now until scripts.now) }
-    ensures listing { IfOk result (λ t. t.run.listing ≡ listing_after files.now until scripts.now) }
+        map (λ l. l.items) t.logs.items ≡ all_logs files.now until scripts.items) }
+    ensures listing { IfOk result (λ t.
+        t.run.log.listing ≡ listing_after files.now until scripts.items) }
 {
-    let reads = parse_all(alloc, scripts, files, until)?;
-    let merged = merge(alloc, reads.as_slice())?;
-    let run = run_merged(alloc, files, agenda, &merged, until)?;
-    let logs = log_texts(alloc, reads.as_slice(), &merged, &run)?;
+    let run = run_told(alloc, scripts, files, agenda, until)?;
+    let logs = run.logs(alloc)?;
     Ok(SessionTexts { logs, run })
 }
 
@@ -167,6 +177,8 @@ fn run_merged<'f, 'b, A: Agenda + Drop>(
         log.entries ≡ plain files.now.files merged.now.inputs until) }
     ensures listing { IfOk result (λ log.
         log.listing ≡ listing_of (state_after files.now.files start merged.now.inputs)) }
+    ensures losses { IfOk result (λ log.
+        log.losses ≡ losses files.now.files merged.now.inputs until) }
 {
     match run(
         alloc,

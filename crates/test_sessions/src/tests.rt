@@ -1,6 +1,7 @@
 //! Sessions and scripts, through the public calls.
 
 mod devices;
+mod diagnosing;
 mod failing_devices;
 mod files;
 mod patching;

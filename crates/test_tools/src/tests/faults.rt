@@ -1,6 +1,13 @@
 //! What the program is asked to do, and the lines and statuses of its faults.
 
-use program_tasks::{FaultLine, ProgramFault, STANDARD, Stream, Task, Tool};
+use node_table::ClientId;
+use program_tasks::{
+    DiagnosticLine, FaultLine, LossLine, ProgramFault, STANDARD, Stream, Task, Tool,
+};
+use script_text::{LineFault, WordKind};
+use seq_engine::Loss;
+use seq_session::{Cause, Diagnostic, SkipReason};
+use seq_state::Refusal;
 use smf_files::SmfFault;
 use std::alloc::Global;
 use std::io::ErrorKind;
@@ -135,6 +142,73 @@ fn shows_each_fault_of_a_tool(rt: HostRuntime) -> Result<(), Fail> {
     for (fault, text) in &faults {
         let line = format!(in rt.alloc(); "{fault}")?;
         assert!(rt; line.as_str() == *text);
+    }
+    Ok(())
+}
+
+/// What is told of a run, and its line.
+type Line<'a> = (DiagnosticLine<'a>, &'static str);
+
+fn told_of(path: &str, number: u8, line: u64, cause: Cause) -> Result<DiagnosticLine<'_>, Fail> {
+    let client = ClientId::new(number).ok_or("a client number")?;
+    Ok(DiagnosticLine {
+        path,
+        diagnostic: Diagnostic {
+            client,
+            line,
+            cause,
+        },
+    })
+}
+
+#[test]
+fn tells_of_lines_that_did_nothing(rt: HostRuntime) -> Result<(), Fail> {
+    let no_command = Cause::Unreadable(LineFault::UnknownCommand);
+    let no_node = Cause::Unreadable(LineFault::Wrong {
+        place: 3,
+        kind: WordKind::Address,
+    });
+    let lines: [Line<'_>; 6] = [
+        (
+            told_of("keys.txt", 128, 3, no_command)?,
+            "keys.txt:3: skipped: its second word is no command",
+        ),
+        (
+            told_of("keys.txt", 128, 4, no_node)?,
+            "keys.txt:4: skipped: word 3 is not a node (as 128:p0)",
+        ),
+        (
+            told_of("a\nb", 128, 10, Cause::Skipped(SkipReason::PastEnd))?,
+            "a\\nb:10: skipped: its moment lies past the end of the run",
+        ),
+        (
+            told_of("keys.txt", 128, 4, Cause::Skipped(SkipReason::Late))?,
+            "keys.txt:4: skipped: its moment lies before that of a line above it",
+        ),
+        (
+            told_of("keys.txt", 128, 0, Cause::Skipped(SkipReason::TooLong))?,
+            "keys.txt: skipped: the script has more than 1048576 bytes",
+        ),
+        (
+            told_of("synth.txt", 129, 7, Cause::Refused(Refusal::NoDest))?,
+            "synth.txt:7: refused 9 NoDest: the second address names nothing: its client has to make the node first",
+        ),
+    ];
+    for (line, text) in &lines {
+        assert!(rt; format!(in rt.alloc(); "{line}")?.as_str() == *text);
+    }
+    Ok(())
+}
+
+#[test]
+fn tells_of_what_was_lost(rt: HostRuntime) -> Result<(), Fail> {
+    let client = ClientId::new(129).ok_or("a client number")?;
+    for (messages, text) in [
+        (1, "midiseq: 129 lost 1 message: its input pool was full (see receive)"),
+        (4204, "midiseq: 129 lost 4204 messages: its input pool was full (see receive)"),
+    ] {
+        let line = LossLine(Loss { client, messages });
+        assert!(rt; format!(in rt.alloc(); "{line}")?.as_str() == text);
     }
     Ok(())
 }

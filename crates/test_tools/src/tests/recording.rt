@@ -112,14 +112,15 @@ fn ran(alloc: Global, first: &str, second: &str) -> Result<RunLog, Fail> {
         return Err("scripts that can be run".into());
     }
     let files = NamedFiles::new(&[], &[]).ok_or("a name for each file")?;
-    let log = run_scripts(
+    let run = run_scripts(
         alloc,
         &mut scripts,
         &files,
         HeapAgenda::new(alloc),
         280_000_000_000_000,
     );
-    Ok(log.ok().ok_or("a run")?)
+    let run = run.ok().ok_or("a run")?;
+    Ok(run.log)
 }
 
 fn script_of(alloc: Global, number: u8, text: &str) -> Result<ScriptSource<MemSource>, Fail> {

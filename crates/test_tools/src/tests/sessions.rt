@@ -2,7 +2,7 @@
 
 ghost use Rattle.std.specs.Prelude.{◌≡◌, IfOk, false};
 
-use byte_io::{MemSink, write_all};
+use byte_io::MemSink;
 use memory::OutOfMemory;
 use node_table::{ClientId, PortAddr, PortNo};
 use program_tasks::{
@@ -235,12 +235,6 @@ fn sink(alloc: Global) -> Result<MemSink, OutOfMemory>
     MemSink::new(alloc, 0)
 }
 
-fn log(alloc: Global, text: &[u8]) -> Result<MemSink, Fail> {
-    let mut log = sink(alloc)?;
-    write_all(&mut log, text).ok().ok_or("a log in memory")?;
-    Ok(log)
-}
-
 fn script<'a>(client: ClientId) -> ScriptWord<'a> {
     ScriptWord { client, path: "a" }
 }
@@ -256,7 +250,7 @@ fn print(
     let first = ClientId::new(128).ok_or("a client number")?;
     let second = ClientId::new(191).ok_or("a client number")?;
     let scripts = [script(first), script(second)];
-    let logs = [log(alloc, b"0 line 1 ok\n")?, sink(alloc)?];
+    let logs = [b"0 line 1 ok\n".as_slice(), b"".as_slice()];
     Ok(print_logs(alloc, &scripts, &logs, listing, out))
 }
 

@@ -1,0 +1,25 @@
+//! What there is to say of a line of a script that did nothing.
+
+use node_table::ClientId;
+use script_text::{LineFault, SkipReason};
+use seq_state::Refusal;
+
+/// Why a line did nothing.
+#[derive(Clone, Copy, Debug, PartialEq, Eq)]
+pub enum Cause {
+    /// It is skipped, since this word is wrong.
+    Unreadable(LineFault),
+    /// It is skipped for another reason.
+    Skipped(SkipReason),
+    /// Its command was refused.
+    Refused(Refusal),
+}
+
+/// A line of a client's script that did nothing.
+#[derive(Clone, Copy, Debug, PartialEq, Eq)]
+pub struct Diagnostic {
+    pub client: ClientId,
+    /// From 1; 0 for the whole script.
+    pub line: u64,
+    pub cause: Cause,
+}
