@@ -1,0 +1,4 @@
+pub mod Tracks
+pub mod Seen
+pub mod Laws
+pub mod Rows

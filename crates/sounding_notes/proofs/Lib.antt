@@ -1,0 +1,4 @@
+pub mod Added
+pub mod Hearing
+pub mod Parts
+pub mod Started

@@ -1,0 +1,4 @@
+pub mod Sounding
+pub mod Kept
+pub mod Laws
+pub mod Rows
