@@ -100,9 +100,10 @@ said. With --list comes the listing at the end: clients, ports, filters, queues
 and subscriptions.
 
 With --explain standard error tells of each line that did nothing, whether it
-was skipped or its command refused, with what to do about it, and of each client
-that lost messages since its input pool was full. --strict does the same, and
-where there was any, or a file was left out, the status is 3.
+was skipped or its command refused, with what to do about it; of each client
+that lost messages since its input pool was full; and of each note that still
+sounds at the end. --strict does the same, and where a line did nothing, a
+message was lost or a file was left out, the status is 3.
 
 The files in D whose names end in .mid can be played by these names; the first
 256 in byte order are taken. One that cannot be read, or is no regular file or

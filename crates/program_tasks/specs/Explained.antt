@@ -1,8 +1,10 @@
 -- Definition: What is told of a run, beside its logs: lines that did nothing, and messages that were lost.
-use Rattle.std.specs.Prelude.{◌≡◌, ℕ, ◌==◌, Bool, true, false, ◌&&◌, if◌then◌else◌, List, [], ◌∷◌, ◌++◌, length, codes}
+use Rattle.std.specs.Prelude.{◌≡◌, ℕ, ◌+◌, ◌==◌, Bool, true, false, ◌&&◌, if◌then◌else◌, List, [], ◌∷◌, ◌++◌, length, codes}
 use Rattle.std.specs.List.{flat_map}
 use Rattle.std.specs.Fmt.{decimal}
 use Rattle.byte_io.specs.Moved.{Took}
+use Rattle.node_table.specs.Text.{addr_text}
+use Rattle.node_table.specs.declared.number.Node.TheVariants.{Port}
 use Rattle.seq_state.specs.Refusals.{refusal_text}
 use Rattle.seq_state.specs.declared.refusal.Refusal.{Refusal}
 use Rattle.seq_state.specs.declared.refusal.Refusal.TheVariants.{NotOpen, AlreadyOpen, BadName, BadSize, BadRule, NodeExists, NoNode, NoSender, NoDest, NotPermitted, AlreadyConnected, NotConnected, SourcesFull, Cycle, QueueExists, NotYours, NoQueue, QueueRunning, QueueStopped, NoFile, DivisionDiffers, BadTempo, BadTime, OutFull}
@@ -16,7 +18,9 @@ use Rattle.seq_session.specs.declared.diagnostic.Diagnostic.{Diagnostic}
 use Rattle.seq_session.specs.declared.session_run.SessionRun.{SessionRun}
 use Rattle.seq_session.specs.declared.source.Script.{Script}
 use Rattle.seq_session.specs.Devices.{IsRunOf}
-use Rattle.seq_session.specs.Sessions.{FolderContents, diagnosed_in, lost_in}
+use Rattle.seq_session.specs.Sessions.{FolderContents, happens, diagnosed_in, lost_in}
+use Rattle.sounding_notes.specs.declared.listing.SoundingNote.{SoundingNote}
+use Rattle.sounding_notes.specs.Sounding.{sounding}
 use Rattle.program_tasks.specs.declared.explanation.Explanation.{Explanation}
 use Rattle.program_tasks.specs.declared.run_answer.RunAnswer.{RunAnswer}
 use Rattle.program_tasks.specs.declared.run_answer.RunAnswer.TheVariants.{Complete, Incomplete}
@@ -99,6 +103,22 @@ loss_line l =
     line_start ++ decimal l.client ++ codes " lost " ++ messages_text l.messages
     ++ codes ": its input pool was full (see receive)"
 
+-- ---- notes that sound
+
+-- channels count from 1
+abbrev pub channel_text : ℕ → List ℕ
+channel_text channel = decimal (channel + 1)
+
+abbrev pub note_text : SoundingNote → List ℕ
+note_text n =
+    codes ": note " ++ (decimal n.note ++ (codes " of channel " ++ channel_text n.channel))
+
+-- `midiseq: 129:p0: note 60 of channel 1 still sounds`
+abbrev pub sounding_line : SoundingNote → List ℕ
+sounding_line n =
+    line_start ++ (addr_text n.target.client (Port n.target.port)
+    ++ (note_text n ++ codes " still sounds"))
+
 -- ---- a run
 
 abbrev pub lines_told : {X : Type 0} → (X → List ℕ) → List X → List ℕ
@@ -108,10 +128,11 @@ lines_told line xs = flat_map (λ x. line x ++ 10 ∷ []) xs
 abbrev pub diagnostics_told : List ScriptWord → List Diagnostic → List ℕ
 diagnostics_told words ds = lines_told (λ d. diagnostic_line (path_for words d.client) d) ds
 
--- the lines that did nothing, and then what was lost
+-- the lines that did nothing, then what was lost, and then what sounds
 abbrev pub explanation_lines : List ScriptWord → Explanation → List ℕ
 explanation_lines words x =
-    diagnostics_told words x.diagnostics.items ++ lines_told loss_line x.losses
+    diagnostics_told words x.diagnostics.items
+    ++ (lines_told loss_line x.losses.items ++ lines_told sounding_line x.sounding.items)
 
 -- the same, where it is asked for
 abbrev pub told_where : Bool → List ScriptWord → Explanation → List ℕ
@@ -128,13 +149,19 @@ answer_where false = Incomplete
 -- complete where all files were taken, no line did nothing, and no message was lost
 abbrev pub run_answer : Bool → Explanation → RunAnswer
 run_answer all_taken x =
-    answer_where (all_taken && are_none x.diagnostics.items && are_none x.losses)
+    answer_where (all_taken && are_none x.diagnostics.items && are_none x.losses.items)
 
 -- what the run of these scripts did not do
 pub record IsExplanationOf (folder : FolderContents) (end : ℕ) (scripts : List Script)
     (x : Explanation) : Type 0 where
   pub diagnostics : x.diagnostics.items ≡ diagnosed_in folder end scripts
-  pub losses : x.losses ≡ lost_in folder end scripts
+  pub losses : x.losses.items ≡ lost_in folder end scripts
+  pub sounding : x.sounding.items ≡ sounding (happens folder end scripts)
+
+-- it is that of whatever scripts were run
+abbrev pub IsExplainedBy : SessionRun → Explanation → Type 0
+IsExplainedBy run x = (folder : FolderContents) (end : ℕ) (scripts : List Script) →
+    IsRunOf folder end scripts run → IsExplanationOf folder end scripts x
 
 module _ {R : Type 0} (IsOpened : List ℕ → R → Type 0) (HasLeft : R → List ℕ → Type 0) where
   -- The scripts were read from the files that the words name, and the run is that of just these.

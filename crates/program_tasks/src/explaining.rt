@@ -37,14 +37,10 @@ pub fn explain_session<'a, S: FileStore, W: Sink>(
         ⊎ IsOfOutput (IsStuck W.failed W.takes_some out.old out.new) e) }
 {
     let run = run_session(alloc, store, session, files)?;
-    let diagnostics = run.diagnostics(alloc)?;
+    let explanation = Explanation::of_run(alloc, &run)?;
     let texts = run.logs(alloc)?;
-    let log = run.log;
     let logs = slices_of(alloc, texts.as_slice())?;
-    let listing = log.listing.as_slice();
+    let listing = run.log.listing.as_slice();
     print_texts(alloc, session, logs.as_slice(), listing, listed, out)?;
-    Ok(Explanation {
-        diagnostics,
-        losses: log.losses,
-    })
+    Ok(explanation)
 }

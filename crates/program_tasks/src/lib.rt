@@ -62,7 +62,7 @@ pub use run_answer::RunAnswer;
 pub use session::Session;
 pub use subcommands::{circle, explain, record, run};
 pub use task::perform;
-pub use telling::{DiagnosticLine, LossLine};
+pub use telling::{DiagnosticLine, LossLine, SoundingLine};
 pub use times::time_named;
 pub use words::{ScriptWord, client_named, port_named, scripts_named, until_named};
 pub use writing::write_file;

@@ -70,14 +70,10 @@ pub fn record_session<'a, S: FileStore>(
         return Err(ProgramFault::OutIsRead(recording.path));
     }
     let run = run_session(alloc, store, session, files)?;
-    let diagnostics = run.diagnostics(alloc)?;
-    let log = run.log;
-    let bytes = recorded(alloc, &log, recording.port, recording.raw)?;
+    let explanation = Explanation::of_run(alloc, &run)?;
+    let bytes = recorded(alloc, &run.log, recording.port, recording.raw)?;
     write_file(alloc, store, recording.path, bytes.as_slice())?;
-    Ok(Explanation {
-        diagnostics,
-        losses: log.losses,
-    })
+    Ok(explanation)
 }
 
 /// What came to a port: with `raw` as one MIDI stream, and else as a Standard MIDI File.

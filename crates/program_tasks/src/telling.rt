@@ -2,14 +2,18 @@
 
 ghost use Rattle.std.specs.Prelude.{◌≡◌, ◌++◌};
 ghost use Rattle.std.specs.Fmt.{WritesOnOk};
-ghost use Rattle.program_tasks.specs.Explained.{skipped_since, remedy, place_text, messages_text};
+ghost use Rattle.node_table.specs.Text.{addr_text};
+ghost use Rattle.node_table.specs.declared.number.Node.TheVariants.{Port};
+ghost use Rattle.program_tasks.specs.Explained.{skipped_since, remedy, place_text, messages_text, channel_text, note_text};
 
 use crate::escaped::Escaped;
 use crate::program_fault::write_start;
+use node_table::PortAddr;
 use script_text::SkipReason;
 use seq_engine::Loss;
 use seq_session::{Cause, Diagnostic};
 use seq_state::Refusal;
+use sounding_notes::SoundingNote;
 use std::fmt;
 
 /// Why a line is skipped.
@@ -154,4 +158,50 @@ impl fmt::Display for LossLine {
         write_messages(self.0.messages, f)?;
         f.write_str(": its input pool was full (see receive)")
     }
+}
+
+/// The line that tells of a note that still sounds. Channels count from 1, as musicians do.
+#[derive(Clone, Copy, Debug)]
+pub struct SoundingLine(pub SoundingNote);
+
+impl fmt::Display for SoundingLine {
+    ghost use Rattle.std.specs.Prelude.{Some};
+    ghost use Rattle.program_tasks.specs.Explained.{sounding_line};
+
+    ghost output = { λ l. Some (sounding_line l.0) };
+
+    fn fmt<W: fmt::Write>(&self, f: &mut fmt::Formatter<W>) -> fmt::Result {
+        write_start(f)?;
+        write_target(&self.0.target, f)?;
+        write_note(&self.0, f)?;
+        f.write_str(" still sounds")
+    }
+}
+
+/// Writes the address of a port.
+fn write_target<W: fmt::Write>(target: &PortAddr, f: &mut fmt::Formatter<W>) -> fmt::Result
+    ensures { WritesOnOk W.write_str_gives f.old result
+        (addr_text target.now.client (Port target.now.port)) f.new }
+{
+    let target = *target;
+    write!(f, "{target}")
+}
+
+/// Writes which note of which channel it is.
+fn write_note<W: fmt::Write>(note: &SoundingNote, f: &mut fmt::Formatter<W>) -> fmt::Result
+    ensures { WritesOnOk W.write_str_gives f.old result (note_text note.now) f.new }
+{
+    let number = note.note;
+    f.write_str(": note ")?;
+    write!(f, "{number}")?;
+    f.write_str(" of channel ")?;
+    write_channel(note.channel, f)
+}
+
+/// Writes the number of a channel.
+fn write_channel<W: fmt::Write>(channel: u8, f: &mut fmt::Formatter<W>) -> fmt::Result
+    ensures { WritesOnOk W.write_str_gives f.old result (channel_text channel) f.new }
+{
+    let number = u16::from(channel) + 1;
+    write!(f, "{number}")
 }

@@ -1,4 +1,4 @@
--- Laws: When a note sounds, in words of messages alone.
+-- Law: When a note sounds, in words of messages alone.
 use Rattle.std.specs.Prelude.{◌≡◌, ◌↔◌, ℕ, IsTrue, IsFalse, List, ◌∷◌, ◌++◌}
 use Rattle.std.specs.List.{list_any}
 use Rattle.seq_state.specs.declared.log.LogEntry.{LogEntry}

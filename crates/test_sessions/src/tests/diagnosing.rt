@@ -51,7 +51,8 @@ fn refused(number: u8, line: u64, refusal: Refusal) -> Result<Diagnostic, Fail> 
 #[test]
 fn tells_of_skipped_lines_and_then_of_refusals(rt: HostRuntime) -> Result<(), Fail> {
     // The second client's line is refused first, since the run comes to it first.
-    let first = "0 open keys 8 8\nfrob\n# frob\n5 connect 128:p0 129:p0\n3 pools\n11 pools\n5 receive 1\n";
+    let first =
+        "0 open keys 8 8\nfrob\n# frob\n5 connect 128:p0 129:p0\n3 pools\n11 pools\n5 receive 1\n";
     let second = "0 open synth 8 8\n1 open synth 8 8\n1 unport 3\n5 port 0 in\n";
     let run = ran(rt.alloc(), first, second)?;
     let found = run.diagnostics(rt.alloc())?;
@@ -83,7 +84,8 @@ fn tells_nothing_of_lines_that_did_what_they_say(rt: HostRuntime) -> Result<(), 
 fn tells_what_was_lost(rt: HostRuntime) -> Result<(), Fail> {
     // Of three messages one finds room; the client closes at 5, and has lost nothing more by the end.
     let first = "0 open keys 8 8\n0 port 0 out 33\n1 bytes 0 F8 F8 F8\n";
-    let second = "0 open synth 1 8\n0 port 0 in 66\n0 connect 128:p0 129:p0\n5 close\n6 open synth 1 8\n";
+    let second =
+        "0 open synth 1 8\n0 port 0 in 66\n0 connect 128:p0 129:p0\n5 close\n6 open synth 1 8\n";
     let run = ran(rt.alloc(), first, second)?;
     let expected = [Loss {
         client: client(129)?,

@@ -1,14 +1,15 @@
 //! What the program is asked to do, and the lines and statuses of its faults.
 
-use node_table::ClientId;
+use node_table::{ClientId, PortAddr, PortNo};
 use program_tasks::{
-    DiagnosticLine, FaultLine, LossLine, ProgramFault, STANDARD, Stream, Task, Tool,
+    DiagnosticLine, FaultLine, LossLine, ProgramFault, STANDARD, SoundingLine, Stream, Task, Tool,
 };
 use script_text::{LineFault, WordKind};
 use seq_engine::Loss;
 use seq_session::{Cause, Diagnostic, SkipReason};
 use seq_state::Refusal;
 use smf_files::SmfFault;
+use sounding_notes::SoundingNote;
 use std::alloc::Global;
 use std::io::ErrorKind;
 use std::process::Abort;
@@ -204,10 +205,40 @@ fn tells_of_lines_that_did_nothing(rt: HostRuntime) -> Result<(), Fail> {
 fn tells_of_what_was_lost(rt: HostRuntime) -> Result<(), Fail> {
     let client = ClientId::new(129).ok_or("a client number")?;
     for (messages, text) in [
-        (1, "midiseq: 129 lost 1 message: its input pool was full (see receive)"),
-        (4204, "midiseq: 129 lost 4204 messages: its input pool was full (see receive)"),
+        (
+            1,
+            "midiseq: 129 lost 1 message: its input pool was full (see receive)",
+        ),
+        (
+            4204,
+            "midiseq: 129 lost 4204 messages: its input pool was full (see receive)",
+        ),
     ] {
         let line = LossLine(Loss { client, messages });
+        assert!(rt; format!(in rt.alloc(); "{line}")?.as_str() == text);
+    }
+    Ok(())
+}
+
+#[test]
+fn tells_of_notes_that_sound(rt: HostRuntime) -> Result<(), Fail> {
+    let target = PortAddr {
+        client: ClientId::new(129).ok_or("a client number")?,
+        port: PortNo::new(15).ok_or("a port number")?,
+    };
+    for (channel, note, text) in [
+        (0, 60, "midiseq: 129:p15: note 60 of channel 1 still sounds"),
+        (
+            15,
+            127,
+            "midiseq: 129:p15: note 127 of channel 16 still sounds",
+        ),
+    ] {
+        let line = SoundingLine(SoundingNote {
+            target,
+            channel,
+            note,
+        });
         assert!(rt; format!(in rt.alloc(); "{line}")?.as_str() == text);
     }
     Ok(())

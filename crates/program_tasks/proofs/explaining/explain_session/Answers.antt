@@ -2,7 +2,6 @@ use Rattle.std.proofs.Common.{◌≡◌, ◌∙◌, map, ap, subst}
 use Rattle.byte_io.specs.Moved.{Took}
 use Rattle.seq_session.specs.Sessions.{all_logs, listing_after}
 use Rattle.seq_session.proofs.Alone.{logs_made}
-use Rattle.program_tasks.proofs.Diagnosed.{diagnosed}
 use Rattle.program_tasks.proofs.Printed.{printed_as}
 use Rattle.program_tasks.proofs.explaining.explain_session.Goals as goal
 
@@ -20,8 +19,5 @@ returns-clause-explained g c =
       read = r.read;
       took = subst (λ text. Took g.W.Sink.HasTaken c.args.out.now text c.print_texts.new.out)
           (printed_as g.S.FileStore.IsOpened g.S.Reader.Source.HasLeft files until c.args.session.now.scripts.items _ r.scripts r.read logs c.as_slice-listing.result.now c.args.listed listing) c.in_ok-print_texts.ensures.printed;
-      explained = record {
-        diagnostics = c.in_ok-diagnostics.ensures ∙ diagnosed files until r.scripts c.in_ok-run.run' r.is;
-        losses = r.is.losses;
-      };
+      explained = c.in_ok-explanation.ensures files until r.scripts r.is;
     }

@@ -1,7 +1,6 @@
 use Rattle.std.proofs.Common.{◌∙◌, ap, subst}
 use Rattle.program_tasks.specs.Faults.{IsOfEvents}
 use Rattle.program_tasks.specs.Recorded.{recorded_text, IsFileWritten}
-use Rattle.program_tasks.proofs.Diagnosed.{diagnosed}
 use Rattle.program_tasks.proofs.Unread.{of_events}
 use Rattle.program_tasks.proofs.recording.record_session.Goals as goal
 
@@ -11,10 +10,7 @@ returns-clause-recorded g c =
     record {
       scripts = run.scripts;
       read = run.read;
-      explained = record {
-        diagnostics = c.in_ok-diagnostics.ensures ∙ diagnosed c.args.files.now c.args.session.now.until run.scripts c.in_ok-run.run' run.is;
-        losses = run.is.losses;
-      };
+      explained = c.in_ok-explanation.ensures c.args.files.now c.args.session.now.until run.scripts run.is;
       written = subst (IsFileWritten g.S.FileStore.IsBegun g.S.Writer.Sink.HasTaken g.S.FileStore.IsStored c.args.recording.now.path.now)
           (c.as_slice-2.ensures.value ∙ c.in_ok-bytes.ensures.text ∙ ap (recorded_text c.args.recording.now.raw c.args.recording.now.port) run.is.plain) c.in_ok-write_file.ensures.written;
     }
