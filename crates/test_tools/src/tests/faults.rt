@@ -147,21 +147,6 @@ fn shows_each_fault_of_a_tool(rt: HostRuntime) -> Result<(), Fail> {
     Ok(())
 }
 
-/// What is told of a run, and its line.
-type Line<'a> = (DiagnosticLine<'a>, &'static str);
-
-fn told_of(path: &str, number: u8, line: u64, cause: Cause) -> Result<DiagnosticLine<'_>, Fail> {
-    let client = ClientId::new(number).ok_or("a client number")?;
-    Ok(DiagnosticLine {
-        path,
-        diagnostic: Diagnostic {
-            client,
-            line,
-            cause,
-        },
-    })
-}
-
 #[test]
 fn tells_of_lines_that_did_nothing(rt: HostRuntime) -> Result<(), Fail> {
     let no_command = Cause::Unreadable(LineFault::UnknownCommand);
@@ -169,34 +154,52 @@ fn tells_of_lines_that_did_nothing(rt: HostRuntime) -> Result<(), Fail> {
         place: 3,
         kind: WordKind::Address,
     });
-    let lines: [Line<'_>; 6] = [
+    let client = ClientId::new(128).ok_or("a client number")?;
+    for (path, line, cause, text) in [
         (
-            told_of("keys.txt", 128, 3, no_command)?,
+            "keys.txt",
+            3,
+            no_command,
             "keys.txt:3: skipped: its second word is no command",
         ),
         (
-            told_of("keys.txt", 128, 4, no_node)?,
+            "keys.txt",
+            4,
+            no_node,
             "keys.txt:4: skipped: word 3 is not a node (as 128:p0)",
         ),
         (
-            told_of("a\nb", 128, 10, Cause::Skipped(SkipReason::PastEnd))?,
+            "a\nb",
+            10,
+            Cause::Skipped(SkipReason::PastEnd),
             "a\\nb:10: skipped: its moment lies past the end of the run",
         ),
         (
-            told_of("keys.txt", 128, 4, Cause::Skipped(SkipReason::Late))?,
+            "keys.txt",
+            4,
+            Cause::Skipped(SkipReason::Late),
             "keys.txt:4: skipped: its moment lies before that of a line above it",
         ),
         (
-            told_of("keys.txt", 128, 0, Cause::Skipped(SkipReason::TooLong))?,
+            "keys.txt",
+            0,
+            Cause::Skipped(SkipReason::TooLong),
             "keys.txt: skipped: the script has more than 1048576 bytes",
         ),
         (
-            told_of("synth.txt", 129, 7, Cause::Refused(Refusal::NoDest))?,
+            "synth.txt",
+            7,
+            Cause::Refused(Refusal::NoDest),
             "synth.txt:7: refused 9 NoDest: the second address names nothing: its client has to make the node first",
         ),
-    ];
-    for (line, text) in &lines {
-        assert!(rt; format!(in rt.alloc(); "{line}")?.as_str() == *text);
+    ] {
+        let diagnostic = Diagnostic {
+            client,
+            line,
+            cause,
+        };
+        let line = DiagnosticLine { path, diagnostic };
+        assert!(rt; format!(in rt.alloc(); "{line}")?.as_str() == text);
     }
     Ok(())
 }
