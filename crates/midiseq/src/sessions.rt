@@ -102,7 +102,7 @@ pub(crate) fn record<'a, S: FileStore, N: Notes>(
     };
     let strict = found.get_flag("strict");
     let asked = found.get_flag("explain");
-    let explains = is_either(strict, asked);
+    let explains = is_explained(strict, asked);
     let answer = program_tasks::record(alloc, store, &session, &recording, explains, notes)?;
     if strict {
         return Ok(Ended::Judged(answer));
@@ -110,7 +110,8 @@ pub(crate) fn record<'a, S: FileStore, N: Notes>(
     Ok(Ended::Done)
 }
 
-fn is_either(strict: bool, asked: bool) -> bool
+/// Whether a recording is to be explained: one that is strict is, too.
+fn is_explained(strict: bool, asked: bool) -> bool
     ensures { result ≡ (strict || asked) }
 {
     strict || asked

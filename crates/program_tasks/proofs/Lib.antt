@@ -14,7 +14,6 @@ pub mod Endless
 pub mod InSession
 pub mod PrintedLogs
 pub mod WordsTold
-pub mod Ticks
 pub mod Lengths
 pub mod AllTaken
 pub mod Diagnosed

@@ -1,4 +1,4 @@
--- Definition: What is told of a run, beside its logs: lines that did nothing, and messages that were lost.
+-- Definition: What is told of a run, beside its logs: what it did not do, and notes that sound.
 use Rattle.std.specs.Prelude.{◌≡◌, ℕ, ◌+◌, ◌==◌, Bool, true, false, ◌&&◌, if◌then◌else◌, List, [], ◌∷◌, ◌++◌, length, codes}
 use Rattle.std.specs.List.{flat_map}
 use Rattle.std.specs.Fmt.{decimal}

@@ -14,10 +14,10 @@ use seq_session::{Diagnostic, SessionRun};
 use sounding_notes::{SoundingNote, sounding_notes};
 use std::alloc::Global;
 
-/// What a run did not do.
+/// What a run did not do, and which notes still sound.
 #[derive(Drop)]
 pub struct Explanation {
-    /// The lines that are skipped, script by script, and then those whose commands were refused, in the order of the run.
+    /// The lines that are skipped, script by script, and then those whose commands were refused, as they ran.
     pub diagnostics: Vec<Diagnostic>,
     /// What each client lost until it closed, and then by client until the end.
     pub losses: Vec<Loss>,

@@ -1,9 +1,9 @@
 //! What the program does: the words that it is given, the files that these name, the work itself, and the line and the
 //! status of each fault.
 //!
-//! `run` is what `midiseq run` does, and `explain` what it does where it explains; `record` what `midiseq record` does, `circle` what `midiseq circle` does, and
-//! `perform` what the tools do, over every store of files: from the files that the words name to the text that is
-//! printed, or to the file that is written.
+//! `run` is what `midiseq run` does, and `explain` what it does where it explains; `record` what `midiseq record` does,
+//! `circle` what `midiseq circle` does, and `perform` what the tools do, over every store of files: from the files that
+//! the words name to the text that is printed, or to the file that is written.
 #![tactic(auto)]
 
 mod answer;

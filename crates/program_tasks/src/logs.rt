@@ -16,8 +16,8 @@ use text_forms::push_decimal;
 use tool_text::{ToolFault, send};
 
 /// Prints the number of each script's client and the log in the same place, and then the listing where there is one.
-/// Where one of both lists is longer, what is left of it is not printed. Each log is written at once, and only the lines
-/// with the numbers take memory.
+/// Where one of both lists is longer, what is left of it is not printed. Each log is written at once, and only the
+/// lines with the numbers take memory.
 ///
 /// At a fault the sink has taken the first part of the text.
 pub fn print_logs<W: Sink>(

@@ -4,7 +4,8 @@ ghost use Rattle.std.specs.Prelude.{◌≡◌, ◌++◌, None, Some, IfOk, IfErr
 ghost use Rattle.std.specs.Option.{option_to_list};
 ghost use Rattle.smf_files.specs.Refusals.{write_refusal, told_refusal};
 ghost use Rattle.smf_grammar.specs.Laws.{ReadsBack};
-ghost use Rattle.program_tasks.specs.Recording.{recording_ppq, recording_tempo, recording_clock, recording_text, is_recorded, recorded_event, recording_of};
+ghost use Rattle.port_files.specs.Tracks.{is_recorded};
+ghost use Rattle.program_tasks.specs.Recording.{recording_ppq, recording_tempo, recording_clock, recording_text, recorded_event, recording_of};
 
 use memory::OutOfMemory;
 use node_table::PortAddr;

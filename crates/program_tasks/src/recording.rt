@@ -37,8 +37,8 @@ pub struct Recording<'a> {
 }
 
 /// Runs the scripts of a session, and writes what came to a port to a file: with `raw` as one MIDI stream, and else as
-/// a Standard MIDI File. What stands at the path stays until all else is done; it is no file that the session reads. It gives
-/// what the run did not do.
+/// a Standard MIDI File. What stands at the path stays until all else is done; it is no file that the session reads.
+/// It gives what the run did not do.
 pub fn record_session<'a, S: FileStore>(
     alloc: Global,
     store: &S,

@@ -1,8 +1,8 @@
 //! Which notes still sound at the ports of clients after the entries of a log.
 //!
 //! A note sounds after the messages of a port as the MIDI 1.0 Detailed Specification says ("Note Off", "Note On",
-//! "Channel Mode Messages", "System Reset"). `specs/Sounding.antt` is the definition, and `specs/Laws.antt` says what it
-//! means.
+//! "Channel Mode Messages", "System Reset"). `specs/Sounding.antt` is the definition, and `specs/Laws.antt` says what
+//! it means.
 #![tactic(auto)]
 
 mod laws;

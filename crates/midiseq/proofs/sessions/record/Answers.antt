@@ -35,7 +35,7 @@ returns-then-strict-clause-recorded g c =
       explains = c.get_flag-asked.result;
       explain_flag = record { absent = c.get_flag-asked.ensures.none; present = c.get_flag-asked.ensures.value };
       answer = c.in_ok-answer.answer;
-      recorded = rw (← c.is_either-explains.ensures) c.in_ok-answer.ensures.recorded;
+      recorded = rw (← c.is_explained-explains.ensures) c.in_ok-answer.ensures.recorded;
       ends = ap (λ b. cond b (Judged c.in_ok-answer.answer) Done) (sym c.if-strict.true);
     }
 
@@ -55,6 +55,6 @@ returns-clause-recorded g c =
       explains = c.get_flag-asked.result;
       explain_flag = record { absent = c.get_flag-asked.ensures.none; present = c.get_flag-asked.ensures.value };
       answer = c.in_ok-answer.answer;
-      recorded = rw (← c.is_either-explains.ensures) c.in_ok-answer.ensures.recorded;
+      recorded = rw (← c.is_explained-explains.ensures) c.in_ok-answer.ensures.recorded;
       ends = ap (λ b. cond b (Judged c.in_ok-answer.answer) Done) (sym c.if-strict.false);
     }

@@ -4,7 +4,7 @@ use Rattle.smf_grammar.specs.Texts.{shortest, file_text}
 use Rattle.tempo_clock.specs.Ticks.{numerator, duration, tempo_or, resolution, tick_at}
 use Rattle.program_tasks.specs.Recording.{recording_clock, recording_of}
 use Rattle.program_tasks.specs.Rows.{a_port, entries, three_events}
-use Rattle.program_tasks.proofs.Ticks.{tick-is}
+use Rattle.port_files.proofs.Ticks.{tick-is}
 use Rattle.program_tasks.proofs.rows.worked_recording.Goals as goal
 
 first : tick_at recording_clock 600000 ≡ 0
