@@ -7,6 +7,8 @@
 	edge NODE NODE                     a subscription, the youngest of all
 	cut NODE NODE                      one that ends
 	send NODE MOMENT HEX..             a message from a port; the answer is each copy that found room: CLIENT MOMENT port P HEX
+	listen CLIENT                      what comes waits no longer, and there is room for SIZE messages of each moment
+	unlisten CLIENT                    what comes waits again
 	take CLIENT MAX                    the oldest that wait; the answer is each of them: CLIENT MOMENT port P HEX
 	tell CLIENT                        the answer is how many wait, and how many were lost
 
@@ -40,6 +42,8 @@ struct pool {
 	int size, waiting;
 	unsigned long long lost;
 	struct arrival arrivals[MOST_WAITING];
+	int listens, heard;	/* so many at the moment of the last */
+	unsigned long long moment;
 };
 
 struct rule {
@@ -108,20 +112,39 @@ static void print(int client, const struct arrival *arrival)
 	putchar('\n');
 }
 
+/* Whether one more finds room, which it then takes. */
+static int takes(struct pool *pool, const struct arrival *arrival)
+{
+	if (!pool->listens) {
+		if (pool->waiting >= pool->size)
+			return 0;
+		pool->arrivals[pool->waiting++] = *arrival;
+		return 1;
+	}
+	if (pool->moment != arrival->moment)
+		pool->heard = 0;
+	if (pool->heard >= pool->size)
+		return 0;
+	pool->moment = arrival->moment;
+	pool->heard++;
+	return 1;
+}
+
 static void offer(int port, unsigned long long moment, const struct message *message)
 {
 	int client = port / (2 * NUMBERS);
-	struct pool *pool = &pools[client];
+	struct arrival arrival = { moment, port % NUMBERS, *message };
 
-	if (pool->waiting >= pool->size) {
-		pool->lost++;
-		return;
-	}
-	struct arrival *arrival = &pool->arrivals[pool->waiting++];
-	arrival->moment = moment;
-	arrival->port = port % NUMBERS;
-	arrival->message = *message;
-	print(client, arrival);
+	if (takes(&pools[client], &arrival))
+		print(client, &arrival);
+	else
+		pools[client].lost++;
+}
+
+static void listen_from_now_on(struct pool *pool, int listens)
+{
+	pool->listens = listens;
+	pool->heard = 0;
 }
 
 /* Takes each subscription of a node, of which the way has `hops` left. */
@@ -203,6 +226,10 @@ static void answer(char *words[], int count, const char *line)
 		walk(node_of(words[1], line), HOPS, strtoull(words[2], NULL, 10), &message);
 	} else if (count == 3 && !strcmp(word, "take")) {
 		take(client_of(words[1], line), atoi(words[2]));
+	} else if (count == 2 && !strcmp(word, "listen")) {
+		listen_from_now_on(&pools[client_of(words[1], line)], 1);
+	} else if (count == 2 && !strcmp(word, "unlisten")) {
+		listen_from_now_on(&pools[client_of(words[1], line)], 0);
 	} else if (count == 2 && !strcmp(word, "tell")) {
 		const struct pool *pool = &pools[client_of(words[1], line)];
 		printf("%d %llu\n", pool->waiting, pool->lost);

@@ -2,6 +2,7 @@
 use Rattle.std.proofs.Common.{◌≡◌, ◌+◌, ◌++◌, ◌∙◌, ℕ, zero, suc, Option, Some, List, [], ◌∷◌, length, take, drop, min, refl, ap, sym, arith, append_assoc, length-append}
 use Rattle.std.specs.List.{slice_get}
 use Rattle.cell_pools.specs.Pools.{Pool, IsBounded, after_take}
+use Rattle.cell_pools.specs.declared.listening.Listening.{Listening}
 
 module _ {A : Type 0} where
   -- one more moved
@@ -26,9 +27,9 @@ module _ {A : Type 0} where
       let long : length whole ≡ length got + length rest = ap length w ∙ length-append got rest in
       record { least = omega arith; most = omega arith; within = omega arith }
 
-  pub left : (whole got rest : List A) (n max size size' lost lost' : ℕ) → whole ≡ got ++ rest → length got ≡ n → n ≡ min (length whole) max → size' ≡ size → lost' ≡ lost →
-      ◌≡◌ {A = Pool A} (record { size = size'; waiting = rest; lost = lost' }) (after_take max (record { size = size; waiting = whole; lost = lost }))
-  left whole got rest n max size size' lost lost' w h m s l =
+  pub left : (whole got rest : List A) (n max size size' lost lost' : ℕ) (listening listening' : Option Listening) → whole ≡ got ++ rest → length got ≡ n → n ≡ min (length whole) max → size' ≡ size → lost' ≡ lost → listening' ≡ listening →
+      ◌≡◌ {A = Pool A} (record { size = size'; waiting = rest; lost = lost'; listening = listening' }) (after_take max (record { size = size; waiting = whole; lost = lost; listening = listening }))
+  left whole got rest n max size size' lost lost' listening listening' w h m s l i =
       let count : length got ≡ min (length (got ++ rest)) max = h ∙ m ∙ ap (λ xs. min (length xs) max) w in
       let after : rest ≡ drop max whole = (fronts got rest max count).1 ∙ ap (drop max) (sym w) in
       cc

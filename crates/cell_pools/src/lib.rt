@@ -5,6 +5,7 @@ mod clients;
 mod fault;
 mod key;
 mod laws;
+mod listening;
 mod pool;
 mod store;
 

@@ -1,9 +1,10 @@
 //! What waits to be read.
 
 ghost use Rattle.std.specs.Prelude.{◌≡◌, ◌↔◌, ◌≤◌, ◌<◌, ◌^◌, length, IfOk, OnOk, OnErr, IsErrOf, false};
-ghost use Rattle.cell_pools.specs.Pools.{most_waiting, is_size, empty_pool, has_room, after_offer, after_losses_of, oldest_items, after_take};
+ghost use Rattle.cell_pools.specs.Pools.{most_waiting, is_size, empty_pool, taken_at, has_room, is_listening, listening_on, not_listening, after_offer, after_losses_of, oldest_items, after_take};
 
 use crate::fault::PoolFault;
+use crate::listening::Listening;
 use circular_buffer::HeapCircularBuffer;
 use memory::OutOfMemory;
 use std::alloc::Global;
@@ -21,12 +22,16 @@ pub fn is_size(size: u32) -> bool
 
 /// What waits to be read, the oldest first. What finds no room is dropped and counted.
 ///
+/// A pool that listens keeps nothing of what comes: it counts what came at the last moment, and takes as many items of
+/// one moment as might wait in it. What waited when it began to listen waits still.
+///
 /// `new` takes all the memory that the items need, so a full pool costs what an empty one does.
 #[derive(Drop)]
 pub struct InPool<T> {
     alloc: Global,
     items: HeapCircularBuffer<T>,
     lost: u64,
+    listening: Option<Listening>,
 }
 
 impl<T> Model for InPool<T> {
@@ -38,7 +43,12 @@ impl<T> Model for InPool<T> {
     ghost coded = { coded_pool T.code };
 
     ghost view = { λ p.
-        record { size = p.items.capacity; waiting = p.items.items; lost = p.lost } };
+        record {
+          size = p.items.capacity;
+          waiting = p.items.items;
+          lost = p.lost;
+          listening = p.listening;
+        } };
 
     ghost invariant = { λ p. IsBounded p.items.capacity (length p.items.items) };
 }
@@ -57,38 +67,74 @@ impl<T> InPool<T> {
             alloc,
             items,
             lost: 0,
+            listening: None,
         })
     }
 
-    /// Adds an item where there is room, and else drops and counts it. It takes no memory.
-    pub fn offer(&mut self, item: T) -> bool
+    /// Begins to listen, whether it did or not.
+    pub fn listen(&mut self)
+        ensures { self.new ≡ listening_on self.old }
+    {
+        self.listening = Some(Listening::new());
+    }
+
+    /// Listens no longer: what comes waits again.
+    pub fn unlisten(&mut self)
+        ensures { self.new ≡ not_listening self.old }
+    {
+        self.listening = None;
+    }
+
+    pub fn is_listening(&self) -> bool
+        ensures { result ≡ is_listening self.now }
+    {
+        self.listening.is_some()
+    }
+
+    /// Takes an item that comes at this moment where there is room, and else drops and counts it. Whatever is counted
+    /// as a moment will do, if it never falls. It takes no memory.
+    pub fn offer(&mut self, moment: u64, item: T) -> bool
     where
         T: Drop,
-        ensures kept { result ≡ has_room self.old }
-        ensures after { self.new ≡ after_offer self.old item }
+        ensures taken { result ≡ has_room moment self.old }
+        ensures after { self.new ≡ after_offer moment self.old item }
     {
-        match self.items.try_push_back(item) {
-            Ok(()) => true,
-            Err(_) => {
-                self.lost = self.lost.saturating_add(1);
-                false
-            }
+        let most = self.size();
+        let taken = match &mut self.listening {
+            Some(listening) => listening.take(moment, most),
+            None => self.items.try_push_back(item).is_ok(),
+        };
+        if !taken {
+            self.lost = self.lost.saturating_add(1);
         }
+        taken
     }
 
-    /// Whether an item would find room.
-    pub fn has_room(&self) -> bool
-        ensures { result ≡ has_room self.now }
+    /// Whether an item that comes at this moment would find room.
+    pub fn has_room(&self, moment: u64) -> bool
+        ensures { result ≡ has_room moment self.now }
     {
-        self.items.len() < self.items.capacity()
+        self.taken_at(moment) < self.size()
     }
 
-    /// Counts as lost those for which there is no room, where so many items come, before any of them is offered.
-    pub fn lose_beyond(&mut self, count: u64)
-        ensures { self.new ≡ after_losses_of count self.old }
+    /// Counts as lost those for which there is no room, where so many items come at this moment, before any of them is
+    /// offered.
+    pub fn lose_beyond(&mut self, moment: u64, count: u64)
+        ensures { self.new ≡ after_losses_of moment count self.old }
     {
-        let room = self.items.capacity() - self.items.len();
-        self.lost = self.lost.saturating_add(count.saturating_sub(room as u64));
+        let room = self.size().saturating_sub(self.taken_at(moment));
+        self.lost = self
+            .lost
+            .saturating_add(count.saturating_sub(u64::from(room)));
+    }
+
+    fn taken_at(&self, moment: u64) -> u32
+        ensures { result ≡ taken_at moment self.now }
+    {
+        match &self.listening {
+            Some(listening) => listening.came_at(moment),
+            None => self.waiting(),
+        }
     }
 
     /// Takes the oldest items, `max` of them or all where there are fewer.

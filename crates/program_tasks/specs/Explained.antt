@@ -97,11 +97,11 @@ path_for (w ∷ words) client = if w.client == client then w.path.now else path_
 abbrev pub messages_text : ℕ → List ℕ
 messages_text n = decimal n ++ (if n == 1 then codes " message" else codes " messages")
 
--- `midiseq: 129 lost 2 messages: its input pool was full (see receive)`
+-- `midiseq: 129 lost 2 messages: its input pool was full (see receive, listen)`
 abbrev pub loss_line : Loss → List ℕ
 loss_line l =
     line_start ++ decimal l.client ++ codes " lost " ++ messages_text l.messages
-    ++ codes ": its input pool was full (see receive)"
+    ++ codes ": its input pool was full (see receive, listen)"
 
 -- ---- notes that sound
 

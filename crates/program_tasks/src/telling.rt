@@ -156,7 +156,7 @@ impl fmt::Display for LossLine {
         write_start(f)?;
         write!(f, "{client} lost ")?;
         write_messages(self.0.messages, f)?;
-        f.write_str(": its input pool was full (see receive)")
+        f.write_str(": its input pool was full (see receive, listen)")
     }
 }
 

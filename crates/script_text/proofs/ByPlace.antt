@@ -51,5 +51,5 @@ pub at_row : (names old : List (List ℕ)) (w : List ℕ) (rest : List (List ℕ
 at_row names old w rest k i e f g =
     ap (command names) (word_as-any old rest w e) ∙ by_place (table names) w rest ∙ ap (λ n. says_at (table names) n rest) (sym (same_place names w) ∙ sym f ∙ g)
 
-pub past_rows : (names old : List (List ℕ)) (w : List ℕ) (rest : List (List ℕ)) (k : ℕ) → word_as any old ≡ Some (w, rest) → k ≡ position_or_len (λ k. bytes_eq k.now w) KEYWORDS → 25 ≤ k → command names old ≡ None
+pub past_rows : (names old : List (List ℕ)) (w : List ℕ) (rest : List (List ℕ)) (k : ℕ) → word_as any old ≡ Some (w, rest) → k ≡ position_or_len (λ k. bytes_eq k.now w) KEYWORDS → 27 ≤ k → command names old ≡ None
 past_rows names old w rest k e f l = at_row names old w rest k k e f refl ∙ says_past (table names) k rest l

@@ -7,7 +7,7 @@ use Rattle.std.specs.Option.{is_some, is_none, option_map, option_and_then, opti
 use Rattle.std.specs.Str.{bytes_eq}
 use Rattle.midi_wire.specs.Messages.{is_message}
 use Rattle.seq_state.specs.declared.input.Command.{Command}
-use Rattle.seq_state.specs.declared.input.Command.TheVariants.{Open, Close, CreatePort, DeletePort, CreateFilter, SetFilter, DeleteFilter, Connect, Disconnect, Bytes, Send, CreateQueue, CreateQueueFrom, DeleteQueue, Start, Stop, Continue, Tempo, QueueStatus, Share, Schedule, Play, DropOutput, Receive, PoolStatus}
+use Rattle.seq_state.specs.declared.input.Command.TheVariants.{Open, Close, CreatePort, DeletePort, CreateFilter, SetFilter, DeleteFilter, Connect, Disconnect, Bytes, Send, CreateQueue, CreateQueueFrom, DeleteQueue, Start, Stop, Continue, Tempo, QueueStatus, Share, Schedule, Play, DropOutput, Receive, Listen, Unlisten, PoolStatus}
 use Rattle.route_filter.specs.declared.rule_args.RuleArgs.{RuleArgs}
 use Rattle.script_text.specs.declared.line.Fate.TheVariants.{PassedOver, Skipped, Taken}
 use Rattle.script_text.specs.declared.reading.SkipReason.TheVariants.{Unreadable, PastEnd, Late}
@@ -144,6 +144,8 @@ rows_agree names =
     then record { word = refl; agree = next queue _ kind.Queue _ _ (λ w. refl) (λ q. nothing (QueueStatus q)) }
     then record { word = refl; agree = next queue _ kind.Queue _ _ (λ w. refl) (λ q. nothing (Share q)) }
     then record { word = refl; agree = nothing DropOutput }
+    then record { word = refl; agree = nothing Listen }
+    then record { word = refl; agree = nothing Unlisten }
     then record { word = refl; agree = nothing PoolStatus }
     then tt
 

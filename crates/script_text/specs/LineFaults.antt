@@ -72,6 +72,8 @@ forms =
     ∷ form (codes "status") (Queue ∷ []) Nothing
     ∷ form (codes "share") (Queue ∷ []) Nothing
     ∷ form (codes "drop") [] Nothing
+    ∷ form (codes "listen") [] Nothing
+    ∷ form (codes "unlisten") [] Nothing
     ∷ form (codes "pools") [] Nothing
     ∷ []
 

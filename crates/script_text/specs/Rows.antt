@@ -5,7 +5,7 @@ use Rattle.node_table.specs.declared.number.QueueAddr.{QueueAddr}
 use Rattle.node_table.specs.declared.number.Node.TheVariants.{Filter}
 use Rattle.route_filter.specs.declared.rule_args.RuleArgs.{RuleArgs}
 use Rattle.seq_state.specs.declared.input.Command.{Command}
-use Rattle.seq_state.specs.declared.input.Command.TheVariants.{Open, Close, CreatePort, DeletePort, CreateFilter, SetFilter, DeleteFilter, Connect, Disconnect, Bytes, Send, CreateQueue, CreateQueueFrom, DeleteQueue, Start, Stop, Continue, Tempo, QueueStatus, Share, Schedule, Play, DropOutput, Receive, PoolStatus}
+use Rattle.seq_state.specs.declared.input.Command.TheVariants.{Open, Close, CreatePort, DeletePort, CreateFilter, SetFilter, DeleteFilter, Connect, Disconnect, Bytes, Send, CreateQueue, CreateQueueFrom, DeleteQueue, Start, Stop, Continue, Tempo, QueueStatus, Share, Schedule, Play, DropOutput, Receive, Listen, Unlisten, PoolStatus}
 use Rattle.seq_state.specs.declared.input.DueAt.TheVariants.{Tick, TickAfter, Nanos, NanosAfter}
 use Rattle.seq_state.specs.Step.{port_addr}
 use Rattle.script_text.specs.declared.line_faults.LineFault.TheVariants.{NoMoment, NoCommand, UnknownCommand, Missing, Wrong, NoMessage, TooMany}
@@ -170,6 +170,8 @@ pub record CommandForms : Type 0 where
   pub status : said_by (codes "status 128:q0") ≡ Some (QueueStatus (numbered_queue 128 0))
   pub drop_output : said_by (codes "drop") ≡ Some DropOutput
   pub receive : said_by (codes "receive 2000") ≡ Some (Receive 2000)
+  pub listen : said_by (codes "listen") ≡ Some Listen
+  pub unlisten : said_by (codes "unlisten") ≡ Some Unlisten
 
 -- ---- faults
 

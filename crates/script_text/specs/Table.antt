@@ -4,7 +4,7 @@ use Rattle.std.specs.Option.{option_map, option_and_then}
 use Rattle.std.specs.Str.{bytes_eq}
 use Rattle.route_filter.specs.declared.rule_args.RuleArgs.{RuleArgs}
 use Rattle.seq_state.specs.declared.input.Command.{Command}
-use Rattle.seq_state.specs.declared.input.Command.TheVariants.{Open, Close, CreatePort, DeletePort, CreateFilter, SetFilter, DeleteFilter, Connect, Disconnect, Bytes, Send, CreateQueue, CreateQueueFrom, DeleteQueue, Start, Stop, Continue, Tempo, QueueStatus, Share, Schedule, Play, DropOutput, Receive, PoolStatus}
+use Rattle.seq_state.specs.declared.input.Command.TheVariants.{Open, Close, CreatePort, DeletePort, CreateFilter, SetFilter, DeleteFilter, Connect, Disconnect, Bytes, Send, CreateQueue, CreateQueueFrom, DeleteQueue, Start, Stop, Continue, Tempo, QueueStatus, Share, Schedule, Play, DropOutput, Receive, Listen, Unlisten, PoolStatus}
 use Rattle.script_text.specs.Numbers.{any, u8, u16, u32, shift, node_number, queue_number, caps, some_bytes, message, addr, queue, due_word, number_of_name}
 
 -- what all of the words say
@@ -99,6 +99,8 @@ table names =
     ∷ command_form (codes "status") (queue ▸ λ q. at_end (QueueStatus q))
     ∷ command_form (codes "share") (queue ▸ λ q. at_end (Share q))
     ∷ command_form (codes "drop") (at_end DropOutput)
+    ∷ command_form (codes "listen") (at_end Listen)
+    ∷ command_form (codes "unlisten") (at_end Unlisten)
     ∷ command_form (codes "pools") (at_end PoolStatus)
     ∷ []
 

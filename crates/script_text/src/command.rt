@@ -259,6 +259,24 @@ fn receive(words: &mut Words) -> Result<Command, Unread>
     Ok(Command::Receive { max })
 }
 
+fn listen(words: &mut Words) -> Result<Command, Unread>
+    ensures ok { IfOk result (λ c. command [] (codes "listen" ∷ words.old) ≡ Some c) }
+    ensures err { IsErrOf result Unread.Unreadable
+        → command [] (codes "listen" ∷ words.old) ≡ None }
+{
+    words.end()?;
+    Ok(Command::Listen)
+}
+
+fn unlisten(words: &mut Words) -> Result<Command, Unread>
+    ensures ok { IfOk result (λ c. command [] (codes "unlisten" ∷ words.old) ≡ Some c) }
+    ensures err { IsErrOf result Unread.Unreadable
+        → command [] (codes "unlisten" ∷ words.old) ≡ None }
+{
+    words.end()?;
+    Ok(Command::Unlisten)
+}
+
 fn pool_status(words: &mut Words) -> Result<Command, Unread>
     ensures ok { IfOk result (λ c. command [] (codes "pools" ∷ words.old) ≡ Some c) }
     ensures err { IsErrOf result Unread.Unreadable → command [] (codes "pools" ∷ words.old) ≡ None }
@@ -322,7 +340,7 @@ fn rule(words: &mut Words) -> Result<RuleArgs, Unread>
 }
 
 /// The words of the commands, in the order of the table: those that long scripts are full of come first.
-const KEYWORDS: [&[u8]; 25] = [
+const KEYWORDS: [&[u8]; 27] = [
     b"schedule",
     b"send",
     b"bytes",
@@ -347,6 +365,8 @@ const KEYWORDS: [&[u8]; 25] = [
     b"status",
     b"share",
     b"drop",
+    b"listen",
+    b"unlisten",
     b"pools",
 ];
 
@@ -406,7 +426,9 @@ pub(crate) fn command_of(
         21 => queue_status(words),
         22 => share(words),
         23 => drop_output(words),
-        24 => pool_status(words),
+        24 => listen(words),
+        25 => unlisten(words),
+        26 => pool_status(words),
         _ => Err(Unread::Unreadable),
     }
 }

@@ -28,7 +28,7 @@ pub(crate) struct LineForm {
 }
 
 /// The forms, in the order of the commands' words.
-const FORMS: [LineForm; 25] = [
+const FORMS: [LineForm; 27] = [
     LineForm {
         kinds: &[WordKind::Queue, WordKind::NodeNumber, WordKind::Due],
         rest: Rest::Message,
@@ -138,6 +138,14 @@ const FORMS: [LineForm; 25] = [
     },
     LineForm {
         kinds: &[WordKind::Queue],
+        rest: Rest::Nothing,
+    },
+    LineForm {
+        kinds: &[],
+        rest: Rest::Nothing,
+    },
+    LineForm {
+        kinds: &[],
         rest: Rest::Nothing,
     },
     LineForm {

@@ -59,6 +59,8 @@ pub fn target_of(command: &Command) -> Option<Addr>
         | Command::Play { .. }
         | Command::DropOutput
         | Command::Receive { .. }
+        | Command::Listen
+        | Command::Unlisten
         | Command::PoolStatus => None,
     }
 }
@@ -115,6 +117,8 @@ pub(crate) fn queue_named(command: &Command) -> Option<QueueAddr>
         | Command::CreateQueueFrom { .. }
         | Command::DropOutput
         | Command::Receive { .. }
+        | Command::Listen
+        | Command::Unlisten
         | Command::PoolStatus => None,
     }
 }
@@ -182,6 +186,8 @@ pub fn making_of(command: &Command) -> Option<Making>
         | Command::Play { .. }
         | Command::DropOutput
         | Command::Receive { .. }
+        | Command::Listen
+        | Command::Unlisten
         | Command::PoolStatus => None,
     }
 }

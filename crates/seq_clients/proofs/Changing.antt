@@ -13,7 +13,6 @@ use Rattle.node_table.specs.declared.number.Addr.{Addr}
 use Rattle.node_table.specs.declared.number.Node.{Node}
 use Rattle.node_table.specs.declared.number.Node.TheVariants.{Port, Filter}
 use Rattle.node_table.proofs.Numbered.{get-insert_same, get-insert_other, get-remove_same, get-remove_other, remove_absent}
-use Rattle.seq_state.specs.declared.log.Arrival.{Arrival}
 use Rattle.seq_state.specs.State.{Client, ClientPool, PortInfo, FilterInfo, with_entry}
 use Rattle.seq_state.specs.Effect.{has_port, has_filter, queue_of, with_change, put_port, put_filter, new_client, without_oldest}
 use Rattle.seq_state.specs.Step.{port_addr, filter_addr}

@@ -1,10 +1,10 @@
 -- Definition: Who is open, and what waits for each client: what the calls of `Clients` change.
-use Rattle.std.specs.Prelude.{◌≡◌, ℕ, true, false, [], length, Option, Some, None, refl}
+use Rattle.std.specs.Prelude.{◌≡◌, ℕ, Bool, true, false, [], length, Option, Some, None, refl}
 use Rattle.std.specs.Ordering.{nat_cmp}
 use Rattle.std.specs.Coded.{Coded, code_by, coded×, coded_ℕ}
 use Rattle.std.specs.FinMap
 use Rattle.std.specs.FinMap.{FinMap}
-use Rattle.cell_pools.specs.Pools.{coded_pool}
+use Rattle.cell_pools.specs.Pools.{coded_pool, is_listening}
 use Rattle.seq_state.specs.State.{Client, ClientPool, PortInfo, Queue, with_entry}
 use Rattle.seq_state.specs.Codes.{coded_client, coded_arrival}
 
@@ -51,6 +51,11 @@ waiting (Some p) = length p.waiting
 abbrev pub lost_count : Option ClientPool → ℕ
 lost_count None = 0
 lost_count (Some p) = p.lost
+
+-- whether it listens
+abbrev pub listens : Option ClientPool → Bool
+listens None = false
+listens (Some p) = is_listening p
 
 -- ---- queues that others may use
 

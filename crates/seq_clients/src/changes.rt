@@ -9,7 +9,7 @@ ghost use Rattle.midi_wire.specs.Readings.{reading};
 ghost use Rattle.node_table.specs.Names.{is_name};
 ghost use Rattle.tempo_clock.specs.Clocks.{running_from_zero, at_rest, running_on, with_tempo};
 ghost use Rattle.tempo_clock.specs.Entries.{is_tempo};
-ghost use Rattle.seq_state.specs.Effect.{has_port, has_filter, port_of, filter_of, queue_of, with_change, put_port, put_filter, put_queue, new_client, new_port, new_filter, filter_ruled, fed_of, port_fed, held_queue, with_clock, public, queue_changed, oldest, without_oldest};
+ghost use Rattle.seq_state.specs.Effect.{has_port, has_filter, port_of, filter_of, queue_of, with_change, put_port, put_filter, put_queue, new_client, new_port, new_filter, filter_ruled, fed_of, port_fed, held_queue, with_clock, public, queue_changed, oldest, without_oldest, with_listening, without_listening};
 ghost use Rattle.seq_state.specs.State as state;
 ghost use Rattle.seq_state.specs.Step.{pool_has_room};
 ghost use Rattle.seq_clients.specs.Roster.{port_begun, with_client, with_pool};
@@ -282,33 +282,50 @@ impl Clients {
         held
     }
 
-    /// Whether the client has an input pool with room.
+    /// Whether the client has an input pool with room at a moment.
     #[inline]
-    pub fn has_room(&self, client: ClientId) -> bool
-        ensures { result ≡ pool_has_room (get self.now.pools client) }
+    pub fn has_room(&self, client: ClientId, moment: u64) -> bool
+        ensures { result ≡ pool_has_room moment (get self.now.pools client) }
     {
-        self.rows.has_room(client)
+        self.rows.has_room(client, moment)
     }
 
-    /// Counts as lost what finds no room in the client's input pool, where so many messages come, before any of them is
-    /// offered.
+    /// Counts as lost what finds no room in the client's input pool, where so many messages come at a moment, before
+    /// any of them is offered.
     #[inline]
-    pub fn lose_beyond(&mut self, client: ClientId, copies: u64)
-        ensures { let left = option_map (after_losses_of copies) (get self.old.pools client) in
+    pub fn lose_beyond(&mut self, client: ClientId, moment: u64, copies: u64)
+        ensures { let lost = option_map (after_losses_of moment copies) in
+            let left = lost (get self.old.pools client) in
             self.new ≡ with_pool self.old client left }
     {
-        self.rows.lose_beyond(client, copies);
+        self.rows.lose_beyond(client, moment, copies);
     }
 
-    /// Adds a message to what waits in the client's input pool where there is room, and else drops and counts it. It
-    /// takes no memory.
+    /// Adds a message to what waits in the client's input pool where there is room, and else drops and counts it. Where
+    /// the client listens, the message waits for nobody. It takes no memory.
     #[inline]
     pub fn offer(&mut self, client: ClientId, arrival: Arrival) -> bool
-        ensures kept { result ≡ pool_has_room (get self.old.pools client) }
-        ensures after { let offered = option_map (λ p. after_offer p arrival) in
+        ensures kept { result ≡ pool_has_room arrival.moment (get self.old.pools client) }
+        ensures after { let offered = option_map (λ p. after_offer arrival.moment p arrival) in
             self.new ≡ with_pool self.old client (offered (get self.old.pools client)) }
     {
         self.rows.offer(client, arrival)
+    }
+
+    /// Lets the client listen: what comes to its input pool is taken at once. What waits still waits. It takes no memory.
+    pub fn listen(&mut self, client: ClientId)
+        ensures { let pool = with_listening (get self.old.pools client) in
+            self.new ≡ with_pool self.old client pool }
+    {
+        self.rows.listen(client);
+    }
+
+    /// Lets what comes to the client's input pool wait again. It takes no memory.
+    pub fn unlisten(&mut self, client: ClientId)
+        ensures { let pool = without_listening (get self.old.pools client) in
+            self.new ≡ with_pool self.old client pool }
+    {
+        self.rows.unlisten(client);
     }
 
     /// Takes the oldest messages that wait in the client's input pool, `max` of them or all where there are fewer.

@@ -7,7 +7,7 @@ ghost use Rattle.std.specs.Option.{option_copied, option_map};
 ghost use Rattle.seq_state.specs.Effect.{has_port, has_filter, has_queue, node_caps, port_of, filter_of, queue_of, out_size};
 ghost use Rattle.seq_state.specs.State.{queues_of};
 ghost use Rattle.seq_state.specs.Step.{port_addr, filter_addr};
-ghost use Rattle.seq_clients.specs.Roster.{nobody, input_size, waiting, lost_count, NoneShared, SomeShared};
+ghost use Rattle.seq_clients.specs.Roster.{nobody, input_size, waiting, lost_count, listens, NoneShared, SomeShared};
 
 use crate::body::NodeBody;
 use crate::queue::Queue;
@@ -205,6 +205,16 @@ impl Clients {
         match self.rows.get(client) {
             Some(row) => row.pool.waiting(),
             None => 0,
+        }
+    }
+
+    /// Whether the client listens; not where it is not open.
+    pub fn is_listening(&self, client: ClientId) -> bool
+        ensures { result ≡ listens (get self.now.pools client) }
+    {
+        match self.rows.get(client) {
+            Some(row) => row.pool.is_listening(),
+            None => false,
         }
     }
 

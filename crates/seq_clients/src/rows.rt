@@ -4,7 +4,7 @@ ghost use Rattle.std.specs.Prelude.{◌≡◌, ◌+◌, ◌<◌, ◌≤◌, ◌�
 ghost use Rattle.node_table.specs.Numbers.{first_client, most_clients};
 ghost use Rattle.std.specs.Option.{option_copied, option_map};
 ghost use Rattle.std.specs.FinMap as map;
-ghost use Rattle.cell_pools.specs.Pools.{after_offer, after_losses_of};
+ghost use Rattle.cell_pools.specs.Pools.{after_offer, after_losses_of, listening_on, not_listening};
 ghost use Rattle.seq_state.specs.State.{with_entry};
 ghost use Rattle.seq_state.specs.Step.{pool_has_room};
 ghost use Rattle.seq_clients.specs.Rows.{with_pool_changed};
@@ -73,24 +73,47 @@ impl RowTable {
         self.rows[row_of(client)].take()
     }
 
-    /// Whether a client that may be there has an input pool with room.
-    pub(crate) fn has_room(&self, client: ClientId) -> bool
+    /// Whether a client that may be there has an input pool with room at a moment.
+    pub(crate) fn has_room(&self, client: ClientId, moment: u64) -> bool
         ensures { let pool = option_map (λ r. r.pool) (map.get self.now client) in
-            result ≡ pool_has_room pool }
+            result ≡ pool_has_room moment pool }
     {
         match &self.rows[row_of(client)] {
-            Some(row) => row.pool.has_room(),
+            Some(row) => row.pool.has_room(moment),
             None => false,
         }
     }
 
-    /// Counts as lost what finds no room in the input pool of a client that may be there, where so many messages come.
-    pub(crate) fn lose_beyond(&mut self, client: ClientId, copies: u64)
-        ensures { let lost = with_pool_changed (after_losses_of copies) in
+    /// Counts as lost what finds no room in the input pool of a client that may be there, where so many messages come at
+    /// a moment.
+    pub(crate) fn lose_beyond(&mut self, client: ClientId, moment: u64, copies: u64)
+        ensures { let lost = with_pool_changed (after_losses_of moment copies) in
             self.new ≡ with_entry self.old client (option_map lost (map.get self.old client)) }
     {
         match &mut self.rows[row_of(client)] {
-            Some(row) => row.pool.lose_beyond(copies),
+            Some(row) => row.pool.lose_beyond(moment, copies),
+            None => {}
+        }
+    }
+
+    /// Lets a client that may be there listen.
+    pub(crate) fn listen(&mut self, client: ClientId)
+        ensures { let listening = with_pool_changed listening_on in
+            self.new ≡ with_entry self.old client (option_map listening (map.get self.old client)) }
+    {
+        match &mut self.rows[row_of(client)] {
+            Some(row) => row.pool.listen(),
+            None => {}
+        }
+    }
+
+    /// Lets what comes to a client that may be there wait again.
+    pub(crate) fn unlisten(&mut self, client: ClientId)
+        ensures { let waits = with_pool_changed not_listening in
+            self.new ≡ with_entry self.old client (option_map waits (map.get self.old client)) }
+    {
+        match &mut self.rows[row_of(client)] {
+            Some(row) => row.pool.unlisten(),
             None => {}
         }
     }
@@ -106,12 +129,12 @@ impl RowTable {
     /// Offers a message to the input pool of a client that may be there.
     pub(crate) fn offer(&mut self, client: ClientId, arrival: Arrival) -> bool
         ensures kept { let pool = option_map (λ r. r.pool) (map.get self.old client) in
-            result ≡ pool_has_room pool }
-        ensures after { let offered = with_pool_changed (λ p. after_offer p arrival) in
+            result ≡ pool_has_room arrival.moment pool }
+        ensures after { let offered = with_pool_changed (λ p. after_offer arrival.moment p arrival) in
             self.new ≡ with_entry self.old client (option_map offered (map.get self.old client)) }
     {
         match &mut self.rows[row_of(client)] {
-            Some(row) => row.pool.offer(arrival),
+            Some(row) => row.pool.offer(arrival.moment, arrival),
             None => false,
         }
     }

@@ -3,14 +3,15 @@ use Rattle.std.proofs.Common.{◌≡◌, ℕ, List, [], Option, Some, None, refl
 use Rattle.std.specs.FinMap
 use Rattle.cell_pools.specs.Cells.{used_by}
 use Rattle.seq_clients.specs.Roster.{Roster, with_pool, waiting, lost_count}
+use Rattle.seq_state.specs.declared.input.Command.{Command}
 use Rattle.seq_state.specs.declared.input.Command.TheVariants.{Receive, PoolStatus}
 use Rattle.seq_state.specs.declared.log.Arrival.{Arrival}
-use Rattle.seq_state.specs.declared.log.Reply.TheVariants.{Pools, Received}
+use Rattle.seq_state.specs.declared.log.Reply.TheVariants.{Done, Pools, Received}
 use Rattle.seq_state.specs.State.{ClientPool, State, with_entry}
 use Rattle.seq_state.specs.Effect.{oldest, without_oldest, pool_status}
 use Rattle.seq_state.specs.Step.{playback_count}
 use Rattle.seq_state.proofs.Done.{done}
-use Rattle.seq_state.proofs.Effects.{step-takes, step-asks}
+use Rattle.seq_state.proofs.Effects.{pool_step, step-takes, step-asks}
 use Rattle.seq_settle.specs.Cells.{AreCells}
 use Rattle.seq_settle.proofs.Counting.{used_is}
 use Rattle.seq_commands.specs.declared.sequencer.Sequencer.{Sequencer}
@@ -30,6 +31,17 @@ receive-gives old turn max items clients e told left =
     (step-takes old.files s turn.moment turn.actor max ∙ unless-none _ s (done taken (Received (oldest max o))) e
     ∙ ap (λ (r : Roster). done (record s { clients = r.clients; pools = r.pools }) (Received (oldest max o))) (sym left)
     ∙ ap (λ x. done (record s { clients = clients.clients; pools = clients.pools }) (Received x)) (sym told))
+
+-- what becomes of the actor's input pool, where nothing else is told
+pub pool-gives : (old : Sequencer) (turn : Turn) (command : Command) (f : Option ClientPool → Option ClientPool) (clients : Roster) → refusal_in old turn command ≡ None →
+    step_in old turn command ≡ pool_step (state_of old) turn.actor (refusal_in old turn command) f →
+    clients ≡ with_pool old.patchbay.clients turn.actor (f (FinMap.get old.patchbay.clients.pools turn.actor)) →
+    IsStepTakenUnkeyed old (record old { patchbay = record old.patchbay { clients = clients } }) (step_in old turn command) Done []
+pool-gives old turn command f clients e is left =
+    let s : State = state_of old in
+    let pooled : State = record s { pools = with_entry s.pools turn.actor (f (FinMap.get s.pools turn.actor)) } in
+    kept-gives old (record old.patchbay { clients = clients }) _ Done (ap (λ (r : Roster). r.clients) left)
+    (is ∙ unless-none _ s (done pooled Done) e ∙ ap (λ (r : Roster). done (record s { clients = r.clients; pools = r.pools }) Done) (sym left))
 
 told : (o : Option ClientPool) (n : ℕ) → pool_status n o ≡ Pools (waiting o) (lost_count o) n
 told None n = refl

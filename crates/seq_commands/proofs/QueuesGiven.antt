@@ -19,7 +19,7 @@ use Rattle.seq_state.specs.declared.log.Reply.{Reply}
 use Rattle.seq_state.specs.declared.log.Reply.TheVariants as replies
 use Rattle.smf_grammar.specs.Played.{PlayedFile}
 use Rattle.seq_state.specs.State.{Client, Queue, with_entry, queues_of}
-use Rattle.seq_state.specs.Effect.{with_change, put_queue, queue_of, queue_is, queue_map, queue_changed, queue_status, public, held_queue, file_queue}
+use Rattle.seq_state.specs.Effect.{with_change, put_queue, queue_of, queue_map, queue_changed, queue_status, public, held_queue, file_queue}
 use Rattle.seq_state.specs.Step.{moment_in, named_queue}
 use Rattle.seq_state.proofs.Done.{done, tells-queue}
 use Rattle.seq_settle.specs.Moments.{queue_in, moment_at, SameMoments}
@@ -30,9 +30,8 @@ use Rattle.seq_settle.proofs.Stores.{get-put_here}
 use Rattle.seq_clients.specs.Roster.{Roster, with_client}
 use Rattle.seq_commands.specs.declared.sequencer.Sequencer.{Sequencer}
 use Rattle.seq_commands.specs.declared.sequencer.Turn.{Turn}
-use Rattle.seq_commands.specs.Whole.{Keys, clients_of, state_of, IsStepTakenUnkeyed, IsWhole, refusal_in, step_in}
+use Rattle.seq_commands.specs.Whole.{Keys, clients_of, state_of, IsStepTakenUnkeyed, refusal_in, step_in}
 use Rattle.seq_commands.proofs.ClientsGiven.{accepted-step, gives-kept}
-use Rattle.seq_commands.proofs.Each.{private-alone}
 use Rattle.seq_commands.proofs.QueuesAccepted.{accepted-status}
 
 -- ---- a queue that gives other moments

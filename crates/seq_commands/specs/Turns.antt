@@ -2,7 +2,7 @@
 use Rattle.std.specs.Prelude.{ℕ, ◌==◌, Bool, true, false, if◌then◌else◌}
 use Rattle.node_table.specs.declared.number.QueueAddr.{QueueAddr}
 use Rattle.seq_state.specs.declared.input.Command.{Command}
-use Rattle.seq_state.specs.declared.input.Command.TheVariants.{Close, DeletePort, SetFilter, DeleteFilter, Disconnect, DeleteQueue, QueueStatus, Share, DropOutput, PoolStatus}
+use Rattle.seq_state.specs.declared.input.Command.TheVariants.{Close, DeletePort, SetFilter, DeleteFilter, Disconnect, DeleteQueue, QueueStatus, Share, DropOutput, Listen, Unlisten, PoolStatus}
 use Rattle.seq_state.specs.declared.refusal.Refusal.{Refusal}
 use Rattle.seq_state.specs.declared.refusal.Refusal.TheVariants.{NotYours, NoQueue}
 
@@ -21,5 +21,7 @@ takes_none (DeleteQueue queue) = true
 takes_none (QueueStatus queue) = true
 takes_none (Share queue) = true
 takes_none DropOutput = true
+takes_none Listen = true
+takes_none Unlisten = true
 takes_none PoolStatus = true
 takes_none _ = false

@@ -129,6 +129,14 @@ impl Sequencer<'_, '_> {
                 Ok(Reply::Done)
             }
             Command::Receive { max } => Ok(Reply::Received(self.receive(turn, *max)?)),
+            Command::Listen => {
+                self.listen(turn);
+                Ok(Reply::Done)
+            }
+            Command::Unlisten => {
+                self.unlisten(turn);
+                Ok(Reply::Done)
+            }
             Command::PoolStatus => Ok(self.pool_status(turn)),
         }
     }

@@ -95,7 +95,11 @@ impl Sequencer<'_, '_> {
                 in_size,
                 out_size,
             } => self.open_refusal(turn, name.as_slice(), *in_size, *out_size),
-            Command::Close | Command::DropOutput | Command::PoolStatus => self.client_refusal(turn),
+            Command::Close
+            | Command::DropOutput
+            | Command::Listen
+            | Command::Unlisten
+            | Command::PoolStatus => self.client_refusal(turn),
             Command::CreatePort { port, name, .. } => {
                 self.create_port_refusal(turn, *port, name.as_slice())
             }

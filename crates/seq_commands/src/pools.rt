@@ -24,6 +24,24 @@ impl Sequencer<'_, '_> {
         Ok(Items::new(items))
     }
 
+    /// Lets the actor listen: what comes to it waits for nobody.
+    pub(crate) fn listen(&mut self, turn: Turn)
+        requires accepted { refusal_in self.old turn Command.Listen ≡ None }
+        ensures { IsStepTakenUnkeyed self.old self.new
+            (step_in self.old turn Command.Listen) Reply.Done [] }
+    {
+        self.patchbay.listen(turn.actor);
+    }
+
+    /// Lets what comes to the actor wait again.
+    pub(crate) fn unlisten(&mut self, turn: Turn)
+        requires accepted { refusal_in self.old turn Command.Unlisten ≡ None }
+        ensures { IsStepTakenUnkeyed self.old self.new
+            (step_in self.old turn Command.Unlisten) Reply.Done [] }
+    {
+        self.patchbay.unlisten(turn.actor);
+    }
+
     /// How full the actor's pools are.
     pub(crate) fn pool_status(&self, turn: Turn) -> Reply
         requires cells { AreCells self.now.cells.cells self.now.steps }

@@ -38,11 +38,13 @@ impl Sequencer<'_, '_> {
         None
     }
 
-    /// For Close, DropOutput and PoolStatus.
+    /// For Close, DropOutput, Listen, Unlisten and PoolStatus.
     #[tactic(auto, unfolding(seq_state::specs::Table::command_row))]
     pub(crate) fn client_refusal(&self, turn: Turn) -> Option<Refusal>
         ensures close { result ≡ refusal_in self.now turn Command.Close }
         ensures drop_output { result ≡ refusal_in self.now turn Command.DropOutput }
+        ensures listen { result ≡ refusal_in self.now turn Command.Listen }
+        ensures unlisten { result ≡ refusal_in self.now turn Command.Unlisten }
         ensures pool_status { result ≡ refusal_in self.now turn Command.PoolStatus }
     {
         if !self.patchbay.clients().is_open(turn.actor) {

@@ -117,7 +117,7 @@ impl<'f, 'b> Sequencer<'f, 'b> {
     /// and then one for each subscription, the oldest first.
     pub fn listing(&self) -> Result<Vec<u8>, OutOfMemory>
         ensures { IfOk result (λ text. text.items
-            ≡ listing (clients_of self.now) self.now.patchbay.graph) }
+            ≡ listing self.now.patchbay.clients self.now.patchbay.graph) }
     {
         self.patchbay.listing(self.alloc)
     }

@@ -5,7 +5,7 @@ ghost use Rattle.std.specs.List.{list_all};
 ghost use Rattle.std.specs.FinMap as finmap;
 ghost use Rattle.std.specs.FinMap.{get};
 ghost use Rattle.smf_grammar.specs.Played.{as_played};
-ghost use Rattle.seq_patchbay.specs.Listing.{listing};
+ghost use Rattle.seq_engine.specs.Ending.{listing_of};
 ghost use Rattle.seq_clients.specs.Roster.{lost_count};
 ghost use Rattle.seq_commands.specs.Turns.{takes_none};
 ghost use Rattle.seq_state.specs.State.{start};
@@ -197,7 +197,7 @@ impl<'f, 'b, A: Agenda> Engine<'f, 'b, A> {
     /// and then one for each subscription, the oldest first. Running out of memory here changes nothing.
     pub fn listing(&self) -> Result<Vec<u8>, EngineFault>
         ensures text { IfOk result (λ text.
-            text.items ≡ listing self.now.state.clients self.now.state.edges) }
+            text.items ≡ listing_of self.now.state) }
         ensures failed { IsErrOf result EngineFault.Failed ↔ IsTrue self.now.failed }
     {
         if self.failed {

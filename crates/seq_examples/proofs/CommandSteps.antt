@@ -37,7 +37,15 @@ abbrev pub holding : State → ℕ → Client → State
 holding s actor c = record s { clients = FinMap.insert s.clients actor c }
 
 abbrev pub filled : ℕ → List Arrival → ℕ → ClientPool
-filled size waiting lost = record { size = size; waiting = waiting; lost = lost }
+filled size waiting lost =
+    record { size = size; waiting = waiting; lost = lost; listening = None }
+
+-- the same of a pool that listens
+abbrev pub heard : ℕ → List Arrival → ℕ → ℕ → ℕ → ClientPool
+heard size waiting lost moment count =
+    record (filled size waiting lost) {
+      listening = Some (record { moment = moment; count = count });
+    }
 
 -- its input pool is this
 abbrev pub pooled : State → ℕ → ClientPool → State

@@ -4,7 +4,7 @@ use Rattle.std.specs.Prelude.{codes}
 use Rattle.route_filter.specs.Laws.{open_rule}
 use Rattle.patch_graph.specs.Chains.{is_joined}
 use Rattle.patch_graph.specs.Edges.{most_sources}
-use Rattle.seq_state.specs.declared.input.Command.TheVariants.{Open, Close, CreatePort, DeletePort, CreateFilter, SetFilter, DeleteFilter, Connect, Disconnect, Bytes, Send, CreateQueue, CreateQueueFrom, DeleteQueue, Start, Stop, Continue, Tempo, QueueStatus, Share, Schedule, Play, DropOutput, Receive, PoolStatus}
+use Rattle.seq_state.specs.declared.input.Command.TheVariants.{Open, Close, CreatePort, DeletePort, CreateFilter, SetFilter, DeleteFilter, Connect, Disconnect, Bytes, Send, CreateQueue, CreateQueueFrom, DeleteQueue, Start, Stop, Continue, Tempo, QueueStatus, Share, Schedule, Play, DropOutput, Receive, Listen, Unlisten, PoolStatus}
 use Rattle.seq_state.specs.declared.input.DueAt.TheVariants as due_at
 use Rattle.seq_state.specs.declared.refusal.Refusal.TheVariants as refusal
 use Rattle.seq_state.specs.Table.{command_row}
@@ -163,5 +163,7 @@ each_condition = record {
   receive_not_open = in_studio 0 130 (Receive 1) refusal.NotOpen (simp finds);
   receive_bad_size_none = in_studio 0 128 (Receive 0) refusal.BadSize (simp finds);
   receive_bad_size_many = in_studio 0 128 (Receive 2001) refusal.BadSize (simp finds);
+  listen_not_open = in_studio 0 130 Listen refusal.NotOpen (simp finds);
+  unlisten_not_open = in_studio 0 130 Unlisten refusal.NotOpen (simp finds);
   pool_status_not_open = in_studio 0 130 PoolStatus refusal.NotOpen (simp finds);
 }

@@ -23,3 +23,4 @@ pub mod EqualTicks
 pub mod NoisyStranger
 pub mod SendInside
 pub mod OpenedAgain
+pub mod ListenedRun

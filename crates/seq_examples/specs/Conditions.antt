@@ -1,7 +1,7 @@
 -- Worked rows: Each command with each refusal of its row, as its answer.
 use Rattle.std.specs.Prelude.{◌-◌, ◌^◌, [], ◌∷◌, codes}
 use Rattle.route_filter.specs.Laws.{open_rule}
-use Rattle.seq_state.specs.declared.input.Command.TheVariants.{Open, Close, CreatePort, DeletePort, CreateFilter, SetFilter, DeleteFilter, Connect, Disconnect, Bytes, Send, CreateQueue, CreateQueueFrom, DeleteQueue, Start, Stop, Continue, Tempo, QueueStatus, Share, Schedule, Play, DropOutput, Receive, PoolStatus}
+use Rattle.seq_state.specs.declared.input.Command.TheVariants.{Open, Close, CreatePort, DeletePort, CreateFilter, SetFilter, DeleteFilter, Connect, Disconnect, Bytes, Send, CreateQueue, CreateQueueFrom, DeleteQueue, Start, Stop, Continue, Tempo, QueueStatus, Share, Schedule, Play, DropOutput, Receive, Listen, Unlisten, PoolStatus}
 use Rattle.seq_state.specs.declared.input.DueAt.TheVariants as due_at
 use Rattle.seq_state.specs.declared.refusal.Refusal.TheVariants as refusal
 use Rattle.seq_state.specs.Step.{port_addr, filter_addr}
@@ -160,4 +160,6 @@ pub record EachCondition : Type 0 where
   pub receive_not_open : IsRefused studio (an_input 0 130 (Receive 1)) refusal.NotOpen
   pub receive_bad_size_none : IsRefused studio (an_input 0 128 (Receive 0)) refusal.BadSize
   pub receive_bad_size_many : IsRefused studio (an_input 0 128 (Receive 2001)) refusal.BadSize
+  pub listen_not_open : IsRefused studio (an_input 0 130 Listen) refusal.NotOpen
+  pub unlisten_not_open : IsRefused studio (an_input 0 130 Unlisten) refusal.NotOpen
   pub pool_status_not_open : IsRefused studio (an_input 0 130 PoolStatus) refusal.NotOpen

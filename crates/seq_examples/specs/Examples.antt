@@ -7,6 +7,7 @@ use Rattle.tempo_clock.specs.Entries.{smpte_word}
 use Rattle.tempo_clock.specs.declared.due.Due.TheVariants.{Nanos}
 use Rattle.route_filter.specs.Laws.{open_rule}
 use Rattle.patch_graph.specs.Edges.{edge}
+use Rattle.cell_pools.specs.Pools.{empty_pool}
 use Rattle.seq_state.specs.declared.input.Command.TheVariants.{Open, Close, CreatePort, DeletePort, CreateFilter, Connect, Disconnect, CreateQueue, Start, Stop, Schedule, Play}
 use Rattle.seq_state.specs.declared.input.DueAt.TheVariants as due_at
 use Rattle.seq_state.specs.declared.input.Input.{Input}
@@ -83,7 +84,7 @@ listener = record {
 }
 
 abbrev pub pool : ClientPool
-pool = record { size = 8; waiting = []; lost = 0 }
+pool = empty_pool 8
 
 -- a player and a listener, a subscription from port to port, and one from filter to filter
 abbrev pub studio : State
@@ -188,7 +189,12 @@ pub record EachRefusal : Type 0 where
 -- a full pool whose count of lost messages has come to its greatest value stays as it is
 abbrev pub worn_out : ClientPool
 worn_out =
-    record { size = 1; waiting = an_arrival 0 0 (a_note 60) ∷ []; lost = 18446744073709551615 }
+    record {
+      size = 1;
+      waiting = an_arrival 0 0 (a_note 60) ∷ [];
+      lost = 18446744073709551615;
+      listening = None;
+    }
 
 abbrev pub LostStays : Type 0
 LostStays = offer (Some worn_out) (a_delivery 1 128 0 (a_note 61)) ≡ Some worn_out

@@ -6,7 +6,7 @@ use Rattle.tempo_clock.specs.Ticks.{Tempos}
 use Rattle.route_filter.specs.Worked.{moved_by}
 use Rattle.node_table.specs.declared.caps.Caps.{Caps}
 use Rattle.seq_state.specs.declared.input.Command.{Command}
-use Rattle.seq_state.specs.declared.input.Command.TheVariants.{Open, Close, CreatePort, DeletePort, CreateFilter, SetFilter, DeleteFilter, Connect, Disconnect, Bytes, Send, CreateQueue, CreateQueueFrom, DeleteQueue, Start, Stop, Continue, Tempo, QueueStatus, Share, Schedule, Play, DropOutput, Receive, PoolStatus}
+use Rattle.seq_state.specs.declared.input.Command.TheVariants.{Open, Close, CreatePort, DeletePort, CreateFilter, SetFilter, DeleteFilter, Connect, Disconnect, Bytes, Send, CreateQueue, CreateQueueFrom, DeleteQueue, Start, Stop, Continue, Tempo, QueueStatus, Share, Schedule, Play, DropOutput, Receive, Listen, Unlisten, PoolStatus}
 use Rattle.seq_state.specs.declared.input.DueAt.TheVariants as due_at
 use Rattle.seq_state.specs.declared.input.Input.{Input}
 use Rattle.node_table.specs.declared.number.QueueAddr.{QueueAddr}
@@ -625,3 +625,41 @@ OpenedAgain =
     ∷ Replied 10 4 129 (Pools 0 0 0)
     ∷ Replied 11 4 129 Done
     ∷ Replied 12 5 128 Done ∷ []
+
+-- A client with room for two listens while one message waits for it. Of three notes of one moment
+-- it hears two, and one is lost; at the next moment it hears two more. What waited waits still, and
+-- when it listens no longer one note more finds room beside it.
+abbrev pub listened : List Input
+listened =
+    an_input 0 128 (Open (codes "a") 8 8)
+    ∷ an_input 0 128 (CreatePort 0 (codes "out") (caps_by_bits 33))
+    ∷ an_input 0 129 (Open (codes "b") 2 8)
+    ∷ an_input 0 129 (CreatePort 0 (codes "in") (caps_by_bits 66))
+    ∷ an_input 0 129 (Connect (port_addr 128 0) (port_addr 129 0))
+    ∷ an_input 1 128 (Send 0 (a_note 0x01))
+    ∷ an_input 2 129 Listen
+    ∷ an_input 3 128 (Send 0 (a_note 0x02)) ∷ an_input 3 128 (Send 0 (a_note 0x03))
+    ∷ an_input 3 128 (Send 0 (a_note 0x04))
+    ∷ an_input 4 128 (Send 0 (a_note 0x05)) ∷ an_input 4 128 (Send 0 (a_note 0x06))
+    ∷ an_input 4 129 PoolStatus
+    ∷ an_input 5 129 Unlisten
+    ∷ an_input 6 128 (Send 0 (a_note 0x07)) ∷ an_input 7 128 (Send 0 (a_note 0x08))
+    ∷ an_input 7 129 PoolStatus ∷ []
+
+abbrev pub Listened : Type 0
+Listened =
+    plain [] listened 10 ≡
+    Replied 0 0 128 Done ∷ Replied 1 0 128 Done ∷ Replied 2 0 129 Done ∷ Replied 3 0 129 Done
+    ∷ Replied 4 0 129 Done
+    ∷ Delivered (a_delivery 1 129 0 (a_note 0x01)) ∷ Replied 5 1 128 Done
+    ∷ Replied 6 2 129 Done
+    ∷ Delivered (a_delivery 3 129 0 (a_note 0x02)) ∷ Replied 7 3 128 Done
+    ∷ Delivered (a_delivery 3 129 0 (a_note 0x03)) ∷ Replied 8 3 128 Done
+    ∷ Replied 9 3 128 Done
+    ∷ Delivered (a_delivery 4 129 0 (a_note 0x05)) ∷ Replied 10 4 128 Done
+    ∷ Delivered (a_delivery 4 129 0 (a_note 0x06)) ∷ Replied 11 4 128 Done
+    ∷ Replied 12 4 129 (Pools 1 1 0)
+    ∷ Replied 13 5 129 Done
+    ∷ Delivered (a_delivery 6 129 0 (a_note 0x07)) ∷ Replied 14 6 128 Done
+    ∷ Replied 15 7 128 Done
+    ∷ Replied 16 7 129 (Pools 2 2 0) ∷ []

@@ -1,9 +1,10 @@
 -- Worked rows: What single commands do in a state that is given.
-use Rattle.std.specs.Prelude.{◌≡◌, ◌-◌, ◌^◌, ℕ, pos, false, List, [], ◌∷◌, drop, Some, codes}
+use Rattle.std.specs.Prelude.{◌≡◌, ◌-◌, ◌^◌, ℕ, pos, false, List, [], ◌∷◌, drop, None, Some, codes}
 use Rattle.std.specs.FinMap
 use Rattle.tempo_clock.specs.declared.due.Due.TheVariants.{Nanos}
 use Rattle.route_filter.specs.Worked.{moved_by}
 use Rattle.patch_graph.specs.Edges.{edge}
+use Rattle.cell_pools.specs.Pools.{empty_pool}
 use Rattle.seq_state.specs.declared.input.Command.{Command}
 use Rattle.seq_state.specs.declared.input.Command.TheVariants.{Open, CreatePort, Connect, CreateQueue, CreateQueueFrom, DeleteQueue, Start, Stop, Continue, Tempo, QueueStatus, Share, Schedule, Play, Send, DropOutput, Receive, PoolStatus}
 use Rattle.seq_state.specs.declared.input.DueAt.TheVariants as due_at
@@ -71,7 +72,8 @@ guest =
 
 -- what the listener has waiting, and what found no room before
 abbrev pub half_full : ClientPool
-half_full = record { size = 2; waiting = an_arrival 3 0 (a_note 1) ∷ []; lost = 5 }
+half_full =
+    record { size = 2; waiting = an_arrival 3 0 (a_note 1) ∷ []; lost = 5; listening = None }
 
 -- the host's port leads through both filters to the listener's port 0, and the guest's to its port
 -- 1
@@ -82,9 +84,9 @@ hall =
           (FinMap.insert (FinMap.insert FinMap.empty 128 host) 129 listener) 130 guest;
       pools =
           FinMap.insert (FinMap.insert
-          (FinMap.insert FinMap.empty 128 (record { size = 8; waiting = []; lost = 0 })) 129
+          (FinMap.insert FinMap.empty 128 (empty_pool 8)) 129
           half_full) 130
-          (record { size = 1; waiting = []; lost = 0 });
+          (empty_pool 1);
       edges =
           edge (port_addr 128 0) (filter_addr 128 0) ∷ edge (filter_addr 128 0) (filter_addr 128 1)
           ∷ edge (filter_addr 128 1) (port_addr 129 0) ∷ edge (port_addr 130 0) (port_addr 129 1)

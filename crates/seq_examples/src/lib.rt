@@ -9,7 +9,7 @@ mod rows;
 pub use rows::{
     changed_filter, circles_of_runs, closed_client, copies_by_edge_age, counted_frames,
     deleted_port, dropped_output, each_condition, each_refusal, each_step, equal_moments,
-    equal_ticks, input_overflow, lost_count_stays, noisy_stranger, opened_again, output_full,
-    played_file, queue_clock, restarted_queue, running_status, send_inside_message, shared_queue,
-    third_clients,
+    equal_ticks, input_overflow, listened, lost_count_stays, noisy_stranger, opened_again,
+    output_full, played_file, queue_clock, restarted_queue, running_status, send_inside_message,
+    shared_queue, third_clients,
 };

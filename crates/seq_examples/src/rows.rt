@@ -4,7 +4,7 @@
 ghost use Rattle.seq_examples.specs.Conditions.{EachCondition};
 ghost use Rattle.seq_examples.specs.Examples.{EachRefusal, LostStays};
 ghost use Rattle.seq_examples.specs.Steps.{EachStep};
-ghost use Rattle.seq_examples.specs.Rows.{Circles, SendInside, RunningStatusKept, OpenedAgain, NoisyStranger, EqualMoments, CopiesByEdgeAge, InputOverflow, OutputFull, ThirdClients, DeletedPort, SharedQueue, PlaysFile, DroppedOutput, ChangedFilter, QueueClock, ClosedClient, CountedFrames, RestartedQueue, EqualTicks};
+ghost use Rattle.seq_examples.specs.Rows.{Circles, SendInside, RunningStatusKept, OpenedAgain, NoisyStranger, EqualMoments, CopiesByEdgeAge, InputOverflow, OutputFull, ThirdClients, DeletedPort, SharedQueue, PlaysFile, DroppedOutput, ChangedFilter, QueueClock, ClosedClient, CountedFrames, RestartedQueue, EqualTicks, Listened};
 
 /// Two clients each schedule a note for 100, the one with the greater number first. At equal moments the events come in
 /// the order of their commands, and with their own moment, not by client number nor with the moment of the settling
@@ -144,4 +144,10 @@ pub fn running_status()
 /// A client that closes and opens again finds nothing waiting, nothing lost, and no subscription.
 pub fn opened_again()
     ensures { OpenedAgain }
+{}
+
+/// A client listens while a message waits for it: of one moment it hears as much as might wait in its pool, and what
+/// waited waits still.
+pub fn listened()
+    ensures { Listened }
 {}

@@ -1,5 +1,5 @@
 -- The texts of numbers, one after another.
-use Rattle.std.proofs.Common.{◌≡◌, ◌<◌, ℕ, zero, suc, ◌+◌, List, [], ◌∷◌, ◌++◌, length, take, get_or, sym, ap, ◌∙◌, add-one, append_assoc, append-nil, arith}
+use Rattle.std.proofs.Common.{◌≡◌, ◌<◌, ℕ, zero, suc, ◌+◌, List, [], ◌∷◌, ◌++◌, length, take, get_or, refl, sym, ap, ◌∙◌, add-one, append_assoc, append-nil, arith}
 use Rattle.std.specs.List.{flat_map}
 use Rattle.patch_graph.specs.declared.edge.Edge.{Edge}
 use Rattle.seq_patchbay.specs.Listing.{texts, edge_line}
@@ -14,6 +14,12 @@ texts_more first n m f before now next is h k =
 pub texts_none : (first : ℕ) (f : ℕ → List ℕ) (xs : List ℕ) → xs ≡ xs ++ texts first 0 f
 unfolding texts
 texts_none first f xs = sym (append-nil xs)
+
+-- texts that agree at each number
+pub agree : (first n : ℕ) (f g : ℕ → List ℕ) → ((k : ℕ) → f k ≡ g k) → texts first n f ≡ texts first n g
+unfolding texts
+agree first zero f g h = refl
+agree first (suc n) f g h = ap (λ t. t ++ f (first + n)) (agree first n f g h) ∙ ap (λ t. texts first n g ++ t) (h (first + n))
 
 abbrev line : Edge → List ℕ
 line e = edge_line e.source e.target

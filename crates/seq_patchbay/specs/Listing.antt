@@ -1,10 +1,8 @@
 -- Definition: The listing as text.
-use Rattle.std.specs.Prelude.{ℕ, zero, suc, ◌+◌, List, [], ◌++◌, codes, Option, Some, None, if◌then◌else◌}
+use Rattle.std.specs.Prelude.{ℕ, Bool, zero, suc, ◌+◌, List, [], ◌++◌, codes, Option, Some, None, if◌then◌else◌}
 use Rattle.std.specs.List.{flat_map}
 use Rattle.std.specs.Fmt.{decimal, signed_decimal}
-use Rattle.std.specs.Ordering.{nat_cmp}
 use Rattle.std.specs.FinMap
-use Rattle.std.specs.FinMap.{FinMap}
 use Rattle.route_filter.specs.declared.rule_args.RuleArgs.{RuleArgs}
 use Rattle.node_table.specs.Text.{addr_text, queue_text}
 use Rattle.node_table.specs.declared.number.Addr.{Addr}
@@ -12,14 +10,20 @@ use Rattle.node_table.specs.declared.number.Node.TheVariants.{Port, Filter}
 use Rattle.patch_graph.specs.declared.edge.Edge.{Edge}
 use Rattle.seq_state.specs.State.{PortInfo, FilterInfo, Queue, Client}
 use Rattle.seq_state.specs.Effect.{port_of, filter_of, queue_of, runs}
+use Rattle.seq_clients.specs.Roster.{Roster, listens}
 
 -- ---- lines
 
--- `client 128 drums in 8 out 8`
-abbrev pub client_line : ℕ → List ℕ → ℕ → ℕ → List ℕ
-client_line client name in_size out_size =
+-- whether a client listens, told where it does
+abbrev pub listening_text : Bool → List ℕ
+listening_text listens = if listens then codes " listening" else []
+
+-- `client 128 drums in 8 out 8`, or `client 128 drums in 8 out 8 listening`
+abbrev pub client_line : ℕ → List ℕ → ℕ → ℕ → Bool → List ℕ
+client_line client name in_size out_size listens =
     (codes "client " ++ decimal client ++ codes " ") ++ name
-    ++ codes " in " ++ decimal in_size ++ codes " out " ++ decimal out_size ++ codes "\n"
+    ++ (codes " in " ++ decimal in_size ++ codes " out " ++ decimal out_size)
+    ++ listening_text listens ++ codes "\n"
 
 -- `port 128:p0 out 33`
 abbrev pub port_line : ℕ → ℕ → List ℕ → ℕ → List ℕ
@@ -94,18 +98,19 @@ abbrev pub queue_texts : ℕ → Option Client → List ℕ
 queue_texts client c = texts 0 8 (λ n. queue_lines client n (queue_of c n))
 
 -- a client that may be open, then what it has
-abbrev pub client_lines : ℕ → Option Client → List ℕ
-client_lines client None = []
-client_lines client (Some c) =
-    client_line client c.name c.in_size c.out_size
+abbrev pub client_lines : ℕ → Option Client → Bool → List ℕ
+client_lines client None listens = []
+client_lines client (Some c) listens =
+    client_line client c.name c.in_size c.out_size listens
     ++ port_texts client (Some c) ++ filter_texts client (Some c) ++ queue_texts client (Some c)
 
-abbrev pub client_texts : FinMap nat_cmp Client → List ℕ
-client_texts clients = texts 128 64 (λ n. client_lines n (FinMap.get clients n))
+abbrev pub client_texts : Roster → List ℕ
+client_texts r =
+    texts 128 64 (λ n. client_lines n (FinMap.get r.clients n) (listens (FinMap.get r.pools n)))
 
 abbrev pub edge_texts : List Edge → List ℕ
 edge_texts edges = flat_map (λ e. edge_line e.source e.target) edges
 
 -- the clients by number, and then the subscriptions, oldest first
-abbrev pub listing : FinMap nat_cmp Client → List Edge → List ℕ
-listing clients edges = client_texts clients ++ edge_texts edges
+abbrev pub listing : Roster → List Edge → List ℕ
+listing r edges = client_texts r ++ edge_texts edges

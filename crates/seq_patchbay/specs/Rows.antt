@@ -1,5 +1,5 @@
 -- Worked rows: A listing by hand.
-use Rattle.std.specs.Prelude.{◌≡◌, ℕ, pos, negsuc, Bool, true, false, List, [], ◌∷◌, ◌++◌, codes, Some, None}
+use Rattle.std.specs.Prelude.{◌≡◌, ℕ, pos, negsuc, Bool, true, false, List, [], ◌∷◌, ◌++◌, codes, Option, Some, None}
 use Rattle.std.specs.Ordering.{nat_cmp}
 use Rattle.std.specs.FinMap
 use Rattle.std.specs.FinMap.{FinMap}
@@ -8,7 +8,9 @@ use Rattle.node_table.specs.declared.number.Node.{Node}
 use Rattle.node_table.specs.declared.number.Node.TheVariants.{Port, Filter}
 use Rattle.patch_graph.specs.declared.edge.Edge.{Edge}
 use Rattle.seq_state.specs.Effect.{one_tempo}
-use Rattle.seq_state.specs.State.{PortInfo, FilterInfo, Queue, Client}
+use Rattle.cell_pools.specs.declared.listening.Listening.{Listening}
+use Rattle.seq_state.specs.State.{PortInfo, FilterInfo, Queue, Client, ClientPool}
+use Rattle.seq_clients.specs.Roster.{Roster}
 use Rattle.seq_patchbay.specs.Listing.{listing}
 
 abbrev pub held_clock : Clock
@@ -94,6 +96,18 @@ silent =
 abbrev pub everyone : FinMap nat_cmp Client
 everyone = FinMap.insert (FinMap.insert FinMap.empty 191 listed_studio) 128 silent
 
+-- the first listens, and something has come to it; the other does not
+abbrev pub a_pool : Option Listening → ClientPool
+a_pool listening = record { size = 1; waiting = []; lost = 0; listening = listening }
+
+abbrev pub their_pools : FinMap nat_cmp ClientPool
+their_pools =
+    FinMap.insert (FinMap.insert FinMap.empty 191 (a_pool None)) 128
+    (a_pool (Some (record { moment = 7; count = 1 })))
+
+abbrev pub all_of_them : Roster
+all_of_them = record { clients = everyone; pools = their_pools }
+
 abbrev pub edge_between : Node → Node → Edge
 edge_between source target =
     record {
@@ -106,7 +120,7 @@ two_edges = edge_between (Port 15) (Filter 10) ∷ edge_between (Filter 10) (Por
 
 abbrev pub everyone_text : List ℕ
 everyone_text =
-    codes "client 128 z in 1 out 10\nclient 191 studio in 2000 out 1\n"
+    codes "client 128 z in 1 out 10 listening\nclient 191 studio in 2000 out 1\n"
     ++ codes "port 191:p0 in~ 194\nport 191:p15 out 33\n"
     ++ codes "filter 191:f1 3 5 3 36 96 12 9\nfilter 191:f10 99 65535 1023 0 127 -12\n"
     ++ codes "queue 191:q0 stopped\nqueue 191:q1 running\nqueue 191:q2 stopped shared\n"
@@ -114,4 +128,4 @@ everyone_text =
 
 -- a line of each kind, in its place
 abbrev pub WorkedListing : Type 0
-WorkedListing = listing everyone two_edges ≡ everyone_text
+WorkedListing = listing all_of_them two_edges ≡ everyone_text

@@ -3,7 +3,8 @@
 ghost use Rattle.std.specs.Prelude.{◌≡◌, ◌++◌, OnOk, IfOk};
 ghost use Rattle.std.specs.FinMap as map;
 ghost use Rattle.seq_state.specs.Effect.{port_of, filter_of, queue_of};
-ghost use Rattle.seq_patchbay.specs.Listing.{client_line, port_line, rule_text, channel_text, filter_line, queue_line, edge_line, client_lines, port_lines, filter_lines, queue_lines, client_texts, port_texts, filter_texts, queue_texts, edge_texts, listing};
+ghost use Rattle.seq_clients.specs.Roster.{listens};
+ghost use Rattle.seq_patchbay.specs.Listing.{listening_text, client_line, port_line, rule_text, channel_text, filter_line, queue_line, edge_line, client_lines, port_lines, filter_lines, queue_lines, client_texts, port_texts, filter_texts, queue_texts, edge_texts, listing};
 
 use crate::patchbay::Patchbay;
 use bitflags::Flags;
@@ -22,7 +23,7 @@ impl Patchbay {
     /// number, and then one for each subscription, the oldest first.
     pub fn listing(&self, alloc: Global) -> Result<Vec<u8>, OutOfMemory>
         ensures { IfOk result (λ text.
-            text.items ≡ listing self.now.clients.clients self.now.graph) }
+            text.items ≡ listing self.now.clients self.now.graph) }
     {
         let mut text = Vec::new(alloc);
         list_clients(alloc, self.clients(), &mut text)?;
@@ -33,7 +34,7 @@ impl Patchbay {
 
 /// Adds the lines of every open client, by number.
 fn list_clients(alloc: Global, clients: &Clients, out: &mut Vec<u8>) -> Result<(), OutOfMemory>
-    ensures { OnOk result (out.new.items ≡ out.old.items ++ client_texts clients.now.clients) }
+    ensures { OnOk result (out.new.items ≡ out.old.items ++ client_texts clients.now) }
 {
     for number in FIRST_CLIENT..LAST_CLIENT + 1 {
         list_client_at(alloc, clients, ClientId::new(number).unwrap(), out)?;
@@ -49,12 +50,14 @@ fn list_client_at(
     out: &mut Vec<u8>,
 ) -> Result<(), OutOfMemory>
     ensures { let c = map.get clients.now.clients client in
-        OnOk result (out.new.items ≡ out.old.items ++ client_lines client c) }
+        let listens = listens (map.get clients.now.pools client) in
+        OnOk result (out.new.items ≡ out.old.items ++ client_lines client c listens) }
 {
     if let Some(name) = clients.name(client) {
         let in_size = clients.in_size(client);
         let out_size = clients.out_size(client);
-        list_client(alloc, client, name, in_size, out_size, out)?;
+        let listens = clients.is_listening(client);
+        list_client(alloc, client, name, in_size, out_size, listens, out)?;
         list_ports(alloc, clients, client, out)?;
         list_filters(alloc, clients, client, out)?;
         list_queues(alloc, clients, client, out)?;
@@ -68,14 +71,26 @@ fn list_client(
     name: &[u8],
     in_size: u32,
     out_size: u32,
+    listens: bool,
     out: &mut Vec<u8>,
 ) -> Result<(), OutOfMemory>
-    ensures { let line = client_line client name.now in_size out_size in
+    ensures { let line = client_line client name.now in_size out_size listens in
         OnOk result (out.new.items ≡ out.old.items ++ line) }
 {
     out.extend_from_slice(format!(in alloc; "client {client} ")?.as_bytes())?;
     out.extend_from_slice(name)?;
-    out.extend_from_slice(format!(in alloc; " in {in_size} out {out_size}\n")?.as_bytes())?;
+    out.extend_from_slice(format!(in alloc; " in {in_size} out {out_size}")?.as_bytes())?;
+    list_listening(listens, out)?;
+    out.extend_from_slice(b"\n")?;
+    Ok(())
+}
+
+fn list_listening(listens: bool, out: &mut Vec<u8>) -> Result<(), OutOfMemory>
+    ensures { OnOk result (out.new.items ≡ out.old.items ++ listening_text listens) }
+{
+    if listens {
+        out.extend_from_slice(b" listening")?;
+    }
     Ok(())
 }
 

@@ -3,7 +3,7 @@
 ghost use Rattle.std.specs.Prelude.{◌≡◌, true, [], ◌++◌, length, IsOk, IfOk, OnOk, OnErr};
 ghost use Rattle.std.specs.FinMap.{get};
 ghost use Rattle.midi_wire.specs.Readings.{reading};
-ghost use Rattle.seq_state.specs.Effect.{has_port, port_of, fed_of, port_fed, put_port, with_change, oldest, without_oldest};
+ghost use Rattle.seq_state.specs.Effect.{has_port, port_of, fed_of, port_fed, put_port, with_change, oldest, without_oldest, with_listening, without_listening};
 ghost use Rattle.seq_state.specs.Step.{pools_after, copies_with_room};
 ghost use Rattle.seq_clients.specs.Roster.{nobody, with_client, with_pool};
 ghost use Rattle.seq_patchbay.specs.Leaving.{copies_of_all};
@@ -107,6 +107,24 @@ impl Patchbay {
         ensures err { OnErr result (self.new ≡ self.old) }
     {
         self.clients.receive(client, max)
+    }
+
+    /// Lets a client listen, as `Clients::listen` does. It changes no way of a message.
+    pub fn listen(&mut self, client: ClientId)
+        ensures clients { let pool = with_listening (get self.old.clients.pools client) in
+            self.new.clients ≡ with_pool self.old.clients client pool }
+        ensures graph { self.new.graph ≡ self.old.graph }
+    {
+        self.clients.listen(client);
+    }
+
+    /// Lets what comes to a client wait again, as `Clients::unlisten` does. It changes no way of a message.
+    pub fn unlisten(&mut self, client: ClientId)
+        ensures clients { let pool = without_listening (get self.old.clients.pools client) in
+            self.new.clients ≡ with_pool self.old.clients client pool }
+        ensures graph { self.new.graph ≡ self.old.graph }
+    {
+        self.clients.unlisten(client);
     }
 
     /// Sends messages from a port, one after another. No messages take no memory; out of memory may leave some copies

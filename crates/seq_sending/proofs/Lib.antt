@@ -3,6 +3,7 @@ pub mod Onward
 pub mod Known
 pub mod Agreeing
 pub mod Keeping
+pub mod OneMoment
 pub mod Rooms
 pub mod CopyCounts
 pub mod Classes

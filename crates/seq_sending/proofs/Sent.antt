@@ -25,18 +25,18 @@ use Rattle.seq_sending.specs.Carrying.{let_through, of_some, copies_by, copies_t
 
 -- ---- one copy
 
-pub offer-is : (o : Option ClientPool) (d : Delivery) → option_map (λ p. after_offer p (arrival d)) o ≡ offer o d
+pub offer-is : (o : Option ClientPool) (d : Delivery) → option_map (λ p. after_offer d.moment p (arrival d)) o ≡ offer o d
 offer-is None d = refl
 offer-is (Some p) d = refl
 
 -- the pools after one copy was offered
-pub offered-one : (pools : FinMap nat_cmp ClientPool) (d : Delivery) → with_entry pools d.target.client (option_map (λ p. after_offer p (arrival d)) (FinMap.get pools d.target.client)) ≡ pools_after pools (d ∷ [])
+pub offered-one : (pools : FinMap nat_cmp ClientPool) (d : Delivery) → with_entry pools d.target.client (option_map (λ p. after_offer d.moment p (arrival d)) (FinMap.get pools d.target.client)) ≡ pools_after pools (d ∷ [])
 offered-one pools d = ap (with_entry pools d.target.client) (offer-is (FinMap.get pools d.target.client) d)
 
-pub delivered-room : (pools : FinMap nat_cmp ClientPool) (d : Delivery) → pool_has_room (FinMap.get pools d.target.client) ≡ true → copies_with_room pools (d ∷ []) ≡ d ∷ []
+pub delivered-room : (pools : FinMap nat_cmp ClientPool) (d : Delivery) → pool_has_room d.moment (FinMap.get pools d.target.client) ≡ true → copies_with_room pools (d ∷ []) ≡ d ∷ []
 delivered-room pools d e = ap (λ b. cond b (d ∷ []) []) e
 
-pub delivered-none : (pools : FinMap nat_cmp ClientPool) (d : Delivery) → pool_has_room (FinMap.get pools d.target.client) ≡ false → copies_with_room pools (d ∷ []) ≡ []
+pub delivered-none : (pools : FinMap nat_cmp ClientPool) (d : Delivery) → pool_has_room d.moment (FinMap.get pools d.target.client) ≡ false → copies_with_room pools (d ∷ []) ≡ []
 delivered-none pools d e = ap (λ b. cond b (d ∷ []) []) e
 
 -- ---- filters

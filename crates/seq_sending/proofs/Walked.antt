@@ -14,8 +14,10 @@ use Rattle.seq_state.specs.Step.{pools_after, copies_with_room}
 use Rattle.seq_state.proofs.Lists.{flat_map-append}
 use Rattle.seq_sending.specs.Carrying.{copies_to}
 use Rattle.seq_sending.specs.Barren.{AreBarren}
+use Rattle.seq_sending.specs.Rooms.{AreAt}
 use Rattle.seq_sending.specs.declared.barren.Mark.{Mark}
 use Rattle.seq_sending.proofs.Known.{each-more}
+use Rattle.seq_sending.proofs.OneMoment.{each-at, to-at}
 use Rattle.seq_sending.proofs.Rooms.{Pools, cut_law, onward_law}
 
 module _ {M : Type 0} (bytes : M → List ℕ) (clients : FinMap nat_cmp Client) (edges : List Edge) (moment : ℕ) where
@@ -31,8 +33,10 @@ module _ {M : Type 0} (bytes : M → List ℕ) (clients : FinMap nat_cmp Client)
       ∙ ap (λ x. copies_with_room pools (copies_to clients edges moment hops node x)) m) ∙ e
 
   -- and stays so
-  pub still-barren : (pools now : Pools) (marks : List (Mark M)) (more : List Delivery) → now ≡ pools_after pools more → AreBarren bytes clients edges moment pools marks → AreBarren bytes clients edges moment now marks
-  still-barren pools now marks more e are i k at = ap (λ p. copies_with_room p (of_mark k)) e ∙ cut_law pools (of_mark k) more (are i k at)
+  pub still-barren : (pools now : Pools) (marks : List (Mark M)) (more : List Delivery) → AreAt moment more → now ≡ pools_after pools more → AreBarren bytes clients edges moment pools marks → AreBarren bytes clients edges moment now marks
+  still-barren pools now marks more all e are i k at =
+      ap (λ p. copies_with_room p (of_mark k)) e
+      ∙ cut_law pools moment (of_mark k) more (to-at moment clients edges k.hops k.node (bytes k.message)) all (are i k at)
 
   -- one mark more
   pub one-more : (pools : Pools) (marks : List (Mark M)) (new : Mark M) → AreBarren bytes clients edges moment pools marks → copies_with_room pools (of_mark new) ≡ [] → AreBarren bytes clients edges moment pools (marks ++ new ∷ [])
@@ -48,7 +52,7 @@ no-longer out out' (d ∷ now) e l = absurd (longer (ap length (sym e) ∙ l))
 
 -- ---- node by node
 
-module _ {X : Type 0} (f : X → List Delivery) (xs : List X) (i : ℕ) (x : X) (within : i < length xs) (is : x ≡ slice_index_or xs i x) where
+module _ {X : Type 0} (moment : ℕ) (f : X → List Delivery) (all : (y : X) → AreAt moment (f y)) (xs : List X) (i : ℕ) (x : X) (within : i < length xs) (is : x ≡ slice_index_or xs i x) where
   next : flat_map f (take (i + 1) xs) ≡ flat_map f (take i xs) ++ f x
   next =
       ap (flat_map f) (take_more xs i x within ∙ ap (λ y. take i xs ++ y ∷ []) (sym is))
@@ -57,7 +61,7 @@ module _ {X : Type 0} (f : X → List Delivery) (xs : List X) (i : ℕ) (x : X) 
   pub pools-next : (was now after : Pools) → now ≡ pools_after was (copies_with_room was (flat_map f (take i xs))) → after ≡ pools_after now (copies_with_room now (f x)) →
       after ≡ pools_after was (copies_with_room was (flat_map f (take (i + 1) xs)))
   pools-next was now after a b =
-      b ∙ ap (λ p. pools_after p (copies_with_room p (f x))) a ∙ sym (onward_law was (flat_map f (take i xs)) (f x)).0
+      b ∙ ap (λ p. pools_after p (copies_with_room p (f x))) a ∙ sym (onward_law was moment (flat_map f (take i xs)) (f x) (each-at moment f all (take i xs)) (all x)).0
       ∙ ap (λ ds. pools_after was (copies_with_room was ds)) (sym next)
 
   pub sent-next : (was now : Pools) (out out' out'' : List Delivery) → now ≡ pools_after was (copies_with_room was (flat_map f (take i xs))) →
@@ -65,7 +69,7 @@ module _ {X : Type 0} (f : X → List Delivery) (xs : List X) (i : ℕ) (x : X) 
   sent-next was now out out' out'' p a b =
       let before : List Delivery = flat_map f (take i xs) in
       b ∙ ap (λ ds. ds ++ copies_with_room now (f x)) a ∙ append_assoc out (copies_with_room was before) (copies_with_room now (f x))
-      ∙ ap (λ ds. out ++ ds) (ap (λ q. copies_with_room was before ++ copies_with_room q (f x)) p ∙ sym (onward_law was before (f x)).1 ∙ ap (copies_with_room was) (sym next))
+      ∙ ap (λ ds. out ++ ds) (ap (λ q. copies_with_room was before ++ copies_with_room q (f x)) p ∙ sym (onward_law was moment before (f x) (each-at moment f all (take i xs)) (all x)).1 ∙ ap (copies_with_room was) (sym next))
 
 pub stands : {X : Type 0} (xs : List X) (i : ℕ) (x : X) → true ≡ nat_lt i (length xs) → x ≡ slice_index_or xs i x → slice_get xs i ≡ Some x
 stands xs i x e at = go xs i (ltb-true i (length xs) (sym e)) at

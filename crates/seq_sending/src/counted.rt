@@ -42,43 +42,45 @@ fn client_of(row: usize) -> ClientId
     }
 }
 
-/// Counts as lost what finds no room in the input pool of the client of a row, where so many copies come to it.
-fn lose(clients: &mut Clients, row: usize, copies: u64)
+/// Counts as lost what finds no room in the input pool of the client of a row, where so many copies come to it at a
+/// moment.
+fn lose(clients: &mut Clients, moment: u64, row: usize, copies: u64)
     requires { row < most_clients }
     ensures clients { clients.new.clients ≡ clients.old.clients }
     ensures lost { get clients.new.pools (first_client + row)
-        ≡ with_losses copies (get clients.old.pools (first_client + row)) }
+        ≡ with_losses moment copies (get clients.old.pools (first_client + row)) }
     ensures others { (c : ℕ) → c ≢ first_client + row
         → get clients.new.pools c ≡ get clients.old.pools c }
 {
     if copies == 0 {
         return;
     }
-    clients.lose_beyond(client_of(row), copies);
+    clients.lose_beyond(client_of(row), moment, copies);
 }
 
-/// Counts as lost what finds no room in each client's input pool, where so many copies come to it.
-fn lose_all(clients: &mut Clients, counts: &[u64])
+/// Counts as lost what finds no room in each client's input pool, where so many copies come to it at a moment.
+fn lose_all(clients: &mut Clients, moment: u64, counts: &[u64])
     requires { length counts.now ≡ most_clients }
     ensures clients { clients.new.clients ≡ clients.old.clients }
     ensures lost { (row : ℕ) → row < most_clients → get clients.new.pools (first_client + row)
-        ≡ with_losses (slice_index counts.now row) (get clients.old.pools (first_client + row)) }
+        ≡ with_losses moment (slice_index counts.now row)
+        (get clients.old.pools (first_client + row)) }
     ensures others { (c : ℕ) → (c < first_client) ⊎ (first_client + most_clients ≤ c)
         → get clients.new.pools c ≡ get clients.old.pools c }
 {
     for row in 0..MOST_CLIENTS {
-        lose(clients, row, counts[row]);
+        lose(clients, moment, row, counts[row]);
     }
 }
 
-/// Whether some client has both copies and room for one.
-fn finds_room(clients: &Clients, counts: &[u64]) -> bool
+/// Whether some client has both copies and room for one at a moment.
+fn finds_room(clients: &Clients, moment: u64, counts: &[u64]) -> bool
     requires { length counts.now ≡ most_clients }
     ensures { result ≡ false → (row : ℕ) → row < most_clients → (slice_index counts.now row ≡ 0)
-        ⊎ (pool_has_room (get clients.now.pools (first_client + row)) ≡ false) }
+        ⊎ (pool_has_room moment (get clients.now.pools (first_client + row)) ≡ false) }
 {
     for row in 0..MOST_CLIENTS {
-        if counts[row] > 0 && clients.has_room(client_of(row)) {
+        if counts[row] > 0 && clients.has_room(client_of(row), moment) {
             return true;
         }
     }
@@ -213,8 +215,8 @@ fn send_by_counts(
         OnOk result (out.new.items ≡ out.old.items ++ copies_with_room c.pools ds) }
 {
     clients.pools_are_of_clients();
-    lose_all(clients, counts);
-    if !finds_room(clients, counts) {
+    lose_all(clients, moment, counts);
+    if !finds_room(clients, moment, counts) {
         return Ok(());
     }
     walk_in_parts(alloc, clients, graph, moment, targets, message, out)
@@ -242,7 +244,7 @@ fn send_known(
         let ds = copies_onward c.clients graph.now moment hops targets.now message.now in
         OnOk result (out.new.items ≡ out.old.items ++ copies_with_room c.pools ds) }
 {
-    if ways.extent() == Extent::Many && finds_room(clients, counts) {
+    if ways.extent() == Extent::Many && finds_room(clients, moment, counts) {
         return send_message(clients, graph, moment, ways.as_slice(), message, out);
     }
     send_by_counts(alloc, clients, graph, moment, targets, message, counts, out)

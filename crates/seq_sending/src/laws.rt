@@ -1,10 +1,10 @@
-//! Copies that find no room need not be told one from another. These functions do nothing: their contracts are the
-//! laws.
+//! Copies that find no room need not be told one from another. All copies of a message are of one moment. These
+//! functions do nothing: their contracts are the laws.
 
 ghost use Rattle.seq_sending.specs.Laws.{EachPoolLaw, FirstLaw, LossesLaw, CutLaw, OnwardLaw, CountLaw, ClassLaw};
 
-/// What copies do to a pool hangs on those for its client alone: the first that find room wait, and the others are
-/// counted.
+/// What copies of one moment do to a pool hangs on those for its client alone: the first that find room are taken, and
+/// the others are counted.
 pub fn each_pool_alone()
     ensures pools { EachPoolLaw }
     ensures first { FirstLaw }
@@ -15,12 +15,12 @@ pub fn losses_come_first()
     ensures { LossesLaw }
 {}
 
-/// Where nothing of some copies finds room, nothing does later.
+/// Where nothing of some copies finds room, nothing does later at their moment.
 pub fn cuts_stay()
     ensures { CutLaw }
 {}
 
-/// A walk that offers only what finds room goes on as one that offers all.
+/// A walk that offers only what finds room goes on at its moment as one that offers all.
 pub fn onward_from_kept()
     ensures { OnwardLaw }
 {}

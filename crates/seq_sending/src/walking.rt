@@ -33,7 +33,7 @@ fn keep<M: Carried + Drop>(
         let ds = option_to_list (copy moment (at_port target) (Some (M.bytes message.now))) in
         OnOk result (out.new.items ≡ out.old.items ++ copies_with_room was ds) }
 {
-    if !clients.has_room(target.client) {
+    if !clients.has_room(target.client, moment) {
         return Ok(());
     }
     let message = message.once_more()?;

@@ -16,7 +16,7 @@ use Rattle.patch_graph.specs.Chains.{makes_cycle}
 use Rattle.patch_graph.specs.declared.edge.Edge.{Edge}
 use Rattle.patch_graph.proofs.Same.{same-is}
 use Rattle.seq_state.specs.declared.input.Command.{Command}
-use Rattle.seq_state.specs.declared.input.Command.TheVariants.{Open, Close, CreatePort, DeletePort, CreateFilter, SetFilter, DeleteFilter, Connect, Disconnect, Bytes, CreateQueue, CreateQueueFrom, DeleteQueue, Start, Stop, Continue, Tempo, Share, Schedule, Play, Receive}
+use Rattle.seq_state.specs.declared.input.Command.TheVariants.{Open, Close, CreatePort, DeletePort, CreateFilter, SetFilter, DeleteFilter, Connect, Disconnect, Bytes, CreateQueue, CreateQueueFrom, DeleteQueue, Start, Stop, Continue, Tempo, Share, Schedule, Play, Receive, Listen, Unlisten}
 use Rattle.node_table.specs.declared.number.QueueAddr.{QueueAddr}
 use Rattle.seq_state.specs.declared.log.Arrival.{Arrival}
 use Rattle.seq_state.specs.declared.log.Delivery.{Delivery}
@@ -24,11 +24,12 @@ use Rattle.seq_state.specs.declared.refusal.Refusal.{Refusal}
 use Rattle.seq_state.specs.declared.refusal.Refusal.TheVariants as refusal
 use Rattle.smf_grammar.specs.Played.{PlayedFile}
 use Rattle.seq_state.specs.State.{PortInfo, FilterInfo, Queue, Client, ClientPool, Playback, OwnedPlayback, State, start, with_entry}
-use Rattle.cell_pools.specs.Pools.{empty_pool}
-use Rattle.seq_state.specs.Effect.{Effect, with_change, out_size, put_port, put_filter, put_queue, port_fed, port_of, filter_ruled, filter_of, queue_of, queue_map, with_clock, public, new_port, new_filter, held_queue, one_tempo, file_queue, file_at, without_oldest}
+use Rattle.cell_pools.specs.Pools.{empty_pool, came_at, one_more, nothing_came, has_room, with_item, after_offer}
+use Rattle.cell_pools.specs.declared.listening.Listening.{Listening}
+use Rattle.seq_state.specs.Effect.{Effect, with_change, out_size, put_port, put_filter, put_queue, port_fed, port_of, filter_ruled, filter_of, queue_of, queue_map, with_clock, public, new_port, new_filter, held_queue, one_tempo, file_queue, file_at, without_oldest, with_listening, without_listening}
 use Rattle.seq_state.specs.Table.{CommandView, Condition, first_refusal, command_row, queue_named, with_edge, already_open, bad_name, bad_sizes, not_open, no_port, not_shared, none_named, bad_time, no_file, division_differs, no_sender, no_dest, not_permitted, already_connected}
 use Rattle.cell_pools.specs.Pools.{most_lost}
-use Rattle.seq_state.specs.Step.{offer, pools_after, playback_after, is_left, due, event_copies, settle, without_due, Stepped, playback_count, loses, drops, pending_of, with_effect, send_copies, unless, view_of, row_of, refusal_of, effect_of, command_step}
+use Rattle.seq_state.specs.Step.{arrival, offer, pools_after, playback_after, is_left, due, event_copies, settle, without_due, Stepped, playback_count, loses, drops, pending_of, with_effect, send_copies, unless, view_of, row_of, refusal_of, effect_of, command_step}
 use Rattle.seq_state.specs.Laws.{pool_size, in_size, Bounded, BoundsLaw}
 use Rattle.seq_state.proofs.Lists.{filter-append, filter-map, filter-filter, filter-apart}
 use Rattle.seq_state.proofs.Effects.{get-put, none-lost}
@@ -47,8 +48,12 @@ none-of p q h xs = filter-apart p q (λ x a b. false≢true (sym (h x a) ∙ b))
 
 -- ---- input pools
 
+record Fit (p : ClientPool) : Type 0 where
+  waiting : length p.waiting ≤ p.size
+  heard : (l : Listening) → p.listening ≡ Some l → l.count ≤ p.size
+
 abbrev FitsPool : Option ClientPool → Type 0
-FitsPool o = (p : ClientPool) → o ≡ Some p → length p.waiting ≤ p.size
+FitsPool o = (p : ClientPool) → o ≡ Some p → Fit p
 
 none_some : {X : Type 0} (x : X) → None ≡ Some x → ⊥
 none_some x e = cc
@@ -60,19 +65,42 @@ some_pool p q e = ap unwrapped e
     unwrapped None = p
     unwrapped (Some x) = x
 
-fits-some : (p : ClientPool) → length p.waiting ≤ p.size → FitsPool (Some p)
-fits-some p h q e = subst (λ (x : ClientPool). length x.waiting ≤ x.size) (some_pool p q e) h
+fits-some : (p : ClientPool) → Fit p → FitsPool (Some p)
+fits-some p h q e = subst Fit (some_pool p q e) h
 
-choose : (b : Bool) (x y : ClientPool) → (b ≡ true → length x.waiting ≤ x.size) → length y.waiting ≤ y.size → FitsPool (Some (cond b x y))
-choose true x y h k = fits-some x (h refl)
-choose false x y h k = fits-some y k
+some_heard : (k l : Listening) → ◌≡◌ {A = Option Listening} (Some k) (Some l) → k ≡ l
+some_heard k l e = ap unwrapped e
+  where
+    unwrapped : Option Listening → Listening
+    unwrapped None = k
+    unwrapped (Some x) = x
+
+heard-none : (size : ℕ) (l : Listening) → ◌≡◌ {A = Option Listening} None (Some l) → l.count ≤ size
+heard-none size l e = absurd (none_some l e)
+
+heard-some : (size : ℕ) (k : Listening) → k.count ≤ size → (l : Listening) → Some k ≡ Some l → l.count ≤ size
+heard-some size k h l e = subst (λ (x : Listening). x.count ≤ size) (some_heard k l e) h
+
+choose : (b : Bool) (x y : ClientPool) → (b ≡ true → Fit x) → Fit y → Fit (cond b x y)
+choose true x y h k = h refl
+choose false x y h k = k
+
+fit-offered : (size : ℕ) (waiting : List Arrival) (lost : ℕ) (o : Option Listening) (moment : ℕ) (came : Arrival) →
+    (let p : ClientPool = record { size = size; waiting = waiting; lost = lost; listening = o } in Fit p → Fit (after_offer moment p came))
+fit-offered size waiting lost None moment came h =
+    let p : ClientPool = record { size = size; waiting = waiting; lost = lost; listening = None } in
+    choose (nat_lt (length waiting) size) (record p { waiting = waiting ++ came ∷ [] }) (record p { lost = min (lost + 1) most_lost })
+    (λ e. let l : length waiting < size = ltb-true (length waiting) size e in record { waiting = omega (arith, length-append waiting (came ∷ [])); heard = heard-none size })
+    (record { waiting = h.waiting; heard = heard-none size })
+fit-offered size waiting lost (Some l) moment came h =
+    let p : ClientPool = record { size = size; waiting = waiting; lost = lost; listening = Some l } in
+    choose (nat_lt (came_at moment l) size) (record p { listening = Some (one_more moment l) }) (record p { lost = min (lost + 1) most_lost })
+    (λ e. let few : came_at moment l < size = ltb-true (came_at moment l) size e in record { waiting = h.waiting; heard = heard-some size (one_more moment l) (omega arith) })
+    (record { waiting = h.waiting; heard = h.heard })
 
 fits-offer : (o : Option ClientPool) (d : Delivery) → FitsPool o → FitsPool (offer o d)
 fits-offer None d h = h
-fits-offer (Some p) d h =
-    let came : Arrival = record { moment = d.moment; port = d.target.port; message = d.message } in
-    choose (nat_lt (length p.waiting) p.size) (record p { waiting = p.waiting ++ came ∷ [] }) (record p { lost = min (p.lost + 1) most_lost })
-    (λ e. let l : length p.waiting < p.size = ltb-true (length p.waiting) p.size e in omega (arith, length-append p.waiting (came ∷ []))) (h p refl)
+fits-offer (Some p) d h = fits-some (after_offer d.moment p (arrival d)) (fit-offered p.size p.waiting p.lost p.listening d.moment (arrival d) (h p refl))
 
 fits-put : (pools : FinMap nat_cmp ClientPool) (k : ℕ) (o : Option ClientPool) → ((c : ℕ) → FitsPool (FinMap.get pools c)) → FitsPool o → (c : ℕ) → FitsPool (FinMap.get (with_entry pools k o) c)
 fits-put pools k o h f c = subst (λ x. FitsPool x) (sym (get-put pools k o c)) (go (eqb c k))
@@ -89,17 +117,31 @@ fits-offered pools (d ∷ ds) h c =
 
 fits-taken : (max : ℕ) (o : Option ClientPool) → FitsPool o → FitsPool (without_oldest max o)
 fits-taken max None h = h
-fits-taken max (Some p) h = let l : length p.waiting ≤ p.size = h p refl in fits-some (record p { waiting = drop max p.waiting }) (omega (arith, length-drop max p.waiting))
+fits-taken max (Some p) h =
+    let l : length p.waiting ≤ p.size = (h p refl).waiting in
+    fits-some (record p { waiting = drop max p.waiting }) (record { waiting = omega (arith, length-drop max p.waiting); heard = (h p refl).heard })
+
+fits-listening : (o : Option ClientPool) → FitsPool o → FitsPool (with_listening o)
+fits-listening None h = h
+fits-listening (Some p) h = fits-some (record p { listening = Some nothing_came }) (record { waiting = (h p refl).waiting; heard = heard-some p.size nothing_came (omega arith) })
+
+fits-unlistening : (o : Option ClientPool) → FitsPool o → FitsPool (without_listening o)
+fits-unlistening None h = h
+fits-unlistening (Some p) h = fits-some (record p { listening = None }) (record { waiting = (h p refl).waiting; heard = heard-none p.size })
+
+pools-fit : (s : State) → Bounded s → (c : ℕ) → FitsPool (FinMap.get s.pools c)
+pools-fit s b c p e = record { waiting = b.waiting c p e; heard = λ l f. b.heard c p l e f }
 
 -- ---- the sizes of input pools
 
 offer-size : (o : Option ClientPool) (d : Delivery) → pool_size (offer o d) ≡ pool_size o
 offer-size None d = refl
-offer-size (Some p) d = go (nat_lt (length p.waiting) p.size)
+offer-size (Some p) d = go (has_room d.moment p) p.listening
   where
-    go : (b : Bool) → pool_size (Some (cond b (record p { waiting = p.waiting ++ record { moment = d.moment; port = d.target.port; message = d.message } ∷ [] }) (record p { lost = min (p.lost + 1) most_lost }))) ≡ Some p.size
-    go true = refl
-    go false = refl
+    go : (b : Bool) (o : Option Listening) → pool_size (Some (cond b (with_item d.moment (arrival d) p o) (record p { lost = min (p.lost + 1) most_lost }))) ≡ Some p.size
+    go true None = refl
+    go true (Some l) = refl
+    go false o = refl
 
 put-size : (pools : FinMap nat_cmp ClientPool) (k : ℕ) (o : Option ClientPool) → pool_size o ≡ pool_size (FinMap.get pools k) → (c : ℕ) → pool_size (FinMap.get (with_entry pools k o) c) ≡ pool_size (FinMap.get pools c)
 put-size pools k o h c = ap pool_size (get-put pools k o c) ∙ go (eqb c k) refl
@@ -117,6 +159,14 @@ offered-size pools (d ∷ ds) c =
 taken-size : (max : ℕ) (o : Option ClientPool) → pool_size (without_oldest max o) ≡ pool_size o
 taken-size max None = refl
 taken-size max (Some p) = refl
+
+listening-size : (o : Option ClientPool) → pool_size (with_listening o) ≡ pool_size o
+listening-size None = refl
+listening-size (Some p) = refl
+
+unlistening-size : (o : Option ClientPool) → pool_size (without_listening o) ≡ pool_size o
+unlistening-size None = refl
+unlistening-size (Some p) = refl
 
 -- ---- what is used
 
@@ -192,7 +242,7 @@ fits-same n client effect f out inn c a p = record {
 
 fits : (a : CommandView) (command : Command) → first_refusal (command_row a command).conditions ≡ None → Fits a.used a.client (command_row a command).effect
 unfolding command_row
-fits a (Open name in_size size) r = record { room = inl (go a.client r); pool = λ o h. fits-some (empty_pool in_size) (omega arith); size = λ o h. refl }
+fits a (Open name in_size size) r = record { room = inl (go a.client r); pool = λ o h. fits-some (empty_pool in_size) (record { waiting = omega arith; heard = heard-none in_size }); size = λ o h. refl }
   where
     go : (c : Option Client) → first_refusal (already_open (record a { client = c }) ∷ bad_name name ∷ bad_sizes in_size size ∷ []) ≡ None → a.used ≤ out_size c → zero + a.used ≤ size
     go None e h = omega arith
@@ -247,6 +297,8 @@ fits a (Play q port file) r =
     let rs : List Condition = not_open a ∷ no_port a port ∷ not_shared a q ∷ none_named a ∷ no_file a file ∷ division_differs a file ∷ [] in
     record { room = inl (one-added a.used (out_size a.client) (last_fails rs refusal.OutFull (a.used == out_size a.client) r)); pool = λ o h. h; size = λ o h. h }
 fits a (Receive max) r = record { room = inl (λ h. omega arith); pool = λ o h. fits-taken max o h; size = λ o h. taken-size max o ∙ h }
+fits a Listen r = record { room = inl (λ h. omega arith); pool = fits-listening; size = λ o h. listening-size o ∙ h }
+fits a Unlisten r = record { room = inl (λ h. omega arith); pool = fits-unlistening; size = λ o h. unlistening-size o ∙ h }
 fits a command r = record { room = inl (λ h. omega arith); pool = λ o h. h; size = λ o h. h }
 
 -- ---- after a command of the actor's own
@@ -293,9 +345,13 @@ module _ (s : State) (actor : ℕ) (q : Option QueueAddr) (effect : Effect) (b :
           let empty : length effect.added ≡ zero = ap length g.0 in
           omega (arith, counted actor, few-new actor)
 
+  fits-own : (c : ℕ) → FitsPool (FinMap.get (with_effect s actor q effect).pools c)
+  fits-own = fits-put s.pools actor (effect.pool (FinMap.get s.pools actor)) (pools-fit s b) (a.pool (FinMap.get s.pools actor) (pools-fit s b actor))
+
   bounded-own : Bounded (with_effect s actor q effect)
   bounded-own = record {
-    waiting = fits-put s.pools actor (effect.pool (FinMap.get s.pools actor)) b.waiting (a.pool (FinMap.get s.pools actor) (b.waiting actor));
+    waiting = λ c p e. (fits-own c p e).waiting;
+    heard = λ c p l e. (fits-own c p e).heard l;
     used = λ c. subst (λ o. playback_count (with_effect s actor q effect) c ≤ out_size o) (sym (get-put s.clients actor effect.client c)) (one c (eqb c actor) refl);
     sources = few;
     sizes = λ c. ap pool_size (get-put s.pools actor (effect.pool (FinMap.get s.pools actor)) c) ∙ two c (eqb c actor) refl ∙ sym (ap in_size (get-put s.clients actor effect.client c));
@@ -356,12 +412,15 @@ few-row a command r b = few-filtered (λ e. not (loses a.actor (command_row a co
 -- ---- each step
 
 bounded-settled : (s : State) (m : ℕ) → Bounded s → Bounded (settle s m).state
-bounded-settled s m b = record {
-  waiting = fits-offered s.pools (flat_map (event_copies s) (due s m)) b.waiting;
-  used = λ c. let l : playback_count s c ≤ out_size (FinMap.get s.clients c) = b.used c in omega (arith, used-settled s m c);
-  sources = b.sources;
-  sizes = λ c. offered-size s.pools (flat_map (event_copies s) (due s m)) c ∙ b.sizes c;
-}
+bounded-settled s m b =
+    let offered : (c : ℕ) → FitsPool (FinMap.get (settle s m).state.pools c) = fits-offered s.pools (flat_map (event_copies s) (due s m)) (pools-fit s b) in
+    record {
+      waiting = λ c p e. (offered c p e).waiting;
+      heard = λ c p l e. (offered c p e).heard l;
+      used = λ c. let l : playback_count s c ≤ out_size (FinMap.get s.clients c) = b.used c in omega (arith, used-settled s m c);
+      sources = b.sources;
+      sizes = λ c. offered-size s.pools (flat_map (event_copies s) (due s m)) c ∙ b.sizes c;
+    }
 
 bounded-unless : (s : State) → Bounded s → (o : Option Refusal) (effect : Stepped) → (o ≡ None → Bounded effect.state) → Bounded (unless o s effect).state
 bounded-unless s b None effect h = h refl
@@ -376,12 +435,14 @@ bounded-command files s m actor command b =
     let ds : List Delivery = send_copies s m actor effect.sends in
     bounded-unless s b (refusal_of files s m actor command) (effect_of files s m actor command) (λ e.
     let after : Bounded u = bounded-own s actor q effect b (fits a command e) (few-row a command e b.sources) in
-    record { waiting = fits-offered u.pools ds after.waiting; used = after.used; sources = after.sources; sizes = λ c. offered-size u.pools ds c ∙ after.sizes c })
+    let offered : (c : ℕ) → FitsPool (FinMap.get (pools_after u.pools ds) c) = fits-offered u.pools ds (pools-fit u after) in
+    record { waiting = λ c p x. (offered c p x).waiting; heard = λ c p l x. (offered c p x).heard l; used = after.used; sources = after.sources; sizes = λ c. offered-size u.pools ds c ∙ after.sizes c })
 
 bounded-start : Bounded start
 unfolding most_sources
 bounded-start = record {
   waiting = λ c p e. absurd (none_some p (sym (FinMap.get-empty nat_cmp c) ∙ e));
+  heard = λ c p l e f. absurd (none_some p (sym (FinMap.get-empty nat_cmp c) ∙ e));
   used = λ c. omega arith;
   sources = λ t. omega arith;
   sizes = λ c. ap pool_size (FinMap.get-empty nat_cmp c) ∙ sym (ap in_size (FinMap.get-empty nat_cmp c));

@@ -9,16 +9,17 @@ use Rattle.tempo_clock.specs.Clocks.{running_from_zero, at_rest, running_on, wit
 use Rattle.node_table.specs.declared.number.Node.TheVariants.{Filter}
 use Rattle.route_filter.specs.declared.rule_args.RuleArgs.{RuleArgs}
 use Rattle.seq_state.specs.declared.input.Command.{Command}
-use Rattle.seq_state.specs.declared.input.Command.TheVariants.{Open, Close, CreatePort, DeletePort, CreateFilter, SetFilter, DeleteFilter, Connect, Disconnect, Bytes, CreateQueue, CreateQueueFrom, DeleteQueue, Start, Stop, Continue, Tempo, Share, Schedule, Play, DropOutput, Receive}
+use Rattle.seq_state.specs.declared.input.Command.TheVariants.{Open, Close, CreatePort, DeletePort, CreateFilter, SetFilter, DeleteFilter, Connect, Disconnect, Bytes, CreateQueue, CreateQueueFrom, DeleteQueue, Start, Stop, Continue, Tempo, Share, Schedule, Play, DropOutput, Receive, Listen, Unlisten}
 use Rattle.seq_state.specs.declared.log.Reply.TheVariants.{Received}
 use Rattle.seq_state.specs.declared.refusal.Refusal.{Refusal}
 use Rattle.smf_grammar.specs.Played.{PlayedFile}
 use Rattle.seq_state.specs.State.{PortInfo, FilterInfo, Queue, Client, ClientPool, Playback, OwnedPlayback, State, with_entry}
-use Rattle.seq_state.specs.Effect.{Effect, with_change, port_of, filter_of, queue_of, node_caps, filter_caps, put_port, put_filter, put_queue, port_fed, filter_ruled, queue_map, new_port, new_filter, held_queue, one_tempo, file_queue, file_at, with_clock, public, oldest, without_oldest}
+use Rattle.seq_state.specs.Effect.{Effect, with_change, port_of, filter_of, queue_of, node_caps, filter_caps, put_port, put_filter, put_queue, port_fed, filter_ruled, queue_map, new_port, new_filter, held_queue, one_tempo, file_queue, file_at, with_clock, public, oldest, without_oldest, with_listening, without_listening}
 use Rattle.seq_state.specs.Table.{CommandView, command_row, queue_named}
 use Rattle.seq_state.specs.Step.{Stepped, is_left, loses, drops, pending_of, unless, view_of, row_of, refusal_of, effect_of, command_step}
-use Rattle.seq_state.specs.Changes.{names_port, names_filter, names_queue, edge_goes, new_edges, pending_goes, adds_playback, is_added, is_playback_of, client_after, OthersLaw, EdgesLaw, PendingLaw, ReceiveLaw}
-use Rattle.seq_state.proofs.Effects.{get-put, none-lost, none-dropped, step-takes}
+use Rattle.seq_state.specs.Changes.{names_port, names_filter, names_queue, edge_goes, new_edges, pending_goes, adds_playback, is_added, is_playback_of, client_after, OthersLaw, EdgesLaw, PendingLaw, ReceiveLaw, ListenLaw}
+use Rattle.cell_pools.specs.Pools.{nothing_came}
+use Rattle.seq_state.proofs.Effects.{get-put, none-lost, none-dropped, step-takes, pool_step, step-listens, step-unlistens}
 use Rattle.seq_state.proofs.Ends.{get-put_port, get-put_filter, filters-put_port, ports-put_filter, ports-put_queue, filters-put_queue}
 use Rattle.seq_state.proofs.Lists.{filter-agree, filter-true, list_all-filter}
 
@@ -287,3 +288,20 @@ receive_law files s moment actor max before e r =
       ap (λ (x : Stepped). x.reply) step,
       record { all = sym (take-append-drop max before.waiting); many = length-take max before.waiting; lost = refl; size = refl },
     )
+
+pooled : (s : State) (actor : ℕ) (before after : ClientPool) (refusal : Option Refusal) (g : Option ClientPool → Option ClientPool) → FinMap.get s.pools actor ≡ Some before → refusal ≡ None → g (Some before) ≡ Some after →
+    FinMap.get (pool_step s actor refusal g).state.pools actor ≡ Some after
+pooled s actor before after refusal g e r h =
+    ap (λ o. FinMap.get (pool_step s actor o g).state.pools actor) r
+    ∙ get-put s.pools actor (g (FinMap.get s.pools actor)) actor ∙ ap (λ b. cond b (g (FinMap.get s.pools actor)) (FinMap.get s.pools actor)) (same_number actor)
+    ∙ ap g e ∙ h
+
+pub listen_law : ListenLaw
+listen_law = record {
+  listens = λ files s moment actor before e r.
+      ap (λ (x : Stepped). FinMap.get x.state.pools actor) (step-listens files s moment actor)
+      ∙ pooled s actor before (record before { listening = Some nothing_came }) (refusal_of files s moment actor Listen) with_listening e r refl;
+  unlistens = λ files s moment actor before e r.
+      ap (λ (x : Stepped). FinMap.get x.state.pools actor) (step-unlistens files s moment actor)
+      ∙ pooled s actor before (record before { listening = None }) (refusal_of files s moment actor Unlisten) without_listening e r refl;
+}

@@ -11,13 +11,13 @@ use Rattle.node_table.specs.declared.caps.Caps.{Caps}
 use Rattle.node_table.specs.declared.number.Addr.{Addr}
 use Rattle.patch_graph.specs.declared.edge.Edge.{Edge}
 use Rattle.seq_state.specs.declared.input.Command.{Command}
-use Rattle.seq_state.specs.declared.input.Command.TheVariants.{Connect, Disconnect, Receive, PoolStatus}
+use Rattle.seq_state.specs.declared.input.Command.TheVariants.{Connect, Disconnect, Receive, Listen, Unlisten, PoolStatus}
 use Rattle.seq_state.specs.declared.log.Reply.{Reply}
 use Rattle.seq_state.specs.declared.log.Reply.TheVariants.{Done, Received}
 use Rattle.seq_state.specs.declared.refusal.Refusal.{Refusal}
 use Rattle.smf_grammar.specs.Played.{PlayedFile}
 use Rattle.seq_state.specs.State.{with_entry, ClientPool, OwnedPlayback, State, Client}
-use Rattle.seq_state.specs.Effect.{done_with, oldest, without_oldest, pool_status}
+use Rattle.seq_state.specs.Effect.{done_with, oldest, without_oldest, with_listening, without_listening, pool_status}
 use Rattle.seq_state.specs.Table.{CommandView, command_row, with_edge, without_edge_of}
 use Rattle.seq_state.specs.Step.{loses, drops, Stepped, unless, after_effect, playback_count, refusal_of, command_step}
 
@@ -124,6 +124,20 @@ pub step-takes : (files : List PlayedFile) (s : State) (moment actor max : ℕ) 
 unfolding command_row
 step-takes files s moment actor max =
     ap (unless (refusal_of files s moment actor (Receive max)) s) (after-pool s moment actor (without_oldest max) (λ p. Received (oldest max p)))
+
+-- what becomes of the actor's input pool, and nothing else
+abbrev pub pool_step : State → ℕ → Option Refusal → (Option ClientPool → Option ClientPool) → Stepped
+pool_step s actor refusal g = unless refusal s (record { state = record s { pools = with_entry s.pools actor (g (FinMap.get s.pools actor)) }; delivered = []; reply = Done })
+
+pub step-listens : (files : List PlayedFile) (s : State) (moment actor : ℕ) →
+    command_step files s moment actor Listen ≡ pool_step s actor (refusal_of files s moment actor Listen) with_listening
+unfolding command_row
+step-listens files s moment actor = ap (unless (refusal_of files s moment actor Listen) s) (after-pool s moment actor with_listening (λ p. Done))
+
+pub step-unlistens : (files : List PlayedFile) (s : State) (moment actor : ℕ) →
+    command_step files s moment actor Unlisten ≡ pool_step s actor (refusal_of files s moment actor Unlisten) without_listening
+unfolding command_row
+step-unlistens files s moment actor = ap (unless (refusal_of files s moment actor Unlisten) s) (after-pool s moment actor without_listening (λ p. Done))
 
 pub step-asks : (files : List PlayedFile) (s : State) (moment actor : ℕ) →
     command_step files s moment actor PoolStatus ≡

@@ -51,7 +51,7 @@ offers p (d ∷ ds) = offers (offer p d) ds
 
 takes : Option ClientPool → List Delivery → List Delivery
 takes p [] = []
-takes p (d ∷ ds) = cond (pool_has_room p) (d ∷ takes (offer p d) ds) (takes (offer p d) ds)
+takes p (d ∷ ds) = cond (pool_has_room d.moment p) (d ∷ takes (offer p d) ds) (takes (offer p d) ds)
 
 abbrev after_one : FinMap nat_cmp ClientPool → Delivery → FinMap nat_cmp ClientPool
 after_one pools d = with_entry pools d.target.client (offer (FinMap.get pools d.target.client) d)
@@ -81,7 +81,7 @@ module _ (owner : ℕ) where
   heard-delivered : (pools : FinMap nat_cmp ClientPool) (ds : List Delivery) → heard owner (copies_with_room pools ds) ≡ takes (FinMap.get pools owner) (heard owner ds)
   unfolding takes heard
   heard-delivered pools [] = refl
-  heard-delivered pools (d ∷ ds) = go (pool_has_room (FinMap.get pools d.target.client)) (is_to owner d) refl refl (heard-delivered (after_one pools d) ds)
+  heard-delivered pools (d ∷ ds) = go (pool_has_room d.moment (FinMap.get pools d.target.client)) (is_to owner d) refl refl (heard-delivered (after_one pools d) ds)
     where
       rest : List Delivery
       rest = copies_with_room (after_one pools d) ds
@@ -89,11 +89,11 @@ module _ (owner : ℕ) where
       P : Option ClientPool
       P = FinMap.get pools owner
 
-      go : (r b : Bool) → pool_has_room (FinMap.get pools d.target.client) ≡ r → is_to owner d ≡ b → heard owner rest ≡ takes (FinMap.get (after_one pools d) owner) (heard owner ds) →
+      go : (r b : Bool) → pool_has_room d.moment (FinMap.get pools d.target.client) ≡ r → is_to owner d ≡ b → heard owner rest ≡ takes (FinMap.get (after_one pools d) owner) (heard owner ds) →
           heard owner (cond r (d ∷ rest) rest) ≡ takes P (cond b (d ∷ heard owner ds) (heard owner ds))
       go r true h k more =
           let here : d.target.client ≡ owner = eqb-true d.target.client owner k in
-          let room : r ≡ pool_has_room P = sym h ∙ ap (λ c. pool_has_room (FinMap.get pools c)) here in
+          let room : r ≡ pool_has_room d.moment P = sym h ∙ ap (λ c. pool_has_room d.moment (FinMap.get pools c)) here in
           let more : heard owner rest ≡ takes (offer P d) (heard owner ds) = more ∙ ap (λ o. takes o (heard owner ds)) (one_offer pools d ∙ ap (λ b. cond b (offer P d) P) k) in
           mine r k ∙ ap (λ xs. cond r (d ∷ xs) xs) more ∙ ap (λ x. cond x (d ∷ takes (offer P d) (heard owner ds)) (takes (offer P d) (heard owner ds))) room
         where

@@ -5,6 +5,7 @@ pub mod Order
 pub mod Pop
 pub mod Effects
 pub mod Kin
+pub mod Listening
 pub mod Run
 pub mod Heard
 pub mod Sorted

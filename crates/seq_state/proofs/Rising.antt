@@ -81,9 +81,9 @@ never_fall-append m (x ∷ xs) ys p q a b =
     (list_all-append (from x.moment) xs ys p.0 (from-earlier x.moment m l ys b), never_fall-append m xs ys p.1 q (both_right (until m x) (list_all (until m) xs) a) b)
 
 -- what finds room is part of what is offered
-delivered-all : (p : Delivery → Bool) (pools : FinMap nat_cmp ClientPool) (ds : List Delivery) → list_all p ds ≡ true → list_all p (copies_with_room pools ds) ≡ true
+pub delivered-all : (p : Delivery → Bool) (pools : FinMap nat_cmp ClientPool) (ds : List Delivery) → list_all p ds ≡ true → list_all p (copies_with_room pools ds) ≡ true
 delivered-all p pools [] h = refl
-delivered-all p pools (d ∷ ds) h = go (pool_has_room (FinMap.get pools d.target.client)) (delivered-all p (with_entry pools d.target.client (offer (FinMap.get pools d.target.client) d)) ds (both_right (p d) (list_all p ds) h))
+delivered-all p pools (d ∷ ds) h = go (pool_has_room d.moment (FinMap.get pools d.target.client)) (delivered-all p (with_entry pools d.target.client (offer (FinMap.get pools d.target.client) d)) ds (both_right (p d) (list_all p ds) h))
   where
     go : (b : Bool) → list_all p (copies_with_room (with_entry pools d.target.client (offer (FinMap.get pools d.target.client) d)) ds) ≡ true →
         list_all p (cond b (d ∷ copies_with_room (with_entry pools d.target.client (offer (FinMap.get pools d.target.client) d)) ds) (copies_with_room (with_entry pools d.target.client (offer (FinMap.get pools d.target.client) d)) ds)) ≡ true
@@ -92,7 +92,7 @@ delivered-all p pools (d ∷ ds) h = go (pool_has_room (FinMap.get pools d.targe
 
 delivered-never_falls : (pools : FinMap nat_cmp ClientPool) (ds : List Delivery) → NeverFall ds → NeverFall (copies_with_room pools ds)
 delivered-never_falls pools [] h = tt
-delivered-never_falls pools (d ∷ ds) h = go (pool_has_room (FinMap.get pools d.target.client)) (delivered-never_falls after ds h.1)
+delivered-never_falls pools (d ∷ ds) h = go (pool_has_room d.moment (FinMap.get pools d.target.client)) (delivered-never_falls after ds h.1)
   where
     after : FinMap nat_cmp ClientPool
     after = with_entry pools d.target.client (offer (FinMap.get pools d.target.client) d)

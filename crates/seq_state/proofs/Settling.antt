@@ -139,7 +139,7 @@ offered-append pools (d ∷ xs) ys = offered-append (with_entry pools d.target.c
 pub delivered-append : (pools : FinMap nat_cmp ClientPool) (xs ys : List Delivery) → copies_with_room pools xs ++ copies_with_room (pools_after pools xs) ys ≡ copies_with_room pools (xs ++ ys)
 delivered-append pools [] ys = refl
 delivered-append pools (d ∷ xs) ys =
-    one (pool_has_room (FinMap.get pools d.target.client)) _ _ _ (delivered-append (with_entry pools d.target.client (offer (FinMap.get pools d.target.client) d)) xs ys)
+    one (pool_has_room d.moment (FinMap.get pools d.target.client)) _ _ _ (delivered-append (with_entry pools d.target.client (offer (FinMap.get pools d.target.client) d)) xs ys)
   where
     one : (b : Bool) (xs ys zs : List Delivery) → xs ++ ys ≡ zs → cond b (d ∷ xs) xs ++ ys ≡ cond b (d ∷ zs) zs
     one true xs ys zs e = ap (λ ws. d ∷ ws) e

@@ -1,6 +1,6 @@
 -- Who may use a queue.
 use Rattle.std.proofs.Common.{◌≡◌, ℕ, Bool, true, false, not, cond, eqb, ◌&&◌, ◌||◌, List, [], ◌∷◌, Option, Some, None, refl, sym, ap, subst, ◌∙◌, arith}
-use Rattle.std.specs.Prelude.{◌==◌, is_some}
+use Rattle.std.specs.Prelude.{is_some}
 use Rattle.std.specs.Ordering.{nat_cmp}
 use Rattle.std.specs.FinMap
 use Rattle.std.specs.FinMap.{get-empty}
@@ -11,8 +11,8 @@ use Rattle.seq_state.specs.declared.input.Command.TheVariants.{DeleteQueue, Star
 use Rattle.seq_state.specs.declared.refusal.Refusal.{Refusal}
 use Rattle.seq_state.specs.declared.refusal.Refusal.TheVariants.{NotYours}
 use Rattle.smf_grammar.specs.Played.{PlayedFile}
-use Rattle.seq_state.specs.State.{Queue, Client, State, with_entry}
-use Rattle.seq_state.specs.Effect.{queue_of, queue_map, queue_changed, public, has_queue}
+use Rattle.seq_state.specs.State.{Queue, Client, State}
+use Rattle.seq_state.specs.Effect.{queue_of, queue_map, queue_changed, public}
 use Rattle.seq_state.specs.Table.{CommandView, Condition, first_refusal, command_row, queue_named, visible, not_open, not_yours, no_queue}
 use Rattle.seq_state.specs.Step.{Stepped, view_of, row_of, refusal_of, command_step}
 use Rattle.seq_state.specs.Changes.{holds, queue_at, client_after, ShareLaw, NotYoursLaw}

@@ -1,7 +1,11 @@
 -- Law: What each command changes, by its name, and what it leaves as it is.
-use Rattle.std.specs.Prelude.{◌≡◌, ℕ, ◌==◌, nat_le, nat_lt, min, Bool, true, false, not, ◌&&◌, ◌||◌, List, [], ◌∷◌, ◌++◌, map, length, Option, Some, None, is_some}
+use Rattle.std.specs.Prelude.{◌≡◌, ℕ, ◌+◌, ◌≤◌, ◌==◌, nat_le, nat_lt, min, Bool, true, false, not, ◌&&◌, ◌||◌, List, [], ◌∷◌, ◌++◌, map, length, Option, Some, None, is_some}
 use Rattle.std.specs.List.{filter, list_all, list_any}
+use Rattle.std.specs.Ordering.{nat_cmp}
 use Rattle.std.specs.FinMap
+use Rattle.std.specs.FinMap.{FinMap}
+use Rattle.cell_pools.specs.Pools.{came_at, nothing_came}
+use Rattle.cell_pools.specs.declared.listening.Listening.{Listening}
 use Rattle.node_table.specs.Addresses.{same_node}
 use Rattle.node_table.specs.declared.number.Addr.{Addr}
 use Rattle.node_table.specs.declared.number.Node.{Node}
@@ -11,8 +15,9 @@ use Rattle.patch_graph.specs.Edges.{edge, is_edge, touches_client}
 use Rattle.patch_graph.specs.declared.edge.Edge.{Edge}
 use Rattle.route_filter.specs.declared.rule_args.RuleArgs.{RuleArgs}
 use Rattle.seq_state.specs.declared.input.Command.{Command}
-use Rattle.seq_state.specs.declared.input.Command.TheVariants.{Open, Close, CreatePort, DeletePort, CreateFilter, SetFilter, DeleteFilter, Connect, Disconnect, Bytes, CreateQueue, CreateQueueFrom, DeleteQueue, Start, Stop, Continue, Tempo, Share, Schedule, Play, DropOutput, Receive}
+use Rattle.seq_state.specs.declared.input.Command.TheVariants.{Open, Close, CreatePort, DeletePort, CreateFilter, SetFilter, DeleteFilter, Connect, Disconnect, Bytes, CreateQueue, CreateQueueFrom, DeleteQueue, Start, Stop, Continue, Tempo, Share, Schedule, Play, DropOutput, Receive, Listen, Unlisten}
 use Rattle.seq_state.specs.declared.log.Arrival.{Arrival}
+use Rattle.seq_state.specs.declared.log.Delivery.{Delivery}
 use Rattle.seq_state.specs.declared.log.Reply.TheVariants.{Received}
 use Rattle.seq_state.specs.declared.refusal.Refusal.{Refusal}
 use Rattle.seq_state.specs.declared.refusal.Refusal.TheVariants.{NotYours}
@@ -21,7 +26,7 @@ use Rattle.seq_state.specs.Refusals.{number_of}
 use Rattle.seq_state.specs.State.{Client, ClientPool, OwnedPlayback, Queue, State}
 use Rattle.seq_state.specs.Effect.{port_of, filter_of, queue_of, node_caps}
 use Rattle.seq_state.specs.Table.{CommandView, Condition, command_row, queue_named}
-use Rattle.seq_state.specs.Step.{row_of, refusal_of, command_step}
+use Rattle.seq_state.specs.Step.{copies_with_room, row_of, refusal_of, command_step}
 
 -- ---- the lowest refusal
 
@@ -207,6 +212,35 @@ ReceiveLaw =
     ≡ Some after)
     × ((command_step files s moment actor (Receive max)).reply ≡ Received given)
     × Taken before after max given
+
+-- after a Listen that is not refused the client listens, and after an Unlisten no longer; what waits,
+-- what was lost and the size stay
+pub record ListenLaw : Type 0 where
+  pub listens :
+      (files : List PlayedFile) (s : State) (moment actor : ℕ) (before : ClientPool) →
+      FinMap.get s.pools actor ≡ Some before → refusal_of files s moment actor Listen ≡ None →
+      FinMap.get (command_step files s moment actor Listen).state.pools actor
+      ≡ Some (record before { listening = Some nothing_came })
+  pub unlistens :
+      (files : List PlayedFile) (s : State) (moment actor : ℕ) (before : ClientPool) →
+      FinMap.get s.pools actor ≡ Some before → refusal_of files s moment actor Unlisten ≡ None →
+      FinMap.get (command_step files s moment actor Unlisten).state.pools actor
+      ≡ Some (record before { listening = None })
+
+-- how many copies come to a client at a moment
+abbrev pub count_at : ℕ → ℕ → List Delivery → ℕ
+count_at c moment ds = length (filter (λ d. (d.target.client == c) && (d.moment == moment)) ds)
+
+-- of a client that listens no copy is lost, where no more come of any moment, with those that came
+-- before, than might wait in its pool
+abbrev pub HeardLaw : Type 0
+HeardLaw =
+    (pools : FinMap nat_cmp ClientPool) (c : ℕ) (p : ClientPool) (l : Listening)
+    (ds : List Delivery) →
+    FinMap.get pools c ≡ Some p → p.listening ≡ Some l →
+    ((moment : ℕ) → came_at moment l + count_at c moment ds ≤ p.size) →
+    filter (λ d. d.target.client == c) (copies_with_room pools ds)
+    ≡ filter (λ d. d.target.client == c) ds
 
 -- ---- shared queues
 

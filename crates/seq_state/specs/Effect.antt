@@ -1,5 +1,6 @@
 -- Definition: What a client has of its own, and what a command changes of it.
-use Rattle.std.specs.Prelude.{ℕ, ◌+◌, ◌^◌, ◌==◌, nat_le, Bool, true, false, ◌&&◌, List, [], ◌∷◌, ◌++◌, map, length, take, drop, Option, Some, None, is_some, slice_get}
+use Rattle.std.specs.Prelude.{ℕ, ◌+◌, ◌^◌, ◌==◌, nat_le, Bool, true, false, List, [], ◌∷◌, ◌++◌, map, length, Option, Some, None, is_some, slice_get}
+use Rattle.std.specs.Option.{option_map}
 use Rattle.std.specs.FinMap
 use Rattle.midi_wire.specs.Readings.{rest}
 use Rattle.tempo_clock.specs.Clocks.{Clock, elapsed_time}
@@ -7,7 +8,7 @@ use Rattle.tempo_clock.specs.Ticks.{Tempos, is_smpte, tick_at}
 use Rattle.tempo_clock.specs.declared.due.Due.{Due}
 use Rattle.tempo_clock.specs.declared.due.Due.TheVariants.{Tick, Nanos}
 use Rattle.route_filter.specs.declared.rule_args.RuleArgs.{RuleArgs}
-use Rattle.cell_pools.specs.Pools.{oldest_items, after_take}
+use Rattle.cell_pools.specs.Pools.{oldest_items, after_take, listening_on, not_listening}
 use Rattle.node_table.specs.declared.caps.Caps.{Caps}
 use Rattle.node_table.specs.declared.number.Node.{Node}
 use Rattle.node_table.specs.declared.number.Node.TheVariants.{Port, Filter}
@@ -144,6 +145,13 @@ oldest max (Some p) = oldest_items max p
 abbrev pub without_oldest : ℕ → Option ClientPool → Option ClientPool
 without_oldest max None = None
 without_oldest max (Some p) = Some (after_take max p)
+
+-- the pool of a client that listens from now on, and of one that listens no longer
+abbrev pub with_listening : Option ClientPool → Option ClientPool
+with_listening pool = option_map listening_on pool
+
+abbrev pub without_listening : Option ClientPool → Option ClientPool
+without_listening pool = option_map not_listening pool
 
 abbrev pub pool_status : ℕ → Option ClientPool → Reply
 pool_status used None = replies.Pools 0 0 used

@@ -6,6 +6,7 @@ use Rattle.std.specs.FinMap
 use Rattle.std.specs.FinMap.{FinMap}
 use Rattle.tempo_clock.specs.Laws.{IsToldBy}
 use Rattle.tempo_clock.specs.Ticks.{resolution}
+use Rattle.cell_pools.specs.declared.listening.Listening.{Listening}
 use Rattle.patch_graph.specs.Chains.{Reaches}
 use Rattle.patch_graph.specs.Edges.{sources_of, most_sources}
 use Rattle.patch_graph.specs.Paths.{end_of, paths}
@@ -219,11 +220,14 @@ abbrev pub in_size : Option Client → Option ℕ
 in_size None = None
 in_size (Some c) = Some c.in_size
 
--- Each client has an input pool of its size, which has no more than there is room for; no client
--- has more to send than its output pool, and no node more sources than a node may have.
+-- Each client has an input pool of its size, which has no more than there is room for, and has
+-- taken no more of a moment where it listens; no client has more to send than its output pool, and
+-- no node more sources than a node may have.
 pub record Bounded (s : State) : Type 0 where
   pub sizes : (c : ℕ) → pool_size (FinMap.get s.pools c) ≡ in_size (FinMap.get s.clients c)
   pub waiting : (c : ℕ) (p : ClientPool) → FinMap.get s.pools c ≡ Some p → length p.waiting ≤ p.size
+  pub heard : (c : ℕ) (p : ClientPool) (l : Listening) → FinMap.get s.pools c ≡ Some p
+      → p.listening ≡ Some l → l.count ≤ p.size
   pub used : (c : ℕ) → playback_count s c ≤ out_size (FinMap.get s.clients c)
   pub sources : (a : Addr) → sources_of s.edges a ≤ most_sources
 

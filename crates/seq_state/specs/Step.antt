@@ -1,5 +1,5 @@
 -- Definition: Settling, one input, and a run.
-use Rattle.std.specs.Prelude.{ℕ, zero, suc, ◌+◌, ◌-◌, ◌^◌, ◌≤◌, ◌==◌, nat_le, nat_lt, min, Bool, true, false, not, ◌&&◌, ◌||◌, if◌then◌else◌, List, [], ◌∷◌, ◌++◌, map, length, Option, Some, None}
+use Rattle.std.specs.Prelude.{ℕ, zero, suc, ◌+◌, ◌≤◌, ◌==◌, nat_le, Bool, true, false, not, ◌&&◌, ◌||◌, if◌then◌else◌, List, [], ◌∷◌, ◌++◌, map, length, Option, Some, None}
 use Rattle.std.specs.List.{filter, flat_map}
 use Rattle.std.specs.Ordering.{nat_cmp}
 use Rattle.std.specs.FinMap
@@ -31,10 +31,10 @@ use Rattle.seq_state.specs.Table.{CommandView, Row, first_refusal, queue_named, 
 
 -- ---- delivering
 
--- there is a pool, with room
-abbrev pub pool_has_room : Option ClientPool → Bool
-pool_has_room None = false
-pool_has_room (Some p) = pools.has_room p
+-- there is a pool, with room at a moment
+abbrev pub pool_has_room : ℕ → Option ClientPool → Bool
+pool_has_room moment None = false
+pool_has_room moment (Some p) = pools.has_room moment p
 
 -- a delivery as it waits
 abbrev pub arrival : Delivery → Arrival
@@ -43,7 +43,7 @@ arrival d = record { moment = d.moment; port = d.target.port; message = d.messag
 -- a client's input pool after a copy was offered to it
 abbrev pub offer : Option ClientPool → Delivery → Option ClientPool
 offer None d = None
-offer (Some p) d = Some (pools.after_offer p (arrival d))
+offer (Some p) d = Some (pools.after_offer d.moment p (arrival d))
 
 -- the pools after these copies were offered, in order
 abbrev pub pools_after : FinMap nat_cmp ClientPool → List Delivery → FinMap nat_cmp ClientPool
@@ -57,7 +57,7 @@ copies_with_room pools [] = []
 copies_with_room pools (d ∷ ds) =
     let rest = copies_with_room
     (with_entry pools d.target.client (offer (FinMap.get pools d.target.client) d)) ds in
-    if pool_has_room (FinMap.get pools d.target.client) then d ∷ rest else rest
+    if pool_has_room d.moment (FinMap.get pools d.target.client) then d ∷ rest else rest
 
 -- ---- settling
 

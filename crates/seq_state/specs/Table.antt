@@ -18,14 +18,14 @@ use Rattle.patch_graph.specs.Chains.{makes_cycle}
 use Rattle.patch_graph.specs.Edges.{edge, has_edge, without_edge, sources_of, most_sources}
 use Rattle.patch_graph.specs.declared.edge.Edge.{Edge}
 use Rattle.seq_state.specs.declared.input.Command.{Command}
-use Rattle.seq_state.specs.declared.input.Command.TheVariants.{Open, Close, CreatePort, DeletePort, CreateFilter, SetFilter, DeleteFilter, Connect, Disconnect, Bytes, Send, CreateQueue, CreateQueueFrom, DeleteQueue, Start, Stop, Continue, Tempo, QueueStatus, Share, Schedule, Play, DropOutput, Receive, PoolStatus}
+use Rattle.seq_state.specs.declared.input.Command.TheVariants.{Open, Close, CreatePort, DeletePort, CreateFilter, SetFilter, DeleteFilter, Connect, Disconnect, Bytes, Send, CreateQueue, CreateQueueFrom, DeleteQueue, Start, Stop, Continue, Tempo, QueueStatus, Share, Schedule, Play, DropOutput, Receive, Listen, Unlisten, PoolStatus}
 use Rattle.seq_state.specs.declared.input.DueAt.{DueAt}
 use Rattle.seq_state.specs.declared.log.Reply.TheVariants as replies
 use Rattle.seq_state.specs.declared.refusal.Refusal.{Refusal}
 use Rattle.seq_state.specs.declared.refusal.Refusal.TheVariants as refusal
 use Rattle.smf_grammar.specs.Played.{PlayedFile}
 use Rattle.seq_state.specs.State.{Queue, Client}
-use Rattle.seq_state.specs.Effect.{Effect, done_with, with_change, out_size, port_of, filter_of, queue_of, has_port, has_filter, has_queue, put_port, put_filter, new_port, new_filter, fed_of, port_fed, filter_ruled, new_client, oldest, without_oldest, pool_status, queue_is, put_queue, queue_changed, with_clock, public, runs, held_queue, one_tempo, file_queue, queue_status, counts_frames, passes_end, scheduled_events, file_at, file_events, has_division, playback}
+use Rattle.seq_state.specs.Effect.{Effect, done_with, with_change, out_size, port_of, filter_of, queue_of, has_port, has_filter, has_queue, put_port, put_filter, new_port, new_filter, fed_of, port_fed, filter_ruled, new_client, oldest, without_oldest, with_listening, without_listening, pool_status, queue_is, put_queue, queue_changed, with_clock, public, runs, held_queue, one_tempo, file_queue, queue_status, counts_frames, passes_end, scheduled_events, file_at, file_events, has_division, playback}
 
 -- What a row of the table looks at: the files of the run, the moment, who says the command and what
 -- it has of its own, if it is open; the queue that the command names, where the actor may use it;
@@ -298,6 +298,12 @@ command_row a (Receive max) =
     row (not_open a ∷ bad_max max ∷ [])
     (record (done_with a.client)
     { pool = without_oldest max; reply = λ p. replies.Received (oldest max p) })
+command_row a Listen =
+    row (not_open a ∷ [])
+    (record (done_with a.client) { pool = with_listening })
+command_row a Unlisten =
+    row (not_open a ∷ [])
+    (record (done_with a.client) { pool = without_listening })
 command_row a PoolStatus =
     row (not_open a ∷ [])
     (record (done_with a.client) { reply = pool_status a.used })

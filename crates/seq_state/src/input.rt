@@ -136,6 +136,11 @@ pub enum Command {
         /// How many at most, 1 to 2,000.
         max: u32,
     },
+    /// Takes what comes at once, and lets it wait for nobody: of each moment as much as may wait in the client's input
+    /// pool. What waits still waits.
+    Listen,
+    /// Lets what comes wait again.
+    Unlisten,
     /// Asks how full the client's pools are.
     PoolStatus,
 }
@@ -252,6 +257,8 @@ impl Command {
             },
             Command::DropOutput => Command::DropOutput,
             Command::Receive { max } => Command::Receive { max: *max },
+            Command::Listen => Command::Listen,
+            Command::Unlisten => Command::Unlisten,
             Command::PoolStatus => Command::PoolStatus,
         })
     }

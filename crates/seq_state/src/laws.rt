@@ -1,7 +1,7 @@
 //! What holds of the step and of circles, for all lists of inputs. These functions do nothing: their contracts are the
 //! laws.
 
-ghost use Rattle.seq_state.specs.Changes.{LowestLaw, OthersLaw, EdgesLaw, PendingLaw, ReceiveLaw, ShareLaw, NotYoursLaw};
+ghost use Rattle.seq_state.specs.Changes.{LowestLaw, OthersLaw, EdgesLaw, PendingLaw, ReceiveLaw, ListenLaw, HeardLaw, ShareLaw, NotYoursLaw};
 ghost use Rattle.seq_state.specs.Circle.{IsolationLaw};
 ghost use Rattle.seq_state.specs.Heard.{PortBytesLaw};
 ghost use Rattle.seq_state.specs.Laws.{OneInputLaw, PathLaw, SettlingLaw, DueLaw, SortLaw, MeetLaw, RefusedLaw, AgreeLaw, RisingLaw, ReadyLaw, BoundsLaw, CycleLaw, EndsLaw, FilledLaw, SourcesLaw, AllClosedLaw};
@@ -110,6 +110,16 @@ pub fn playbacks_that_go()
 /// What was waiting is what a Receive gives, and then what waits still; none is lost by it.
 pub fn receive_takes_the_oldest()
     ensures { ReceiveLaw }
+{}
+
+/// After a Listen the client listens, and after an Unlisten no longer; else its input pool stays as it was.
+pub fn listen_keeps_what_waits()
+    ensures { ListenLaw }
+{}
+
+/// To a client that listens all copies come, where no more come at one moment than might wait for it.
+pub fn listeners_lose_nothing()
+    ensures { HeardLaw }
 {}
 
 /// After a Share that is not refused the queue is shared, whatever it was before.

@@ -74,6 +74,8 @@ fn push_asks(text: &mut Vec<u8>, alloc: Global, command: &Command) -> Result<(),
         | Command::CreateQueueFrom { .. }
         | Command::DropOutput
         | Command::Receive { .. }
+        | Command::Listen
+        | Command::Unlisten
         | Command::PoolStatus => Ok(()),
     }
 }

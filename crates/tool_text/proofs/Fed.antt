@@ -120,7 +120,7 @@ module _ (s : State) (piece : List ℕ) (j : IsJoined s) (short : length piece �
   pub fed_comes : (step [] s (input_at_start 128 (Bytes 0 piece))).delivered ≡ map came messages
   fed_comes =
       ap (λ (a : Stepped). a.delivered) feeds-piece
-      ∙ all-delivered messages s.pools (empty_pool most_waiting) j.pool fits
+      ∙ all-delivered messages s.pools (empty_pool most_waiting) j.pool refl fits
 
   pub fed_delivers : flat_map passage_line (step [] s (input_at_start 128 (Bytes 0 piece))).delivered ≡ message_lines thru_line (fed_stream s ++ piece)
   fed_delivers = ap (flat_map passage_line) fed_comes ∙ came_lines messages
@@ -163,7 +163,7 @@ module _ (s : State) (piece : List ℕ) (j : IsJoined s) (short : length piece �
       let left : List Arrival → Option ClientPool = λ as_left. let p : ClientPool = record (empty_pool most_waiting) { waiting = as_left } in Some p in
       let none : drop most_waiting (map waits messages) ≡ [] = drop_all most_waiting (map waits messages) (omega (arith, few, length-map messages waits)) in
       get-put waiting.pools 129 (without_oldest most_waiting (FinMap.get waiting.pools 129)) 129
-      ∙ ap (without_oldest most_waiting) (all-wait messages s.pools (empty_pool most_waiting) j.pool fits)
+      ∙ ap (without_oldest most_waiting) (all-wait messages s.pools (empty_pool most_waiting) j.pool refl fits)
       ∙ ap left none
 
   emptied-stream : fed_stream emptied ≡ rest (fed_stream s ++ piece)

@@ -1,6 +1,6 @@
--- Copies that find room in the input pool of the second client.
-use Rattle.std.proofs.Common.{◌≡◌, ℕ, ◌+◌, ◌≤◌, ◌<◌, true, List, [], ◌∷◌, ◌++◌, map, length, min, Some, refl, sym, ap, ◌∙◌, arith, append-nil, append_assoc, length-append}
-use Rattle.std.specs.Prelude.{if◌then◌else◌}
+-- Copies that find room in the input pool of the second client, which does not listen.
+use Rattle.std.proofs.Common.{◌≡◌, ℕ, ◌+◌, ◌≤◌, ◌<◌, true, List, [], ◌∷◌, ◌++◌, map, length, min, None, Some, refl, sym, ap, ◌∙◌, arith, append-nil, append_assoc, length-append}
+use Rattle.std.specs.Prelude.{nat_lt, if◌then◌else◌}
 use Rattle.std.specs.Ordering.{nat_cmp}
 use Rattle.std.specs.FinMap
 use Rattle.std.specs.FinMap.{FinMap}
@@ -24,14 +24,16 @@ waits message = arrival (came message)
 abbrev pub with_more : ClientPool → List Arrival → ClientPool
 with_more p as_well = record p { waiting = p.waiting ++ as_well }
 
-module _ (m : FinMap nat_cmp ClientPool) (p : ClientPool) (message : List ℕ) (here : FinMap.get m 129 ≡ Some p) (room : length p.waiting < p.size) where
+module _ (m : FinMap nat_cmp ClientPool) (p : ClientPool) (message : List ℕ) (here : FinMap.get m 129 ≡ Some p) (quiet : p.listening ≡ None) (room : length p.waiting < p.size) where
   one-offered : offer (FinMap.get m 129) (came message) ≡ Some (with_more p (waits message ∷ []))
   one-offered =
+      let lost : ClientPool = record p { lost = min (p.lost + 1) pools.most_lost } in
       ap (λ o. offer o (came message)) here
-      ∙ ap (λ b. Some (if b then with_more p (waits message ∷ []) else record p { lost = min (p.lost + 1) pools.most_lost })) (lt-ltb (length p.waiting) p.size room)
+      ∙ ap (λ o. Some (if nat_lt (pools.taken_up 0 (length p.waiting) o) p.size then pools.with_item 0 (waits message) p o else lost)) quiet
+      ∙ ap (λ b. Some (if b then with_more p (waits message ∷ []) else lost)) (lt-ltb (length p.waiting) p.size room)
 
-  one-found : pool_has_room (FinMap.get m 129) ≡ true
-  one-found = ap pool_has_room here ∙ lt-ltb (length p.waiting) p.size room
+  one-found : pool_has_room 0 (FinMap.get m 129) ≡ true
+  one-found = ap (pool_has_room 0) here ∙ ap (λ o. nat_lt (pools.taken_up 0 (length p.waiting) o) p.size) quiet ∙ lt-ltb (length p.waiting) p.size room
 
   abbrev after_one : FinMap nat_cmp ClientPool
   after_one = with_entry m 129 (offer (FinMap.get m 129) (came message))
@@ -46,20 +48,20 @@ has-room : (waiting size n : ℕ) → waiting + (1 + n) ≤ size → waiting < s
 has-room waiting size n h = omega arith
 
 -- where there is room for all, all are delivered
-pub all-delivered : (ms : List (List ℕ)) (m : FinMap nat_cmp ClientPool) (p : ClientPool) → FinMap.get m 129 ≡ Some p → length p.waiting + length ms ≤ p.size → copies_with_room m (map came ms) ≡ map came ms
-all-delivered [] m p here fits = refl
-all-delivered (c ∷ ms) m p here fits =
+pub all-delivered : (ms : List (List ℕ)) (m : FinMap nat_cmp ClientPool) (p : ClientPool) → FinMap.get m 129 ≡ Some p → p.listening ≡ None → length p.waiting + length ms ≤ p.size → copies_with_room m (map came ms) ≡ map came ms
+all-delivered [] m p here quiet fits = refl
+all-delivered (c ∷ ms) m p here quiet fits =
     let fits_more : length p.waiting + (1 + length ms) ≤ p.size = omega (arith, fits) in
     let room : length p.waiting < p.size = has-room (length p.waiting) p.size (length ms) fits_more in
-    let ds : List Delivery = copies_with_room (after_one m p c here room) (map came ms) in
-    ap (λ b. if b then came c ∷ ds else ds) (one-found m p c here room)
-    ∙ ap (λ es. came c ∷ es) (all-delivered ms (after_one m p c here room) (with_more p (waits c ∷ [])) (after-here m p c here room) (room-left m p c here room (length ms) fits_more))
+    let ds : List Delivery = copies_with_room (after_one m p c here quiet room) (map came ms) in
+    ap (λ b. if b then came c ∷ ds else ds) (one-found m p c here quiet room)
+    ∙ ap (λ es. came c ∷ es) (all-delivered ms (after_one m p c here quiet room) (with_more p (waits c ∷ [])) (after-here m p c here quiet room) quiet (room-left m p c here quiet room (length ms) fits_more))
 
 -- and wait
-pub all-wait : (ms : List (List ℕ)) (m : FinMap nat_cmp ClientPool) (p : ClientPool) → FinMap.get m 129 ≡ Some p → length p.waiting + length ms ≤ p.size → FinMap.get (pools_after m (map came ms)) 129 ≡ Some (with_more p (map waits ms))
-all-wait [] m p here fits = here ∙ ap (λ as_well. let q : ClientPool = record p { waiting = as_well } in Some q) (sym (append-nil p.waiting))
-all-wait (c ∷ ms) m p here fits =
+pub all-wait : (ms : List (List ℕ)) (m : FinMap nat_cmp ClientPool) (p : ClientPool) → FinMap.get m 129 ≡ Some p → p.listening ≡ None → length p.waiting + length ms ≤ p.size → FinMap.get (pools_after m (map came ms)) 129 ≡ Some (with_more p (map waits ms))
+all-wait [] m p here quiet fits = here ∙ ap (λ as_well. let q : ClientPool = record p { waiting = as_well } in Some q) (sym (append-nil p.waiting))
+all-wait (c ∷ ms) m p here quiet fits =
     let fits_more : length p.waiting + (1 + length ms) ≤ p.size = omega (arith, fits) in
     let room : length p.waiting < p.size = has-room (length p.waiting) p.size (length ms) fits_more in
-    all-wait ms (after_one m p c here room) (with_more p (waits c ∷ [])) (after-here m p c here room) (room-left m p c here room (length ms) fits_more)
+    all-wait ms (after_one m p c here quiet room) (with_more p (waits c ∷ [])) (after-here m p c here quiet room) quiet (room-left m p c here quiet room (length ms) fits_more)
     ∙ ap (λ as_well. let q : ClientPool = record p { waiting = as_well } in Some q) (append_assoc p.waiting (waits c ∷ []) (map waits ms))

@@ -40,6 +40,8 @@ enum Asked {
     Offers(u8, u64, bool),
     /// How many messages wait, and how many are lost.
     Waits(u32, u64),
+    /// Whether it listens.
+    Listens(bool),
     /// How many messages are taken at most, and the moment of the first.
     Receives(u32, u64),
 }
@@ -139,6 +141,33 @@ const CASES: &[Case] = &[
         ],
     },
     Case {
+        name: "a client listens",
+        rows: &[
+            (SYNTH, &[Offers(128, 10, true), Listens(false)]),
+            (
+                Listen,
+                &[
+                    Listens(true),
+                    Offers(128, 20, true),
+                    Offers(128, 20, true),
+                    Offers(128, 20, false),
+                    Offers(128, 21, true),
+                    Waits(1, 1),
+                ],
+            ),
+            (
+                Unlisten,
+                &[
+                    Listens(false),
+                    Offers(128, 21, true),
+                    Offers(128, 22, false),
+                    Waits(2, 2),
+                    Receives(2, 10),
+                ],
+            ),
+        ],
+    },
+    Case {
         name: "pools fill and drain",
         rows: &[(
             SYNTH,
@@ -206,6 +235,7 @@ fn is_so(clients: &mut Clients, alloc: Global, client: ClientId, asked: Asked) -
             feeds(clients, alloc, client, port, piece, count, bytes)
         }
         Offers(client, moment, kept) => offers(clients, alloc, client, moment, kept),
+        Listens(listens) => Some(clients.is_listening(client) == listens),
         Waits(waiting, lost) => {
             Some(clients.waiting(client) == waiting && clients.lost(client) == lost)
         }

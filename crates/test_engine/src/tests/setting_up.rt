@@ -29,6 +29,8 @@ pub enum Step {
     Resume(u8, u64),
     /// Four quarter notes a second from then on.
     DoubleTempo(u8, u64),
+    Listen,
+    Unlisten,
 }
 
 use self::Step::*;
@@ -41,6 +43,8 @@ pub fn take(clients: &mut Clients, alloc: Global, client: ClientId, step: Step) 
         Filter(filter, args) => make_filter(clients, client, filter, args),
         SetFilter(filter, args) => set_filter(clients, client, filter, args),
         Queue(queue) => make_queue(clients, alloc, client, queue),
+        Listen => Some(clients.listen(client)),
+        Unlisten => Some(clients.unlisten(client)),
         Close | DeletePort(_) | DeleteFilter(_) | DeleteQueue(_) => delete(clients, client, step),
         _ => take_for_queue(clients, client, step),
     }

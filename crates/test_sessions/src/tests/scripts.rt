@@ -40,6 +40,8 @@ fn word_of(command: &Command) -> &'static str {
         Command::Play { .. } => "play",
         Command::DropOutput => "drop",
         Command::Receive { .. } => "receive",
+        Command::Listen => "listen",
+        Command::Unlisten => "unlisten",
         Command::PoolStatus => "pools",
     }
 }
@@ -85,6 +87,8 @@ fn reads_each_form(rt: HostRuntime) -> Result<(), Fail> {
         "play 131:q0 0 m.mid",
         "drop",
         "receive 8",
+        "listen",
+        "unlisten",
         "pools",
     ];
     for line in lines {

@@ -326,3 +326,49 @@ const EIGHT_HOPS_AND_CHANNEL: Session = Session {
 fn eight_hops_and_channel(rt: HostRuntime) -> Result<(), Fail> {
     assert_session(&rt, rt.alloc(), &EIGHT_HOPS_AND_CHANNEL)
 }
+
+/// Client 129 has room for two messages. It listens from moment 2 on: of three notes of moment 3 it hears two, and at
+/// moment 4 one more, and what waited before waits still. From moment 5 on what comes waits again.
+const LISTENED: Session = Session {
+    parts: &[
+        Part {
+            client: 128,
+            script: "0 open a 8 8\n\
+                0 port 0 out 33\n\
+                1 send 0 90 01 40\n\
+                3 bytes 0 90 02 40 03 40 04 40\n\
+                4 send 0 90 05 40\n\
+                6 send 0 90 06 40\n",
+            log: "0 line 1 ok\n0 line 2 ok\n1 line 3 ok\n3 line 4 ok 3\n4 line 5 ok\n6 line 6 ok\n",
+        },
+        Part {
+            client: 129,
+            script: "0 open b 2 8\n\
+                0 port 0 in 66\n\
+                0 connect 128:p0 129:p0\n\
+                2 listen\n\
+                4 pools\n\
+                5 unlisten\n\
+                7 receive 8\n\
+                8 listen\n",
+            log: "0 line 1 ok\n0 line 2 ok\n0 line 3 ok\n1 port 0 90 01 40\n2 line 4 ok\n\
+                3 port 0 90 02 40\n3 port 0 90 03 40\n4 port 0 90 05 40\n\
+                4 line 5 ok waiting 1 lost 1 used 0\n5 line 6 ok\n6 port 0 90 06 40\n\
+                7 line 7 ok 2\ngot 1 port 0 90 01 40\ngot 6 port 0 90 06 40\n8 line 8 ok\n",
+        },
+    ],
+    songs: &[],
+    until: 10,
+    listing: Some(
+        "client 128 a in 8 out 8\n\
+        port 128:p0 out 33\n\
+        client 129 b in 2 out 8 listening\n\
+        port 129:p0 in 66\n\
+        edge 128:p0 129:p0\n",
+    ),
+};
+
+#[test]
+fn listened(rt: HostRuntime) -> Result<(), Fail> {
+    assert_session(&rt, rt.alloc(), &LISTENED)
+}

@@ -26,15 +26,15 @@ fn pools_have_limits(rt: HostRuntime) {
     }
 }
 
-// Offers the numbers from the first on, so many of them, and says how many were kept.
-fn offered(pool: &mut InPool<u32>, first: u32, count: u32) -> u32 {
-    let mut kept = 0u32;
+// Offers the numbers from the first on at a moment, so many of them, and says how many were taken.
+fn offered(pool: &mut InPool<u32>, moment: u64, first: u32, count: u32) -> u32 {
+    let mut taken = 0u32;
     for turn in 0..count {
-        if pool.offer(first.wrapping_add(turn)) {
-            kept = kept.wrapping_add(1);
+        if pool.offer(moment, first.wrapping_add(turn)) {
+            taken = taken.wrapping_add(1);
         }
     }
-    kept
+    taken
 }
 
 // Whether these are the numbers from the first on, so many of them.
@@ -52,8 +52,18 @@ fn count_up(items: &[u32], first: u32, count: usize) -> bool {
 /// A call on a pool of 2000, and what comes of it.
 #[derive(Clone, Copy)]
 enum PoolStep {
-    /// From the first number on, so many are offered, and so many kept.
+    /// From the first number on, so many are offered at moment 1, and so many taken.
     Offers(u32, u32, u32),
+    /// At a moment so many are offered, and so many taken.
+    OffersAt(u64, u32, u32),
+    /// It listens from now on.
+    Listens,
+    /// It listens no longer.
+    Waits,
+    /// Whether it has room at a moment.
+    HasRoom(u64, bool),
+    /// At a moment so many come of which those beyond its room are lost at once.
+    LosesBeyond(u64, u64),
     /// At most so many are taken. From the first number on, so many come.
     Takes(u32, u32, usize),
     /// So many wait, and so many are lost.
@@ -90,11 +100,73 @@ const POOL_CASES: &[PoolCase] = &[
             Counts(0, 100),
         ],
     },
+    PoolCase {
+        name: "of each moment a pool that listens takes as much as may wait",
+        steps: &[
+            Listens,
+            OffersAt(7, 2001, 2000),
+            HasRoom(7, false),
+            HasRoom(8, true),
+            OffersAt(8, 1, 1),
+            OffersAt(9, 2000, 2000),
+            OffersAt(9, 3, 0),
+            Counts(0, 4),
+        ],
+    },
+    PoolCase {
+        name: "what waited waits while a pool listens",
+        steps: &[
+            Offers(0, 2000, 2000),
+            Listens,
+            OffersAt(2, 5, 5),
+            Counts(2000, 0),
+            Waits,
+            HasRoom(2, false),
+            Takes(2000, 0, 2000),
+            Counts(0, 0),
+        ],
+    },
+    PoolCase {
+        name: "a pool that begins to listen anew has all its room",
+        steps: &[
+            Listens,
+            OffersAt(2, 2000, 2000),
+            Listens,
+            OffersAt(2, 1, 1),
+            Counts(0, 0),
+        ],
+    },
+    PoolCase {
+        name: "what finds no room is counted before it comes",
+        steps: &[
+            Offers(0, 1500, 1500),
+            LosesBeyond(1, 600),
+            Listens,
+            OffersAt(4, 1990, 1990),
+            LosesBeyond(4, 12),
+            LosesBeyond(5, 2000),
+            Counts(1500, 102),
+        ],
+    },
 ];
 
 fn pool_holds(pool: &mut InPool<u32>, step: PoolStep) -> Result<bool, OutOfMemory> {
     Ok(match step {
-        Offers(first, count, kept) => offered(pool, first, count) == kept,
+        Offers(first, count, taken) => offered(pool, 1, first, count) == taken,
+        OffersAt(moment, count, taken) => offered(pool, moment, 0, count) == taken,
+        Listens => {
+            pool.listen();
+            pool.is_listening()
+        }
+        Waits => {
+            pool.unlisten();
+            !pool.is_listening()
+        }
+        HasRoom(moment, room) => pool.has_room(moment) == room,
+        LosesBeyond(moment, count) => {
+            pool.lose_beyond(moment, count);
+            true
+        }
         Takes(most, first, count) => count_up(pool.take(most)?.as_slice(), first, count),
         Counts(waiting, lost) => (pool.waiting(), pool.lost(), pool.size())
             == (waiting, lost, 2000),

@@ -210,11 +210,11 @@ fn tells_of_what_was_lost(rt: HostRuntime) -> Result<(), Fail> {
     for (messages, text) in [
         (
             1,
-            "midiseq: 129 lost 1 message: its input pool was full (see receive)",
+            "midiseq: 129 lost 1 message: its input pool was full (see receive, listen)",
         ),
         (
             4204,
-            "midiseq: 129 lost 4204 messages: its input pool was full (see receive)",
+            "midiseq: 129 lost 4204 messages: its input pool was full (see receive, listen)",
         ),
     ] {
         let line = LossLine(Loss { client, messages });

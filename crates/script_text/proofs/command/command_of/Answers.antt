@@ -148,12 +148,24 @@ pub returns-in-23-clause-err : goal.returns-in-23-clause-err
 returns-in-23-clause-err c = λ e. at_row (map (λ n. n.items) c.args.names.now) c.args.words.now c.in_ok-word.word.now c.any.new.self c.keyword.result 23 c.in_ok-word.ensures.ok c.keyword.ensures c.in-23.is ∙ c.drop_output.ensures.err e
 
 pub returns-in-24-clause-ok : goal.returns-in-24-clause-ok
-returns-in-24-clause-ok c = subst (λ o. IfOk c.pool_status.result (λ x. o ≡ Some x)) (sym (at_row (map (λ n. n.items) c.args.names.now) c.args.words.now c.in_ok-word.word.now c.any.new.self c.keyword.result 24 c.in_ok-word.ensures.ok c.keyword.ensures c.in-24.is)) c.pool_status.ensures.ok
+returns-in-24-clause-ok c = subst (λ o. IfOk c.listen.result (λ x. o ≡ Some x)) (sym (at_row (map (λ n. n.items) c.args.names.now) c.args.words.now c.in_ok-word.word.now c.any.new.self c.keyword.result 24 c.in_ok-word.ensures.ok c.keyword.ensures c.in-24.is)) c.listen.ensures.ok
 
 pub returns-in-24-clause-err : goal.returns-in-24-clause-err
-returns-in-24-clause-err c = λ e. at_row (map (λ n. n.items) c.args.names.now) c.args.words.now c.in_ok-word.word.now c.any.new.self c.keyword.result 24 c.in_ok-word.ensures.ok c.keyword.ensures c.in-24.is ∙ c.pool_status.ensures.err e
+returns-in-24-clause-err c = λ e. at_row (map (λ n. n.items) c.args.names.now) c.args.words.now c.in_ok-word.word.now c.any.new.self c.keyword.result 24 c.in_ok-word.ensures.ok c.keyword.ensures c.in-24.is ∙ c.listen.ensures.err e
+
+pub returns-in-25-clause-ok : goal.returns-in-25-clause-ok
+returns-in-25-clause-ok c = subst (λ o. IfOk c.unlisten.result (λ x. o ≡ Some x)) (sym (at_row (map (λ n. n.items) c.args.names.now) c.args.words.now c.in_ok-word.word.now c.any.new.self c.keyword.result 25 c.in_ok-word.ensures.ok c.keyword.ensures c.in-25.is)) c.unlisten.ensures.ok
+
+pub returns-in-25-clause-err : goal.returns-in-25-clause-err
+returns-in-25-clause-err c = λ e. at_row (map (λ n. n.items) c.args.names.now) c.args.words.now c.in_ok-word.word.now c.any.new.self c.keyword.result 25 c.in_ok-word.ensures.ok c.keyword.ensures c.in-25.is ∙ c.unlisten.ensures.err e
+
+pub returns-in-26-clause-ok : goal.returns-in-26-clause-ok
+returns-in-26-clause-ok c = subst (λ o. IfOk c.pool_status.result (λ x. o ≡ Some x)) (sym (at_row (map (λ n. n.items) c.args.names.now) c.args.words.now c.in_ok-word.word.now c.any.new.self c.keyword.result 26 c.in_ok-word.ensures.ok c.keyword.ensures c.in-26.is)) c.pool_status.ensures.ok
+
+pub returns-in-26-clause-err : goal.returns-in-26-clause-err
+returns-in-26-clause-err c = λ e. at_row (map (λ n. n.items) c.args.names.now) c.args.words.now c.in_ok-word.word.now c.any.new.self c.keyword.result 26 c.in_ok-word.ensures.ok c.keyword.ensures c.in-26.is ∙ c.pool_status.ensures.err e
 
 pub returns-in_default-clause-err : goal.returns-in_default-clause-err
 returns-in_default-clause-err c =
-    let past : 25 ≤ c.keyword.result = omega arith in
+    let past : 27 ≤ c.keyword.result = omega arith in
     λ e. past_rows (map (λ n. n.items) c.args.names.now) c.args.words.now c.in_ok-word.word.now c.any.new.self c.keyword.result c.in_ok-word.ensures.ok c.keyword.ensures past

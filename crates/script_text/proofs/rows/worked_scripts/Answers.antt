@@ -113,6 +113,8 @@ returns-clause-commands c = record {
   status = refl;
   drop_output = refl;
   receive = refl;
+  listen = refl;
+  unlisten = refl;
 }
 
 pub returns-clause-scripts : goal.returns-clause-scripts

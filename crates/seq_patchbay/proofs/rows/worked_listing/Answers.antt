@@ -8,8 +8,10 @@ use Rattle.std.specs.FinMap
 use Rattle.std.specs.FinMap.{FinMap, get-empty}
 use Rattle.seq_state.specs.State.{Queue}
 use Rattle.seq_state.proofs.Effects.{get-put}
+use Rattle.seq_clients.specs.Roster.{listens}
 use Rattle.seq_patchbay.specs.Listing.{texts, client_line, client_lines, client_texts, port_lines, filter_lines, queue_lines, edge_texts}
-use Rattle.seq_patchbay.specs.Rows.{held_clock, running_clock, listed_queue, listed_in_port, listed_out_port, drum_filter, octave_filter, everyone, silent, listed_studio, studio_ports, studio_filters, studio_queues, two_edges}
+use Rattle.seq_patchbay.specs.Rows.{a_pool, their_pools, all_of_them, held_clock, running_clock, listed_queue, listed_in_port, listed_out_port, drum_filter, octave_filter, everyone, silent, listed_studio, studio_ports, studio_filters, studio_queues, two_edges}
+use Rattle.seq_patchbay.proofs.Texts.{agree}
 use Rattle.seq_patchbay.proofs.rows.worked_listing.Goals as goal
 
 -- ---- texts of which only the first and the last have something
@@ -61,11 +63,6 @@ queue-at n =
     ∙ ap (cond (eqb n 2) (Some (listed_queue held_clock true))) (get-put FinMap.empty 7 (Some (listed_queue running_clock true)) n
     ∙ ap (cond (eqb n 7) (Some (listed_queue running_clock true))) (get-empty nat_cmp n))))
 
-agree : (first n : ℕ) (f g : ℕ → List ℕ) → ((k : ℕ) → f k ≡ g k) → texts first n f ≡ texts first n g
-unfolding texts
-agree first zero f g h = refl
-agree first (suc n) f g h = ap (λ t. t ++ f (first + n)) (agree first n f g h) ∙ ap (λ t. texts first n g ++ t) (h (first + n))
-
 ports-found : texts 0 16 (λ n. port_lines 191 n (cond (eqb n 0) (Some listed_in_port) (cond (eqb n 15) (Some listed_out_port) None))) ≡ ports_text
 unfolding digits texts
 ports-found = refl
@@ -88,9 +85,9 @@ queues : texts 0 8 (λ n. queue_lines 191 n (FinMap.get studio_queues n)) ≡ qu
 queues = agree 0 8 _ _ (λ n. ap (queue_lines 191 n) (queue-at n)) ∙ queues-found
 
 abbrev studio_line : List ℕ
-studio_line = client_line 191 (codes "studio") 2000 1
+studio_line = client_line 191 (codes "studio") 2000 1 false
 
-studio_lines : client_lines 191 (Some listed_studio) ≡ studio_line ++ ports_text ++ filters_text ++ queues_text
+studio_lines : client_lines 191 (Some listed_studio) false ≡ studio_line ++ ports_text ++ filters_text ++ queues_text
 studio_lines =
     let others : List ℕ = texts 0 16 (λ n. filter_lines 191 n (FinMap.get studio_filters n)) in
     let rest : List ℕ = texts 0 8 (λ n. queue_lines 191 n (FinMap.get studio_queues n)) in
@@ -99,7 +96,7 @@ studio_lines =
     ∙ ap (λ t. studio_line ++ ports_text ++ filters_text ++ t) queues
 
 abbrev silent_line : List ℕ
-silent_line = client_line 128 (codes "z") 1 10
+silent_line = client_line 128 (codes "z") 1 10 true
 
 -- of none there is no text
 nothing : (first n : ℕ) → texts first n (λ k. []) ≡ []
@@ -107,7 +104,7 @@ unfolding texts
 nothing first zero = refl
 nothing first (suc n) = append-nil (texts first n (λ k. [])) ∙ nothing first n
 
-silent_lines : client_lines 128 (Some silent) ≡ codes "client 128 z in 1 out 10\n"
+silent_lines : client_lines 128 (Some silent) true ≡ codes "client 128 z in 1 out 10 listening\n"
 unfolding digits
 silent_lines =
     let none_of_ports = agree 0 16 (λ n. port_lines 128 n (FinMap.get FinMap.empty n)) (λ n. []) (λ n. ap (port_lines 128 n) (get-empty nat_cmp n)) ∙ nothing 0 16 in
@@ -129,15 +126,31 @@ at n =
 apart : (n k : ℕ) → (n ≡ k → ⊥) → eqb n k ≡ false
 apart n k h = false_from_ne_true (eqb n k) (λ e. h (eqb-true n k e))
 
-nobody : (n : ℕ) → 128 < n → n < 191 → client_lines n (FinMap.get everyone n) ≡ []
+nobody : (n : ℕ) → 128 < n → n < 191 → client_lines n (FinMap.get everyone n) (listens (FinMap.get their_pools n)) ≡ []
 nobody n low high =
-    ap (client_lines n) (at n
+    ap (λ o. client_lines n o (listens (FinMap.get their_pools n))) (at n
     ∙ ap (λ b. cond b (Some silent) (cond (eqb n 191) (Some listed_studio) None)) (apart n 128 (λ e. omega arith))
     ∙ ap (λ b. cond b (Some listed_studio) None) (apart n 191 (λ e. omega arith)))
 
-clients : client_texts everyone ≡ codes "client 128 z in 1 out 10\n" ++ (studio_line ++ ports_text ++ filters_text ++ queues_text)
-clients =
-    ends (λ n. client_lines n (FinMap.get everyone n)) _ _ (ap (client_lines 128) (at 128) ∙ silent_lines) nobody (ap (client_lines 191) (at 191) ∙ studio_lines)
+pool_at : (n : ℕ) → FinMap.get their_pools n ≡ cond (eqb n 128) (Some (a_pool (Some (record { moment = 7; count = 1 })))) (cond (eqb n 191) (Some (a_pool None)) None)
+pool_at n =
+    get-put (FinMap.insert FinMap.empty 191 (a_pool None)) 128 (Some (a_pool (Some (record { moment = 7; count = 1 })))) n
+    ∙ ap (λ o. cond (eqb n 128) (Some (a_pool (Some (record { moment = 7; count = 1 })))) o) (get-put FinMap.empty 191 (Some (a_pool None)) n ∙ ap (λ o. cond (eqb n 191) (Some (a_pool None)) o) (get-empty nat_cmp n))
+
+lines : ℕ → List ℕ
+lines n = client_lines n (FinMap.get everyone n) (listens (FinMap.get their_pools n))
+
+first : lines 128 ≡ codes "client 128 z in 1 out 10 listening\n"
+unfolding lines
+first = ap (λ o. client_lines 128 o (listens (FinMap.get their_pools 128))) (at 128) ∙ ap (λ o. client_lines 128 (Some silent) (listens o)) (pool_at 128) ∙ silent_lines
+
+last : lines 191 ≡ studio_line ++ ports_text ++ filters_text ++ queues_text
+unfolding lines
+last = ap (λ o. client_lines 191 o (listens (FinMap.get their_pools 191))) (at 191) ∙ ap (λ o. client_lines 191 (Some listed_studio) (listens o)) (pool_at 191) ∙ studio_lines
+
+clients : client_texts all_of_them ≡ codes "client 128 z in 1 out 10 listening\n" ++ (studio_line ++ ports_text ++ filters_text ++ queues_text)
+unfolding lines
+clients = ends (λ n. client_lines n (FinMap.get everyone n) (listens (FinMap.get their_pools n))) _ _ first nobody last
 
 pub returns : goal.returns
 unfolding digits

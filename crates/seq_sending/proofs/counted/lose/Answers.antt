@@ -12,13 +12,13 @@ returns-clause-lost c =
     let was = c.args.clients.now.pools in
     let k = first_client + c.args.row in
     ap (λ (r : Roster). get r.pools k) c.lose_beyond.ensures
-    ∙ ap (λ x. get (with_entry was x (with_losses c.args.copies (get was x))) k) c.client_of.ensures
-    ∙ get-put_same was k (with_losses c.args.copies (get was k))
+    ∙ ap (λ x. get (with_entry was x (with_losses c.args.moment c.args.copies (get was x))) k) c.client_of.ensures
+    ∙ get-put_same was k (with_losses c.args.moment c.args.copies (get was k))
 
 pub returns-clause-others : goal.returns-clause-others
 returns-clause-others c other apart =
     let was = c.args.clients.now.pools in
     let k = first_client + c.args.row in
     ap (λ (r : Roster). get r.pools other) c.lose_beyond.ensures
-    ∙ ap (λ x. get (with_entry was x (with_losses c.args.copies (get was x))) other) c.client_of.ensures
-    ∙ get-put_other was k (with_losses c.args.copies (get was k)) other apart
+    ∙ ap (λ x. get (with_entry was x (with_losses c.args.moment c.args.copies (get was x))) other) c.client_of.ensures
+    ∙ get-put_other was k (with_losses c.args.moment c.args.copies (get was k)) other apart

@@ -17,7 +17,7 @@ loop-row-preserved c =
     let here : l.row ≤ l.row = omega arith in
     record {
       clients = one.clients ∙ i.clients;
-      lost = lose-more was now after l.row n one.lost one.others a.counts.now refl (i.later l.row here) i.lost;
+      lost = lose-more a.moment was now after l.row n one.lost one.others a.counts.now refl (i.later l.row here) i.lost;
       later = λ row high. let m : l.row ≤ row = omega arith in one.others (128 + row) (λ f. absurd (omega arith)) ∙ i.later row m;
       before = λ k low. one.others k (λ f. absurd (omega arith)) ∙ i.before k low;
     }

@@ -11,7 +11,7 @@ invariant-loop-row l =
     let now = l.clients.pools in
     record {
       clients : l.clients.clients ≡ l.fn.clients.clients;
-      lost : (row : ℕ) → row < l.row → get now (first_client + row) ≡ with_losses (slice_index l.counts row) (get was (first_client + row));
+      lost : (row : ℕ) → row < l.row → get now (first_client + row) ≡ with_losses l.moment (slice_index l.counts row) (get was (first_client + row));
       later : (row : ℕ) → l.row ≤ row → get now (first_client + row) ≡ get was (first_client + row);
       before : (c : ℕ) → c < first_client → get now c ≡ get was c;
     }

@@ -14,6 +14,7 @@ loop-turn-preserved g c = record {
   room = search rules;
   size = search rules;
   lost = c.loop-turn.invariant.lost;
+  listening = c.loop-turn.invariant.listening;
 }
 
 pub returns-clause-ok : goal.returns-clause-ok
@@ -24,4 +25,4 @@ returns-clause-ok g c =
 pub returns-clause-left : goal.returns-clause-left
 returns-clause-left g c =
     let turns : c.loop-turn._turn ≡ min (length c.self.inside.items.items) c.args.max = omega arith in
-    left _ _ _ _ _ _ _ _ _ c.loop-turn.invariant.moved c.loop-turn.invariant.counted turns c.loop-turn.invariant.size c.loop-turn.invariant.lost ∙ ap (after_take c.args.max) c.self.view_is
+    left _ _ _ _ _ _ _ _ _ _ _ c.loop-turn.invariant.moved c.loop-turn.invariant.counted turns c.loop-turn.invariant.size c.loop-turn.invariant.lost c.loop-turn.invariant.listening ∙ ap (after_take c.args.max) c.self.view_is

@@ -9,4 +9,5 @@ invariant-loop-turn g l = record {
   room : l.count ≤ vec_capacity l.taken;
   size : l.self-inside.items.capacity ≡ l.initial.self-inside.items.capacity;
   lost : l.self-inside.lost ≡ l.initial.self-inside.lost;
+  listening : l.self-inside.listening ≡ l.initial.self-inside.listening;
 }

@@ -12,7 +12,7 @@ use Rattle.seq_clients.proofs.rows.RowTable.lose_beyond.Goals.{in-Some, in-None}
 pub returns : goal.returns
 returns c =
     let here = get_at (option_map (λ b. b.value)) 128 64 _ _ c.self.view_is c.self.invariant _ _ c.row_of.ensures.start c.row_of.ensures.small c.index-self-row_of.result in
-    let change = with_pool_changed (after_losses_of c.args.copies) in
+    let change = with_pool_changed (after_losses_of c.args.moment c.args.copies) in
     let later = λ (o : Option ClientRow). with_entry c.args.self.now c.args.client (option_map change o) in
     elim c.match-self-row_of.branch [
       | in-Some w ↦ ap the_view w.self-inside-is

@@ -96,3 +96,13 @@ pub returns-in_ok-receive-in-Receive-clause-gives : goal.returns-in_ok-receive-i
 returns-in_ok-receive-in-Receive-clause-gives g c =
     quiet-kept c.args.self.now c.args.turn (g.A.Agenda.content c.args.agenda.now) c.args.command.now c.args.out.now.items _ c.receive.new.self (Received c.in_ok-receive-in-Receive.field-0)
     c.in-Receive.is c.requires.whole c.in_ok-receive-in-Receive.ensures
+
+pub returns-in-Listen-clause-gives : goal.returns-in-Listen-clause-gives
+returns-in-Listen-clause-gives g c =
+    quiet-kept c.args.self.now c.args.turn (g.A.Agenda.content c.args.agenda.now) c.args.command.now c.args.out.now.items _ c.listen.new.self Done
+    c.in-Listen.is c.requires.whole c.listen.ensures
+
+pub returns-in-Unlisten-clause-gives : goal.returns-in-Unlisten-clause-gives
+returns-in-Unlisten-clause-gives g c =
+    quiet-kept c.args.self.now c.args.turn (g.A.Agenda.content c.args.agenda.now) c.args.command.now c.args.out.now.items _ c.unlisten.new.self Done
+    c.in-Unlisten.is c.requires.whole c.unlisten.ensures

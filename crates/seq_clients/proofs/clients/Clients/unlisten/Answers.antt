@@ -1,0 +1,9 @@
+use Rattle.cell_pools.specs.Pools.{not_listening}
+use Rattle.seq_clients.proofs.Changing.{pool-changed-kept, pool-changed-seen}
+use Rattle.seq_clients.proofs.clients.Clients.unlisten.Goals as goal
+
+pub invariant_of-self : goal.invariant_of-self
+invariant_of-self c = pool-changed-kept c.self.inside.nodes c.self.inside.rows _ c.self.invariant c.self.view_is c.args.client not_listening _ c.unlisten.ensures
+
+pub returns : goal.returns
+returns c = pool-changed-seen c.self.inside.nodes c.self.inside.rows _ c.self.invariant c.self.view_is c.args.client not_listening _ c.unlisten.ensures
