@@ -122,10 +122,8 @@ impl<T> InPool<T> {
     pub fn lose_beyond(&mut self, moment: u64, count: u64)
         ensures { self.new ≡ after_losses_of moment count self.old }
     {
-        let room = self.size().saturating_sub(self.taken_at(moment));
-        self.lost = self
-            .lost
-            .saturating_add(count.saturating_sub(u64::from(room)));
+        let room = u64::from(self.size().saturating_sub(self.taken_at(moment)));
+        self.lost = self.lost.saturating_add(count.saturating_sub(room));
     }
 
     fn taken_at(&self, moment: u64) -> u32

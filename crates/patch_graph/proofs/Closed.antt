@@ -23,19 +23,33 @@ module _ {X : Type 0} where
       ap (λ ys. remove ys at) (append_assoc (take d xs) (take n (drop at xs)) (drop (d + n) xs))
       ∙ (λ j. front j ++ back j) ∙ sym (append_assoc (take at xs) (take n (drop at xs)) (drop (d + n) xs)) ∙ (λ j. sym all j ++ drop (ends j) xs)
 
-  -- the place before so many elements, which go down by one
-  pub lowered : (xs : List X) (at n d m : ℕ) → d ≡ suc at → m ≡ at + n → m < length xs → remove (paste xs at (drop d xs) n) m ≡ remove xs at
-  lowered xs at n d m e f l =
-      let ys : List X = paste xs at (drop d xs) n in
-      let room : n ≤ length (drop d xs) = omega (arith, length-drop d xs) in
-      let front : take m ys ≡ take at xs ++ take n (drop d xs) = ap (λ k. take k ys) f ∙ take-paste xs at (drop d xs) n (omega arith) room in
-      let next : suc m ≡ (at + n) + 1 = omega arith in
-      let ends : d + n ≡ (at + n) + 1 = omega arith in
-      let back : drop (suc m) ys ≡ drop n (drop d xs) =
-      ap (λ k. drop k ys) next ∙ sym (drop-drop 1 (at + n) ys) ∙ ap (drop 1) (drop-paste xs at (drop d xs) n (omega arith) room)
-      ∙ drop-drop 1 (at + n) xs ∙ ap (λ k. drop k xs) (sym ends) ∙ sym (drop-drop n d xs) in
-      (λ j. front j ++ back j) ∙ append_assoc (take at xs) (take n (drop d xs)) (drop n (drop d xs))
-      ∙ ap (λ zs. take at xs ++ zs) (take-append-drop n (drop d xs) ∙ ap (λ k. drop k xs) e)
+  -- the first place, before so many elements, which go down by one
+  lowered : (xs : List X) (n : ℕ) → n < length xs → remove (paste xs 0 (drop 1 xs) n) n ≡ remove xs 0
+  lowered xs n l =
+      let ys : List X = paste xs 0 (drop 1 xs) n in
+      let room : n ≤ length (drop 1 xs) = omega (arith, length-drop 1 xs) in
+      let behind : n ≡ 0 + n = omega arith in
+      let next : suc n ≡ n + 1 = omega arith in
+      let ends : n + 1 ≡ 1 + n = omega arith in
+      let front : take n ys ≡ take n (drop 1 xs) = ap (λ k. take k ys) behind ∙ take-paste xs 0 (drop 1 xs) n (omega arith) room in
+      let rest : drop n ys ≡ drop n xs = ap (λ k. drop k ys) behind ∙ drop-paste xs 0 (drop 1 xs) n (omega arith) room ∙ ap (λ k. drop k xs) (sym behind) in
+      let back : drop (suc n) ys ≡ drop n (drop 1 xs) =
+      ap (λ k. drop k ys) next ∙ sym (drop-drop 1 n ys) ∙ ap (drop 1) rest ∙ drop-drop 1 n xs ∙ ap (λ k. drop k xs) ends ∙ sym (drop-drop n 1 xs) in
+      (λ j. front j ++ back j) ∙ take-append-drop n (drop 1 xs)
+
+  -- the same in the part from a place on
+  pub lowered_part : (xs ys : List X) (at n : ℕ) → at + n < length xs → ys ≡ paste (mid_of at (length xs - at) xs) 0 (drop 1 (mid_of at (length xs - at) xs)) n →
+      remove (put_mid at (length xs - at) xs ys) (at + n) ≡ remove xs at
+  lowered_part xs ys at n l e =
+      let front : length (take at xs) ≡ at = length-take-le at xs (omega arith) in
+      let none : post_of at (length xs - at) xs ≡ [] = drop_all (length xs - at) (drop at xs) (omega (arith, length-drop at xs)) in
+      let moved : List X = paste (drop at xs) 0 (drop 1 (drop at xs)) n in
+      let part : ys ++ post_of at (length xs - at) xs ≡ moved = ap (λ zs. ys ++ zs) none ∙ append-nil ys ∙ e ∙ ap (λ zs. paste zs 0 (drop 1 zs) n) (take_rest xs at) in
+      let behind : (at + n) - at ≡ n = omega arith in
+      let here : at - at ≡ 0 = omega arith in
+      ap (λ zs. remove (take at xs ++ zs) (at + n)) part ∙ remove-append_right (take at xs) moved at (at + n) front (omega arith)
+      ∙ ap (λ i. take at xs ++ remove moved i) behind ∙ ap (λ zs. take at xs ++ zs) (lowered (drop at xs) n (omega (arith, length-drop at xs)))
+      ∙ ap (λ i. take at xs ++ remove (drop at xs) i) (sym here) ∙ sym (remove-append_right (take at xs) (drop at xs) at at front (omega arith)) ∙ ap (λ zs. remove zs at) (take-append-drop at xs)
 
   last_removed : (xs : List X) (p : ℕ) → p + 1 ≡ length xs → take p xs ≡ remove xs p
   last_removed xs p e = sym (ap (λ ys. take p xs ++ ys) (drop_all (suc p) xs (omega arith)) ∙ append-nil (take p xs))

@@ -17,13 +17,14 @@ fn move_up<T: Copy, const N: usize>(items: &mut [T], place: usize)
 }
 
 /// Moves so many elements, from behind a place on, down by one.
+// In the part that begins at the place, where no test is needed of which way they go.
 #[inline(always)]
 fn move_down<T: Copy, const N: usize>(items: &mut [T], place: usize)
     requires { place + N < length items.old }
     ensures count { length items.new ≡ length items.old }
     ensures rest { remove items.new (place + N) ≡ remove items.old place }
 {
-    items.copy_within(place + 1..place + 1 + N, place);
+    items[place..].copy_within(1..1 + N, 0);
 }
 
 /// Moves what stands before a place up by one, so many at once as long as there are so many. It gives the place that is
@@ -48,27 +49,30 @@ fn lift<const N: usize>(nodes: &mut [Addr], ages: &mut [u64], place: usize) -> u
     at
 }
 
-/// Moves what stands behind a place down by one, so many at once as long as there are so many. It gives the place that
-/// is then to be closed.
+/// Moves what stands behind a place down by one, so many at once as long as there are so many. It takes and gives how
+/// many stand from the place on that is to be closed.
 #[inline(always)]
-fn lower<const N: usize>(nodes: &mut [Addr], ages: &mut [u64], place: usize) -> usize
+fn lower<const N: usize>(nodes: &mut [Addr], ages: &mut [u64], rest: usize) -> usize
     requires some { 0 < N }
-    requires within { place < length nodes.old }
+    requires within { (0 < rest) × (rest ≤ length nodes.old) }
     requires beside { length ages.old ≡ length nodes.old }
-    ensures few { (result < length nodes.old) × (length nodes.old ≤ result + N) }
-    ensures nodes { remove nodes.new result ≡ remove nodes.old place }
-    ensures ages { remove ages.new result ≡ remove ages.old place }
+    ensures few { (0 < result) × (result ≤ N) × (result ≤ length nodes.old) }
+    ensures nodes { let count = length nodes.old in
+        remove nodes.new (count - result) ≡ remove nodes.old (count - rest) }
+    ensures ages { let count = length nodes.old in
+        remove ages.new (count - result) ≡ remove ages.old (count - rest) }
     ensures node_count { length nodes.new ≡ length nodes.old }
     ensures age_count { length ages.new ≡ length ages.old }
 {
-    let last = nodes.len() - 1;
-    let mut at = place;
-    while last - at >= N {
+    // Counted by what is left, as in `lift`, so that each smaller step is known to be taken at most once.
+    let mut left = rest;
+    while left > N {
+        let at = nodes.len() - left;
         move_down::<Addr, N>(nodes, at);
         move_down::<u64, N>(ages, at);
-        at += N;
+        left -= N;
     }
-    at
+    left
 }
 
 /// Closes a place by all that stands before it.
@@ -96,11 +100,12 @@ fn lower_all(nodes: &mut [Addr], ages: &mut [u64], place: usize)
     ensures node_count { length nodes.new ≡ length nodes.old }
     ensures age_count { length ages.new ≡ length ages.old }
 {
-    let at = lower::<16>(nodes, ages, place);
-    let at = lower::<8>(nodes, ages, at);
-    let at = lower::<4>(nodes, ages, at);
-    let at = lower::<2>(nodes, ages, at);
-    lower::<1>(nodes, ages, at);
+    let rest = nodes.len() - place;
+    let rest = lower::<16>(nodes, ages, rest);
+    let rest = lower::<8>(nodes, ages, rest);
+    let rest = lower::<4>(nodes, ages, rest);
+    let rest = lower::<2>(nodes, ages, rest);
+    lower::<1>(nodes, ages, rest);
 }
 
 /// Removes what stands at a place of both lists, by what stands before it from `first` on. So `first` itself is free.
