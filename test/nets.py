@@ -53,11 +53,13 @@ class Net:
     """The net of so many strangers from client FIRST on, behind a port: each filter is joined to the 32 after it, whosever they are,
     and the ports of each stranger to the last 32 filters of its own and of the stranger before it.
 
-    With `last` one client more has a port behind the last filter alone, and room for one message at a time."""
+    With `last` one client more has a port behind the last filter alone, and room for one message at a time. With `listens` all strangers
+    do."""
 
-    def __init__(self, strangers, source="128:p0", first=130, forms=False, last=False):
+    def __init__(self, strangers, source="128:p0", first=130, forms=False, last=False, listens=False):
         self.clients = range(first, first + strangers)
         self.source, self.last = source, first + strangers if last else None
+        self.listens = listens
         self.chance = random.Random(strangers) if forms else None
         self.filters = [f"{client}:f{n}" for client in self.clients for n in range(FILTERS)]
 
@@ -94,4 +96,7 @@ class Net:
             lines[client].append(f"1 connect {source} {target}")
         if self.last:
             lines[self.last] += [f"{moment} receive 1" for moment in receipts]
+        if self.listens:
+            for client in self.clients:
+                lines[client].append("1 listen")
         return [(client, "\n".join(text).encode() + b"\n") for client, text in lines.items()]
