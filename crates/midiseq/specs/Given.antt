@@ -3,14 +3,21 @@ use Rattle.std.specs.Prelude.{◌≡◌, ◌≢◌, ℕ, Bool, true, false, ◌|
 use Rattle.std.specs.Option.{option_map}
 use Rattle.clap.specs.declared.parser.matches.Found.{Found}
 use Rattle.clap.specs.Matches.{first_value, matched_of, one_text, raw_values}
+use Rattle.node_table.specs.declared.number.PortAddr.{PortAddr}
 use Rattle.script_text.specs.Numbers as says
+use Rattle.tempo_clock.specs.Ticks.{Tempos}
 use Rattle.program_tasks.specs.declared.answer.CircleAnswer.{CircleAnswer}
 use Rattle.program_tasks.specs.declared.end_word.EndWord.{EndWord}
 use Rattle.program_tasks.specs.declared.end_word.EndWord.TheVariants.{Until, For, ToEnd}
 use Rattle.program_tasks.specs.declared.ending.Ended.{Ended}
 use Rattle.program_tasks.specs.declared.ending.Ended.TheVariants.{Done, Answered, Judged}
 use Rattle.program_tasks.specs.declared.question.CircleQuestion.TheVariants.{Of, OfAll}
-use Rattle.program_tasks.specs.Words.{port_named, scripts_named, scripts_seen}
+use Rattle.program_tasks.specs.Grid.{IsGrid}
+use Rattle.program_tasks.specs.declared.grid.GridWords.{GridWords}
+use Rattle.program_tasks.specs.declared.grid.GridWords.TheVariants.{Said, Like}
+use Rattle.program_tasks.specs.Words.{port_named, ports_named, scripts_named, scripts_seen}
+use Rattle.program_tasks.specs.declared.recording.Recorded.{Recorded}
+use Rattle.program_tasks.specs.declared.recording.Recorded.TheVariants.{Stream, Port, Ports}
 use Rattle.program_tasks.specs.declared.recording.Recording.{Recording}
 use Rattle.program_tasks.specs.declared.run_answer.RunAnswer.{RunAnswer}
 use Rattle.program_tasks.specs.declared.session.Session.{Session}
@@ -56,6 +63,56 @@ pub record IsGiven (found : Found) (session : Session) : Type 0 where
 pub record IsFlag (found : Found) (id : List ℕ) (given : Bool) : Type 0 where
   pub absent : one_text found id ≡ None → given ≡ false
   pub present : one_text found id ≡ Some (codes "true") → given ≡ true
+
+-- ---- what is recorded
+
+-- the port of --port, with --raw as one MIDI stream and else as a file
+abbrev pub IsOnePortGiven : Found → Recorded → Type 0
+IsOnePortGiven found (Stream port) =
+    IsFlag found (codes "raw") true × (Some port ≡ port_named (text_of found (codes "port")))
+IsOnePortGiven found (Port port) =
+    IsFlag found (codes "raw") false × (Some port ≡ port_named (text_of found (codes "port")))
+IsOnePortGiven found (Ports ports clock) = ⊥
+
+-- the words of --ppq and --bpm
+abbrev pub AreSaid : Found → GridWords → Type 0
+AreSaid found (Said ppq bpm) =
+    (option_map (λ w. w.now) ppq ≡ first_value found (codes "ppq"))
+    × (option_map (λ w. w.now) bpm ≡ first_value found (codes "bpm"))
+AreSaid found (Like path) = ⊥
+
+-- the file at this path
+abbrev pub AreLike : GridWords → List ℕ → Type 0
+AreLike (Said ppq bpm) word = ⊥
+AreLike (Like path) word = path.now ≡ word
+
+-- the words for ticks and tempos: the file of --like, and without it those of --ppq and --bpm
+abbrev pub AreGridWords : Found → GridWords → Type 0
+AreGridWords found words =
+    MatchOption (first_value found (codes "like")) (AreSaid found words) (AreLike words)
+
+module _ {R : Type 0} (IsOpened : List ℕ → R → Type 0) (HasLeft : R → List ℕ → Type 0) where
+  -- The ports that this word names, by the ticks and the tempos that the words for these give.
+  pub record ArePortsGiven (found : Found) (ports : List PortAddr) (clock : Tempos)
+      (word : List ℕ) : Type 0 where
+    pub named : Some ports ≡ ports_named word
+    pub words : GridWords
+    pub given : AreGridWords found words
+    pub grid : IsGrid IsOpened HasLeft words clock
+
+  -- a track for each of the ports that this word names
+  abbrev pub AreTracksGiven : Found → Recorded → List ℕ → Type 0
+  AreTracksGiven found (Ports ports clock) word = ArePortsGiven found ports.now clock.now word
+  AreTracksGiven found _ word = ⊥
+
+  -- What is recorded: a track for each port of --ports, and without it the port of --port. It goes
+  -- to the file of --out.
+  pub record IsRecordingGiven (found : Found) (recording : Recording) : Type 0 where
+    pub path : recording.path.now ≡ text_of found (codes "out")
+    pub what : MatchOption (first_value found (codes "ports"))
+        (IsOnePortGiven found recording.what) (AreTracksGiven found recording.what)
+
+-- ---- what the subcommands do
 
 module _ {R W : Type 0} (IsOpened : List ℕ → R → Type 0) (HasLeft : R → List ℕ → Type 0)
     (CannotOpen : List ℕ → Type 0)
@@ -115,18 +172,13 @@ module _ {R W : Type 0} (IsOpened : List ℕ → R → Type 0) (HasLeft : R → 
         OfAll answer old new before after)
         (IsAnsweredRound HasTaken HasTold found session answer old new before after)
 
-  -- The session of these words was recorded: the port of --port, as --raw says, to the file of
-  -- --out; it was explained where --strict or --explain says so, and judged with --strict.
-  pub record RecordsAsGiven {N : Type 0} (IsBegun : List ℕ → W → Type 0)
+  -- The session was recorded so; it was explained where --strict or --explain says so, and judged
+  -- with --strict.
+  pub record EndsRecorded {N : Type 0} (IsBegun : List ℕ → W → Type 0)
       (HasTaken : W → List ℕ → Type 0)
       (IsStored : List ℕ → W → Type 0) (HasTold : N → List ℕ → Type 0) (found : Found)
+      (session : Session) (recording : Recording)
       (before after : N) (ended : Ended) : Type 0 where
-    pub session : Session
-    pub given : IsGiven found session
-    pub recording : Recording
-    pub port : Some recording.port ≡ port_named (text_of found (codes "port"))
-    pub flag : IsFlag found (codes "raw") recording.raw
-    pub path : recording.path.now ≡ text_of found (codes "out")
     pub strict : Bool
     pub strict_flag : IsFlag found (codes "strict") strict
     pub explains : Bool
@@ -136,6 +188,18 @@ module _ {R W : Type 0} (IsOpened : List ℕ → R → Type 0) (HasLeft : R → 
         IsStored HasTold
         session recording (strict || explains) answer before after
     pub ends : ended ≡ (if strict then Judged answer else Done)
+
+  -- The session of these words was recorded as they say.
+  pub record RecordsAsGiven {N : Type 0} (IsBegun : List ℕ → W → Type 0)
+      (HasTaken : W → List ℕ → Type 0)
+      (IsStored : List ℕ → W → Type 0) (HasTold : N → List ℕ → Type 0) (found : Found)
+      (before after : N) (ended : Ended) : Type 0 where
+    pub session : Session
+    pub given : IsGiven found session
+    pub recording : Recording
+    pub given_recording : IsRecordingGiven IsOpened HasLeft found recording
+    pub recorded : EndsRecorded IsBegun HasTaken IsStored HasTold found session recording
+        before after ended
 
 -- The tool of this name has done its work on the stream that the word FILE names, or without one on
 -- standard input.

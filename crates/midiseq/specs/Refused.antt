@@ -1,10 +1,12 @@
 -- Definition: Why a subcommand stops, from the words that it was given.
-use Rattle.std.specs.Prelude.{◌≡◌, ◌≢◌, ◌⊎◌, ℕ, Bool, List, [], None, codes, unwrap_or}
+use Rattle.std.specs.Prelude.{◌≡◌, ◌≢◌, ◌⊎◌, ℕ, Bool, List, [], None, codes, unwrap_or, MatchOption}
 use Rattle.std.specs.Option.{option_map}
 use Rattle.clap.specs.declared.parser.matches.Found.{Found}
 use Rattle.clap.specs.Matches.{first_value, matched_of, raw_values}
 use Rattle.script_text.specs.Numbers as says
-use Rattle.program_tasks.specs.Words.{port_named, IsOfWords}
+use Rattle.program_tasks.specs.Grid.{IsOfGrid}
+use Rattle.program_tasks.specs.declared.grid.GridWords.{GridWords}
+use Rattle.program_tasks.specs.Words.{port_named, IsOfPorts, IsOfWords}
 use Rattle.program_tasks.specs.declared.recording.Recording.{Recording}
 use Rattle.program_tasks.specs.declared.session.Session.{Session}
 use Rattle.program_tasks.specs.Faults.{IsOfListing, IsOfScripts, IsOfOutput}
@@ -17,7 +19,7 @@ use Rattle.program_tasks.specs.declared.choice.Tool.{Tool}
 use Rattle.program_tasks.specs.declared.program_fault.ProgramFault.{ProgramFault}
 use Rattle.program_tasks.specs.declared.program_fault.ProgramFault.TheVariants.{NoSubcommand, NotAClient, NotAPort}
 use Rattle.program_tasks.specs.Program.{tool_name, IsNamedBy}
-use Rattle.midiseq.specs.Given.{text_of, IsEndGiven, IsGiven, IsOfTool}
+use Rattle.midiseq.specs.Given.{text_of, IsEndGiven, IsGiven, AreGridWords, IsRecordingGiven, IsOfTool}
 
 -- The word for the session's end says none.
 pub record IsOfEndWord (found : Found) (fault : ProgramFault) : Type 0 where
@@ -37,6 +39,24 @@ IsOfSessionWords found fault =
 abbrev pub IsNotAPort : List ℕ → ProgramFault → Type 0
 IsNotAPort word (NotAPort told) = (told.now ≡ word) × (port_named word ≡ None)
 IsNotAPort word _ = ⊥
+
+module _ {R : Type 0} (IsOpened : List ℕ → R → Type 0) (HasLeft : R → List ℕ → Type 0)
+    (CannotOpen : List ℕ → Type 0) (failed : R → Bool) where
+  -- The words for ticks and tempos give none.
+  pub record IsOfGridWords (found : Found) (fault : ProgramFault) : Type 0 where
+    pub words : GridWords
+    pub given : AreGridWords found words
+    pub why : IsOfGrid IsOpened HasLeft CannotOpen failed words fault
+
+  -- this word names no ports, or the words for ticks and tempos give none
+  abbrev pub IsOfTrackWords : Found → ProgramFault → List ℕ → Type 0
+  IsOfTrackWords found fault word = IsOfPorts word fault ⊎ IsOfGridWords found fault
+
+  -- the words do not say what is recorded: those of --ports, and without it that of --port
+  abbrev pub IsOfRecordingWords : Found → ProgramFault → Type 0
+  IsOfRecordingWords found fault =
+      MatchOption (first_value found (codes "ports"))
+      (IsNotAPort (text_of found (codes "port")) fault) (IsOfTrackWords found fault)
 
 -- the word is no client's number
 abbrev pub IsNotAClient : List ℕ → ProgramFault → Type 0
@@ -83,7 +103,7 @@ pub record IsRecordStopped {R V N : Type 0} (IsOpened : List ℕ → R → Type 
   pub session : Session
   pub given : IsGiven found session
   pub recording : Recording
-  pub path : recording.path.now ≡ text_of found (codes "out")
+  pub given_recording : IsRecordingGiven IsOpened HasLeft found recording
   pub why :
       IsOfListing CannotList (option_map (λ d. d.now) session.dir) fault
       ⊎ IsRecordingStopped IsOpened HasLeft CannotOpen failed HasNames AreOne IsBegun writer_failed
@@ -131,7 +151,7 @@ pub record IsStoppedAsGiven {R V I N : Type 0} (IsOpened : List ℕ → R → Ty
       ⊎ IsRunStopped IsOpened HasLeft CannotOpen CannotList failed stuck found fault
   pub recorded : name ≡ codes "record" →
       IsOfSessionWords found fault
-      ⊎ (IsNotAPort (text_of found (codes "port")) fault
+      ⊎ (IsOfRecordingWords IsOpened HasLeft CannotOpen failed found fault
       ⊎ IsRecordStopped IsOpened HasLeft CannotOpen CannotList failed HasNames AreOne IsBegun
       writer_failed takes_some
       CannotBegin CannotStore HasTold found before after fault)

@@ -1,19 +1,23 @@
 //! The subcommands that take scripts.
 
-ghost use Rattle.std.specs.Prelude.{◌≡◌, ◌⊎◌, ◌||◌, false, codes, IfOk, IfErr, OnOk};
+ghost use Rattle.std.specs.Prelude.{◌≡◌, ◌⊎◌, ◌||◌, false, Some, codes, IfOk, IfErr, OnOk};
 ghost use Rattle.clap.specs.Matches.{found_of};
-ghost use Rattle.midiseq.specs.Given.{text_of, IsEndGiven, IsGiven, RunsAsGiven, CirclesAsGiven, RecordsAsGiven};
-ghost use Rattle.midiseq.specs.Refused.{IsOfSessionWords, IsNotAClient, IsNotAPort, IsRunStopped, IsCircleStopped, IsRecordStopped};
+ghost use Rattle.midiseq.specs.Given.{text_of, IsEndGiven, IsGiven, IsOnePortGiven, AreGridWords, RunsAsGiven, CirclesAsGiven, EndsRecorded, RecordsAsGiven};
+ghost use Rattle.midiseq.specs.Refused.{IsOfSessionWords, IsOfRecordingWords, IsNotAClient, IsNotAPort, IsRunStopped, IsCircleStopped, IsRecordStopped};
 ghost use Rattle.seq_session.specs.Rising.{AreRising};
-ghost use Rattle.program_tasks.specs.Faults.{IsStuck};
+ghost use Rattle.std.specs.Option.{option_map};
+ghost use Rattle.program_tasks.specs.Faults.{IsOfListing, IsStuck};
+ghost use Rattle.program_tasks.specs.Subcommands.{IsRecordingStopped};
 ghost use Rattle.program_tasks.specs.Sessions.{owners};
+ghost use Rattle.program_tasks.specs.Words.{port_named};
 
 use byte_io::Sink;
 use clap::ArgMatches;
 use file_store::FileStore;
+use node_table::PortAddr;
 use program_tasks::{
-    CircleAnswer, CircleQuestion, EndWord, Ended, Notes, ProgramFault, Recording, Session,
-    client_named, port_named,
+    CircleAnswer, CircleQuestion, EndWord, Ended, GridWords, Notes, ProgramFault, Recorded,
+    Recording, Session, client_named, port_named, ports_named,
 };
 use std::alloc::Global;
 
@@ -73,8 +77,8 @@ pub(crate) fn run<'a, S: FileStore, W: Sink, N: Notes>(
     Ok(Ended::Done)
 }
 
-/// Runs the scripts, and writes what came to a port to a file, once all else is done. With --explain and --strict it
-/// tells what the run did not do, and with --strict whether that is nothing.
+/// Runs the scripts, and writes what came to a port, or to several, to a file, once all else is done. With --explain and
+/// --strict it tells what the run did not do, and with --strict whether that is nothing.
 pub(crate) fn record<'a, S: FileStore, N: Notes>(
     alloc: Global,
     store: &S,
@@ -85,25 +89,90 @@ pub(crate) fn record<'a, S: FileStore, N: Notes>(
         S.HasNames S.IsBegun S.Writer.HasTaken S.IsStored N.HasTold (found_of found.now)
         notes.old notes.new) }
     ensures fault { IfErr result (λ e. IsOfSessionWords (found_of found.now) e
-        ⊎ (IsNotAPort (text_of (found_of found.now) (codes "port")) e
+        ⊎ (IsOfRecordingWords S.IsOpened S.Reader.HasLeft S.CannotOpen S.Reader.failed
+        (found_of found.now) e
         ⊎ IsRecordStopped S.IsOpened S.Reader.HasLeft S.CannotOpen S.CannotList S.Reader.failed
         S.HasNames S.AreOne S.IsBegun S.Writer.failed S.Writer.takes_some S.CannotBegin
         S.CannotStore N.HasTold (found_of found.now) notes.old notes.new e)) }
 {
     let session = session_of(alloc, found)?;
+    let path = found.get_str("out").unwrap_or("");
+    let Some(word) = found.get_str("ports") else {
+        let port = port_of(found)?;
+        let what = one_port(found, port);
+        let recording = Recording { what, path };
+        return record_as(alloc, store, found, &session, &recording, notes);
+    };
+    let ports = ports_named(alloc, word)?;
+    let grid = grid_of(found).grid(alloc, store)?;
+    let what = Recorded::Ports {
+        ports: ports.as_slice(),
+        clock: &grid,
+    };
+    let recording = Recording { what, path };
+    record_as(alloc, store, found, &session, &recording, notes)
+}
+
+/// The port of --port.
+fn port_of<'a>(found: &ArgMatches<'a>) -> Result<PortAddr, ProgramFault<'a>>
+    ensures named { IfOk result (λ port.
+        Some port ≡ port_named (text_of (found_of found.now) (codes "port"))) }
+    ensures fault { IfErr result (IsNotAPort (text_of (found_of found.now) (codes "port"))) }
+{
     let word = found.get_str("port").unwrap_or("");
-    let Some(port) = port_named(word) else {
-        return Err(ProgramFault::NotAPort(word));
-    };
-    let recording = Recording {
-        port,
-        raw: found.get_flag("raw"),
-        path: found.get_str("out").unwrap_or(""),
-    };
+    match port_named(word) {
+        Some(port) => Ok(port),
+        None => Err(ProgramFault::NotAPort(word)),
+    }
+}
+
+/// What is recorded of the port of --port: with --raw one MIDI stream, and else a file.
+fn one_port<'r>(found: &ArgMatches<'_>, port: PortAddr) -> Recorded<'r>
+    requires { Some port ≡ port_named (text_of (found_of found.now) (codes "port")) }
+    ensures { IsOnePortGiven (found_of found.now) result }
+{
+    if found.get_flag("raw") {
+        return Recorded::Stream(port);
+    }
+    Recorded::Port(port)
+}
+
+/// The words for the ticks and the tempos of a file of several ports.
+fn grid_of<'a>(found: &ArgMatches<'a>) -> GridWords<'a>
+    ensures { AreGridWords (found_of found.now) result }
+{
+    match found.get_str("like") {
+        Some(path) => GridWords::Like(path),
+        None => GridWords::Said {
+            ppq: found.get_str("ppq"),
+            bpm: found.get_str("bpm"),
+        },
+    }
+}
+
+/// Records a session so, and explains it and judges it as --explain and --strict say.
+fn record_as<'a, S: FileStore, N: Notes>(
+    alloc: Global,
+    store: &S,
+    found: &ArgMatches<'a>,
+    session: &Session<'a>,
+    recording: &Recording<'a, '_>,
+    notes: &mut N,
+) -> Result<Ended, ProgramFault<'a>>
+    requires { AreRising (owners session.now.scripts.items) }
+    ensures recorded { IfOk result (EndsRecorded S.IsOpened S.Reader.HasLeft S.CannotOpen S.Reader.failed
+        S.HasNames S.IsBegun S.Writer.HasTaken S.IsStored N.HasTold (found_of found.now)
+        session.now recording.now notes.old notes.new) }
+    ensures fault { IfErr result (λ e.
+        IsOfListing S.CannotList (option_map (λ d. d.now) session.now.dir) e
+        ⊎ IsRecordingStopped S.IsOpened S.Reader.HasLeft S.CannotOpen S.Reader.failed S.HasNames
+        S.AreOne S.IsBegun S.Writer.failed S.Writer.takes_some S.CannotBegin S.CannotStore
+        N.HasTold session.now recording.now notes.old notes.new e) }
+{
     let strict = found.get_flag("strict");
     let asked = found.get_flag("explain");
     let explains = is_explained(strict, asked);
-    let answer = program_tasks::record(alloc, store, &session, &recording, explains, notes)?;
+    let answer = program_tasks::record(alloc, store, session, recording, explains, notes)?;
     if strict {
         return Ok(Ended::Judged(answer));
     }

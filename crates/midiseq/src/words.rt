@@ -25,6 +25,9 @@ Examples:
       runs two scripts for a second, and prints the log of each client
   midiseq record --to-end --port 129:0 --out take.mid 128=keys.txt 129=synth.txt
       writes what came to port 0 of client 129 to the file take.mid
+  midiseq record --for 4s --ports 129:0,130:1 --out takes.mid 128=keys.txt \\
+      129=synth.txt 130=drums.txt
+      the same for two ports, each a track of the file takes.mid
   midiseq circle --for 1s --owner 129 128=keys.txt 129=synth.txt
       prints who can change what client 129 hears, and last `shut`, or `open`
 
@@ -128,12 +131,24 @@ file without messages. FILE is made or replaced when all else is done; until
 the new one is whole, what was there stays. It can be none of the scripts and
 none of the files of D that scripts may play. --explain and --strict do what
 they do of `midiseq run`.
-`cannot record` comes where more than 268,435,455 ticks lie between two
-messages, or the file would have more than 16,777,216 bytes.
 
-Example:
+With --ports in place of --port the file is of format 1: first a track of
+tempos, and then a track for each port of LIST, with its name, as 129:p0. Each
+message stands at the last tick that has come. --ppq says how many ticks a
+quarter note has, 1 to 32767, and --bpm how many quarter notes a minute has, 4
+to 60000000; a quarter note lasts 60000000 / N microseconds, rounded down. With
+--like the ticks and the tempos are those of the MIDI file SONG, which play
+from the beginning of the run.
+
+`cannot record` comes where more than 268,435,455 ticks lie between two
+messages of a track, or the file would have more than 16,777,216 bytes, or LIST
+has more than 65,534 ports.
+
+Examples:
   midiseq record --until 1000000000 --port 129:0 --out take.mid 128=keys.txt \\
-      129=synth.txt";
+      129=synth.txt
+  midiseq record --for 4s --ports 129:0,130:1 --ppq 96 --bpm 100 \\
+      --out takes.mid 128=keys.txt 129=synth.txt 130=drums.txt";
 
 const CIRCLE_HELP: &str = "\
 The scripts are read as by `midiseq run`, and nothing is run but by --session.
@@ -217,7 +232,7 @@ fn run<'a>(alloc: Global) -> Result<Command<'a>, AllocError> {
 
 fn record<'a>(alloc: Global) -> Result<Command<'a>, AllocError> {
     Command::new(alloc, "record")
-        .about("Runs the scripts of clients, and writes what comes to a port to a file")
+        .about("Runs the scripts of clients, and writes what comes to ports to a file")
         .after_help(RECORD_HELP)
         .arg(until(alloc)?)?
         .arg(time(alloc)?)?
@@ -225,8 +240,12 @@ fn record<'a>(alloc: Global) -> Result<Command<'a>, AllocError> {
         .arg(dir(alloc))?
         .arg(explain(alloc))?
         .arg(strict(alloc))?
-        .arg(raw(alloc))?
-        .arg(port(alloc))?
+        .arg(raw(alloc)?)?
+        .arg(port(alloc)?)?
+        .arg(ports(alloc)?)?
+        .arg(ppq(alloc)?)?
+        .arg(bpm(alloc)?)?
+        .arg(like(alloc)?)?
         .arg(out(alloc))?
         .arg(scripts(alloc))
 }
@@ -311,19 +330,63 @@ fn strict<'a>(alloc: Global) -> Arg<'a> {
         .help("the same, with status 3 where there is any")
 }
 
-fn raw<'a>(alloc: Global) -> Arg<'a> {
+fn raw<'a>(alloc: Global) -> Result<Arg<'a>, AllocError> {
     Arg::new(alloc, "raw")
         .long("raw")
         .action(ArgAction::SetTrue)
         .help("write one MIDI stream, and not a MIDI file")
+        .conflicts_with("ports")
 }
 
-fn port<'a>(alloc: Global) -> Arg<'a> {
+fn port<'a>(alloc: Global) -> Result<Arg<'a>, AllocError> {
     Arg::new(alloc, "port")
         .long("port")
-        .required(true)
         .value_name("CLIENT:N")
         .help("the port whose messages are recorded, as 129:0")
+        .required_unless_present("ports")
+}
+
+fn ports<'a>(alloc: Global) -> Result<Arg<'a>, AllocError> {
+    Arg::new(alloc, "ports")
+        .long("ports")
+        .value_name("LIST")
+        .help("or several ports, a track for each, as 129:0,130:1")
+        .conflicts_with("port")
+}
+
+/// The ticks per quarter note of a file of several ports.
+fn ppq<'a>(alloc: Global) -> Result<Arg<'a>, AllocError> {
+    Arg::new(alloc, "ppq")
+        .long("ppq")
+        .value_name("N")
+        .allow_negative_numbers(true)
+        .help("with --ports: ticks per quarter note, else 480")
+        .requires_arg("ports")?
+        .conflicts_with("port")
+}
+
+/// The tempo of a file of several ports.
+fn bpm<'a>(alloc: Global) -> Result<Arg<'a>, AllocError> {
+    Arg::new(alloc, "bpm")
+        .long("bpm")
+        .value_name("N")
+        .allow_negative_numbers(true)
+        .help("with --ports: quarter notes a minute, else 120")
+        .requires_arg("ports")?
+        .conflicts_with("port")
+}
+
+/// A file whose ticks and tempos a file of several ports has.
+// What is in conflict with --port excuses what is required, so that --port has to be named here, too.
+fn like<'a>(alloc: Global) -> Result<Arg<'a>, AllocError> {
+    Arg::new(alloc, "like")
+        .long("like")
+        .value_name("SONG")
+        .help("with --ports: ticks and tempos of this MIDI file")
+        .requires_arg("ports")?
+        .conflicts_with("port")?
+        .conflicts_with("ppq")?
+        .conflicts_with("bpm")
 }
 
 fn owner<'a>(alloc: Global) -> Arg<'a> {

@@ -14,6 +14,8 @@ pub mod Endless
 pub mod InSession
 pub mod PrintedLogs
 pub mod WordsTold
+pub mod PortsTold
+pub mod GridRead
 pub mod Lengths
 pub mod AllTaken
 pub mod Diagnosed

@@ -88,12 +88,12 @@ module _ {R : Type 0} (IsOpened : List ℕ → R → Type 0) (HasLeft : R → Li
     abbrev Why : ProgramFault → Type 0
     Why x = A x ⊎ (IsOfScripts IsOpened HasLeft CannotOpen failed words x ⊎ (IsOfRefusal IsOpened HasLeft folder end words recording x ⊎ B x))
 
-    why : (x : ProgramFault) → IsOfEvents recording.raw recording.port (happens folder end scripts) x → Why x
-    why CannotRecord h = inr (inr (inl (record { scripts = scripts; read = read; file = h.0; refused = h.1 })))
+    why : (x : ProgramFault) → IsOfEvents recording.what (happens folder end scripts) x → Why x
+    why CannotRecord h = inr (inr (inl (record { scripts = scripts; read = read; refused = h })))
     why OutOfMemory h = inr (inl tt)
     why _ h = absurd h
 
-    -- what came to the port makes no file
-    pub of_events : {T : Type 0} (r : Result T ProgramFault) (x : ProgramFault) → IsErrAnd r (λ e. e ≡ x) → IsOfEvents recording.raw recording.port (happens folder end scripts) x → IfErr r Why
+    -- what is recorded makes no file
+    pub of_events : {T : Type 0} (r : Result T ProgramFault) (x : ProgramFault) → IsErrAnd r (λ e. e ≡ x) → IsOfEvents recording.what (happens folder end scripts) x → IfErr r Why
     of_events (Ok v) x same h = tt
-    of_events (Err e) x same h = why e (subst (IsOfEvents recording.raw recording.port (happens folder end scripts)) (sym same) h)
+    of_events (Err e) x same h = why e (subst (IsOfEvents recording.what (happens folder end scripts)) (sym same) h)

@@ -1,6 +1,6 @@
 -- Definition: Why a session stops.
 use Rattle.std.specs.Prelude.{◌≡◌, ◌⊎◌, ℕ, Bool, true, false, List, Option, Some, codes, Contains, IsSome}
-use Rattle.node_table.specs.declared.number.PortAddr.{PortAddr}
+use Rattle.port_files.specs.Tracks.{ports_file}
 use Rattle.program_tasks.specs.Recording.{recording_ppq, recording_tempo, recording_of}
 use Rattle.seq_session.specs.declared.source.Script.{Script}
 use Rattle.seq_session.specs.Sessions.{FolderContents, happens}
@@ -8,8 +8,11 @@ use Rattle.seq_state.specs.declared.log.LogEntry.{LogEntry}
 use Rattle.program_tasks.specs.declared.words.ScriptWord.{ScriptWord}
 use Rattle.program_tasks.specs.Words.{scripts_seen}
 use Rattle.smf_files.specs.Refusals.{write_refusal}
+use Rattle.smf_grammar.specs.Written.{file_refusal}
 use Rattle.program_tasks.specs.declared.program_fault.ProgramFault.{ProgramFault}
 use Rattle.program_tasks.specs.declared.program_fault.ProgramFault.TheVariants.{OutOfMemory, CannotRead, CannotWrite, CannotRecord, OutIsRead}
+use Rattle.program_tasks.specs.declared.recording.Recorded.{Recorded}
+use Rattle.program_tasks.specs.declared.recording.Recorded.TheVariants.{Stream, Port, Ports}
 use Rattle.program_tasks.specs.declared.recording.Recording.{Recording}
 use Rattle.program_tasks.specs.Apart.{IsShared}
 use Rattle.program_tasks.specs.Opened.{AreOfFiles, IsBroken, IsUnreadable}
@@ -69,24 +72,29 @@ IsOfOutput reason _ = ⊥
 
 -- ---- what is recorded
 
--- what came to the port makes no file, or out of memory
-abbrev pub IsOfEvents : Bool → PortAddr → List LogEntry → ProgramFault → Type 0
-IsOfEvents raw port entries CannotRecord =
-    (raw ≡ false) × IsSome (write_refusal recording_ppq recording_tempo (recording_of port entries))
-IsOfEvents raw port entries OutOfMemory = Unit {0}
-IsOfEvents raw port entries _ = ⊥
+-- what is recorded makes no file: of one stream none is made
+abbrev pub IsNoFile : Recorded → List LogEntry → Type 0
+IsNoFile (Stream port) entries = ⊥
+IsNoFile (Port port) entries =
+    IsSome (write_refusal recording_ppq recording_tempo (recording_of port entries))
+IsNoFile (Ports ports clock) entries =
+    IsSome (file_refusal (ports_file clock.now ports.now entries))
 
--- The scripts were read from the files that the words name, and what came to the port in the run of
--- just these makes no file.
+-- what is recorded makes no file, or out of memory
+abbrev pub IsOfEvents : Recorded → List LogEntry → ProgramFault → Type 0
+IsOfEvents what entries CannotRecord = IsNoFile what entries
+IsOfEvents what entries OutOfMemory = Unit {0}
+IsOfEvents what entries _ = ⊥
+
+-- The scripts were read from the files that the words name, and what is recorded of the run of just
+-- these makes no file.
 pub record IsUnrecordable {R : Type 0} (IsOpened : List ℕ → R → Type 0)
     (HasLeft : R → List ℕ → Type 0)
     (folder : FolderContents) (end : ℕ) (words : List ScriptWord)
     (recording : Recording) : Type 0 where
   pub scripts : List Script
   pub read : AreOfFiles IsOpened HasLeft words scripts
-  pub file : recording.raw ≡ false
-  pub refused : IsSome (write_refusal recording_ppq recording_tempo
-      (recording_of recording.port (happens folder end scripts)))
+  pub refused : IsNoFile recording.what (happens folder end scripts)
 
 -- A file was begun for the path, and is stuck.
 pub record IsStuckDraft {W : Type 0} (IsBegun : List ℕ → W → Type 0) (failed takes_some : W → Bool)
@@ -116,7 +124,7 @@ IsOfSharing AreOne path words folder names (OutIsRead told) =
     (told.now ≡ path) × IsShared AreOne path words folder names
 IsOfSharing AreOne path words folder names _ = ⊥
 
--- what came to the port makes no file
+-- what is recorded makes no file
 abbrev pub IsOfRefusal : {R : Type 0} → (List ℕ → R → Type 0) → (R → List ℕ → Type 0) →
     FolderContents → ℕ → List ScriptWord → Recording → ProgramFault → Type 0
 IsOfRefusal IsOpened HasLeft folder end words recording CannotRecord =

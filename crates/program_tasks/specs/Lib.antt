@@ -14,5 +14,6 @@ pub mod Explained
 pub mod Circles
 pub mod Recorded
 pub mod Faults
+pub mod Grid
 pub mod Tasks
 pub mod Subcommands

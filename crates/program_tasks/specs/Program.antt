@@ -20,7 +20,7 @@ use Rattle.program_tasks.specs.declared.run_answer.RunAnswer.TheVariants.{Comple
 use Rattle.tool_text.specs.declared.fault.ToolFault.{ToolFault}
 use Rattle.tool_text.specs.declared.fault.ToolFault.TheVariants as tool
 use Rattle.program_tasks.specs.declared.program_fault.ProgramFault.{ProgramFault}
-use Rattle.program_tasks.specs.declared.program_fault.ProgramFault.TheVariants.{NotUtf8, NoSubcommand, NotAMoment, NotATime, NotAPort, NotAClient, NotAScript, TwoScripts, OutIsRead, GoesBack, CannotRead, CannotWrite, OutOfMemory, CannotRecord, Smf}
+use Rattle.program_tasks.specs.declared.program_fault.ProgramFault.TheVariants.{NotUtf8, NoSubcommand, NotAMoment, NotATime, NotAPort, NotPorts, NotAPpq, NotABpm, NotAClient, NotAScript, TwoScripts, OutIsRead, GoesBack, CannotRead, CannotWrite, OutOfMemory, CannotRecord, Smf}
 
 -- ---- the choice
 
@@ -62,6 +62,13 @@ program_fault_text (NotATime word) =
 program_fault_text (NotAPort word) =
     escaped_text word.now
     ++ codes " names no port (as 129:0: a client 128 to 191, and a port 0 to 15)"
+program_fault_text (NotPorts word) =
+    escaped_text word.now
+    ++ codes " names no ports (as 129:0,130:1: clients 128 to 191, each with a port 0 to 15)"
+program_fault_text (NotAPpq word) =
+    escaped_text word.now ++ codes " is no number of ticks per quarter note, 1 to 32767"
+program_fault_text (NotABpm word) =
+    escaped_text word.now ++ codes " is no number of quarter notes a minute, 4 to 60000000"
 program_fault_text (NotAClient word) = escaped_text word.now ++ codes " is no client 128 to 191"
 program_fault_text (NotAScript word) =
     escaped_text word.now
@@ -93,6 +100,9 @@ is_helped NoSubcommand = true
 is_helped (NotAMoment word) = true
 is_helped (NotATime word) = true
 is_helped (NotAPort word) = true
+is_helped (NotPorts word) = true
+is_helped (NotAPpq word) = true
+is_helped (NotABpm word) = true
 is_helped (NotAClient word) = true
 is_helped (NotAScript word) = true
 is_helped (TwoScripts client) = true
@@ -131,6 +141,9 @@ exit_status NoSubcommand = 2
 exit_status (NotAMoment word) = 2
 exit_status (NotATime word) = 2
 exit_status (NotAPort word) = 2
+exit_status (NotPorts word) = 2
+exit_status (NotAPpq word) = 2
+exit_status (NotABpm word) = 2
 exit_status (NotAClient word) = 2
 exit_status (NotAScript word) = 2
 exit_status (TwoScripts client) = 2

@@ -1,13 +1,16 @@
 -- Definition: What is written of a session.
-use Rattle.std.specs.Prelude.{ℕ, Bool, true, false, List}
+use Rattle.std.specs.Prelude.{ℕ, List}
 use Rattle.byte_io.specs.Moved.{Took}
-use Rattle.node_table.specs.declared.number.PortAddr.{PortAddr}
+use Rattle.port_files.specs.Tracks.{ports_file}
 use Rattle.program_tasks.specs.Recording.{recording_text}
 use Rattle.seq_session.specs.declared.source.Script.{Script}
 use Rattle.seq_session.specs.Sessions.{FolderContents, happens}
 use Rattle.seq_state.specs.declared.log.LogEntry.{LogEntry}
 use Rattle.seq_state.specs.Heard.{port_bytes}
+use Rattle.smf_grammar.specs.Written.{written_file}
 use Rattle.program_tasks.specs.declared.words.ScriptWord.{ScriptWord}
+use Rattle.program_tasks.specs.declared.recording.Recorded.{Recorded}
+use Rattle.program_tasks.specs.declared.recording.Recorded.TheVariants.{Stream, Port, Ports}
 use Rattle.program_tasks.specs.declared.recording.Recording.{Recording}
 use Rattle.program_tasks.specs.declared.explanation.Explanation.{Explanation}
 use Rattle.program_tasks.specs.Explained.{IsExplanationOf}
@@ -24,13 +27,15 @@ pub record IsFileWritten {W : Type 0} (IsBegun : List ℕ → W → Type 0)
   pub took : Took HasTaken begun bytes whole
   pub stored : IsStored path whole
 
--- what came to a port: as one MIDI stream, or as a Standard MIDI File
-abbrev pub recorded_text : Bool → PortAddr → List LogEntry → List ℕ
-recorded_text true port entries = port_bytes port entries
-recorded_text false port entries = recording_text port entries
+-- what came to a port as one MIDI stream or as a Standard MIDI File, or what came to several ports
+-- as a file with a track for each
+abbrev pub recorded_text : Recorded → List LogEntry → List ℕ
+recorded_text (Stream port) entries = port_bytes port entries
+recorded_text (Port port) entries = recording_text port entries
+recorded_text (Ports ports clock) entries = written_file (ports_file clock.now ports.now entries)
 
 -- The scripts were read from the files that the words name, and the file that is written has what
--- came to the port in the run of just these, whose explanation is given.
+-- is recorded of the run of just these, whose explanation is given.
 pub record IsSessionRecorded {R W : Type 0} (IsOpened : List ℕ → R → Type 0)
     (HasLeft : R → List ℕ → Type 0)
     (IsBegun : List ℕ → W → Type 0) (HasTaken : W → List ℕ → Type 0)
@@ -41,4 +46,4 @@ pub record IsSessionRecorded {R W : Type 0} (IsOpened : List ℕ → R → Type 
   pub read : AreOfFiles IsOpened HasLeft words scripts
   pub explained : IsExplanationOf folder end scripts x
   pub written : IsFileWritten IsBegun HasTaken IsStored recording.path.now
-      (recorded_text recording.raw recording.port (happens folder end scripts))
+      (recorded_text recording.what (happens folder end scripts))

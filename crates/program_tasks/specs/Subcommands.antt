@@ -83,8 +83,9 @@ module _ {R : Type 0} (IsOpened : List ℕ → R → Type 0) (HasLeft : R → Li
     pub are : AreFilesOf HasTold (option_map (λ d. d.now) session.dir) before after files
     pub why : IsOfTime IsOpened HasLeft files session.until session.scripts.items fault
 
-  -- The session was run, and what came to a port was written to a path; where it is asked for, what
-  -- the run did not do was told behind the files that are left out. The answer is that of all this.
+  -- The session was run, and what is recorded of it was written to a path; where it is asked for,
+  -- what the run did not do was told behind the files that are left out. The answer is that of all
+  -- this.
   pub record IsRunRecorded {W N : Type 0} (IsBegun : List ℕ → W → Type 0)
       (HasTaken : W → List ℕ → Type 0)
       (IsStored : List ℕ → W → Type 0) (HasTold : N → List ℕ → Type 0) (session : Session)

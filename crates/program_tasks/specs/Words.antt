@@ -1,13 +1,13 @@
 -- Definition: The words of the command line that name scripts and ports.
 use Rattle.std.specs.Prelude.{◌≡◌, ◌≤◌, ℕ, ◌==◌, nat_lt, Bool, false, if◌then◌else◌, List, [], ◌∷◌, ◌++◌, map, take, drop, length, Option, Some, None, Contains, count_by}
-use Rattle.std.specs.List.{before_first, after_first, position_or_len}
+use Rattle.std.specs.List.{before_first, after_first, position_or_len, slice_split}
 use Rattle.std.specs.Option.{option_map, option_and_then}
 use Rattle.std.specs.Str.{byte}
 use Rattle.node_table.specs.declared.number.PortAddr.{PortAddr}
 use Rattle.script_text.specs.Numbers.{both, client_number, node_number}
 use Rattle.program_tasks.specs.declared.words.ScriptWord.{ScriptWord}
 use Rattle.program_tasks.specs.declared.program_fault.ProgramFault.{ProgramFault}
-use Rattle.program_tasks.specs.declared.program_fault.ProgramFault.TheVariants.{OutOfMemory, NotAScript, TwoScripts}
+use Rattle.program_tasks.specs.declared.program_fault.ProgramFault.TheVariants.{OutOfMemory, NotPorts, NotAScript, TwoScripts}
 
 -- what stands before the first such byte of a word, and what stands after it
 abbrev pub parts_at : ℕ → List ℕ → Option (List ℕ × List ℕ)
@@ -26,6 +26,23 @@ port_named word =
     option_and_then
     (λ c. both (λ n p. record { client = n; port = p }) (client_number c.0) (node_number c.1))
     (parts_at (byte ":") word)
+
+-- ---- ports
+
+-- the ports that words name, if each of them names one
+abbrev pub each_port : List (List ℕ) → Option (List PortAddr)
+each_port [] = Some []
+each_port (w ∷ words) = both (λ port ports. port ∷ ports) (port_named w) (each_port words)
+
+-- ports with commas between, `CLIENT:N,CLIENT:N`: one or more
+abbrev pub ports_named : List ℕ → Option (List PortAddr)
+ports_named word = each_port (slice_split (λ b. b == byte ",") word)
+
+-- out of memory, or the word names no ports
+abbrev pub IsOfPorts : List ℕ → ProgramFault → Type 0
+IsOfPorts word OutOfMemory = Unit {0}
+IsOfPorts word (NotPorts told) = (told.now ≡ word) × (ports_named word ≡ None)
+IsOfPorts word _ = ⊥
 
 -- ---- all scripts
 

@@ -22,7 +22,7 @@ use seq_session::NamedFiles;
 use std::alloc::Global;
 
 /// One byte more than a Standard MIDI File may have.
-const MOST_READ: usize = 16_777_217;
+pub(crate) const MOST_READ: usize = 16_777_217;
 
 /// The files of a folder, as they were read.
 #[derive(Drop)]

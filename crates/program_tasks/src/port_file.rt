@@ -7,12 +7,13 @@ ghost use Rattle.smf_grammar.specs.Laws.{ReadsBack};
 ghost use Rattle.port_files.specs.Tracks.{is_recorded};
 ghost use Rattle.program_tasks.specs.Recording.{recording_ppq, recording_tempo, recording_clock, recording_text, recorded_event, recording_of};
 
+use crate::grid::one_tempo;
 use memory::OutOfMemory;
 use node_table::PortAddr;
 use seq_engine::{Delivery, LogEntry, RunLog};
 use smf_files::{Event, WriteFault, stands_in_files, write_format0};
 use std::alloc::Global;
-use tempo_clock::{MapFault, TempoEntry, TempoMap};
+use tempo_clock::TempoMap;
 
 /// Ticks per quarter note.
 const PPQ: u16 = 480;
@@ -36,27 +37,12 @@ pub fn record_file(alloc: Global, log: &RunLog, port: PortAddr) -> Result<Vec<u8
     ensures reads_back { let events = recording_of port log.now.entries in
         OnOk result (ReadsBack recording_ppq recording_tempo events) }
 {
-    let clock = clock(alloc)?;
+    let clock = one_tempo(alloc, u32::from(PPQ), TEMPO)?;
     let mut events = Vec::new(alloc);
     for entry in log.entries.as_slice() {
         add_event(&clock, &port, entry, &mut events)?;
     }
     write_format0(alloc, PPQ, TEMPO, events.as_slice())
-}
-
-/// One tempo from the beginning on.
-fn clock(alloc: Global) -> Result<TempoMap, OutOfMemory>
-    ensures { IfOk result (λ m. m ≡ recording_clock) }
-{
-    let entry = TempoEntry {
-        tick: 0,
-        tempo: TEMPO,
-    };
-    match TempoMap::new(alloc, u32::from(PPQ), &[entry]) {
-        Ok(clock) => Ok(clock),
-        Err(MapFault::OutOfMemory) => Err(OutOfMemory),
-        Err(MapFault::BadMap) => unreachable!(),
-    }
 }
 
 /// Adds the event of an entry, where it came to the port.

@@ -24,6 +24,12 @@ pub enum ProgramFault<'a> {
     NotATime(&'a str),
     /// The word names no port.
     NotAPort(&'a str),
+    /// The word names no ports with commas between.
+    NotPorts(&'a str),
+    /// The word is no number of ticks per quarter note.
+    NotAPpq(&'a str),
+    /// The word is no number of quarter notes a minute.
+    NotABpm(&'a str),
     /// The word names no client.
     NotAClient(&'a str),
     /// The word names no client with its script.
@@ -78,6 +84,9 @@ impl<'a> ProgramFault<'a> {
             | ProgramFault::NotAMoment(_)
             | ProgramFault::NotATime(_)
             | ProgramFault::NotAPort(_)
+            | ProgramFault::NotPorts(_)
+            | ProgramFault::NotAPpq(_)
+            | ProgramFault::NotABpm(_)
             | ProgramFault::NotAClient(_)
             | ProgramFault::NotAScript(_)
             | ProgramFault::TwoScripts(_)
@@ -101,6 +110,9 @@ impl<'a> ProgramFault<'a> {
                 | ProgramFault::NotAMoment(_)
                 | ProgramFault::NotATime(_)
                 | ProgramFault::NotAPort(_)
+                | ProgramFault::NotPorts(_)
+                | ProgramFault::NotAPpq(_)
+                | ProgramFault::NotABpm(_)
                 | ProgramFault::NotAClient(_)
                 | ProgramFault::NotAScript(_)
                 | ProgramFault::TwoScripts(_)
@@ -136,6 +148,27 @@ impl fmt::Display for ProgramFault<'_> {
                 write!(
                     f,
                     "{word} names no port (as 129:0: a client 128 to 191, and a port 0 to 15)"
+                )
+            }
+            ProgramFault::NotPorts(word) => {
+                let word = Escaped(word);
+                write!(
+                    f,
+                    "{word} names no ports (as 129:0,130:1: clients 128 to 191, each with a port 0 to 15)"
+                )
+            }
+            ProgramFault::NotAPpq(word) => {
+                let word = Escaped(word);
+                write!(
+                    f,
+                    "{word} is no number of ticks per quarter note, 1 to 32767"
+                )
+            }
+            ProgramFault::NotABpm(word) => {
+                let word = Escaped(word);
+                write!(
+                    f,
+                    "{word} is no number of quarter notes a minute, 4 to 60000000"
                 )
             }
             ProgramFault::NotAClient(word) => {

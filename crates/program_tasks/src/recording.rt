@@ -7,6 +7,9 @@ ghost use Rattle.seq_session.specs.Rising.{AreRising};
 ghost use Rattle.program_tasks.specs.Apart.{IsApart};
 ghost use Rattle.program_tasks.specs.Faults.{IsOfEvents, IsOfScripts, IsOfRefusal, IsOfSharing, IsOfWriting};
 ghost use Rattle.program_tasks.specs.Recorded.{recorded_text, IsSessionRecorded};
+ghost use Rattle.program_tasks.specs.Recording.{recording_text};
+ghost use Rattle.port_files.specs.Tracks.{ports_file};
+ghost use Rattle.smf_grammar.specs.Written.{written_file};
 ghost use Rattle.program_tasks.specs.Sessions.{owners};
 
 use crate::apart::is_apart;
@@ -20,32 +23,44 @@ use crate::session::Session;
 use crate::writing::write_file;
 use file_store::FileStore;
 use node_table::PortAddr;
+use port_files::record_ports;
 use seq_engine::RunLog;
 use seq_session::NamedFiles;
-use smf_files::WriteFault;
+use smf_files::{TracksFault, WriteFault};
 use std::alloc::Global;
+use tempo_clock::TempoMap;
+
+/// What is recorded of a session.
+#[derive(Clone, Copy, Debug)]
+pub enum Recorded<'r> {
+    /// The messages that came to a port, as one MIDI stream.
+    Stream(PortAddr),
+    /// A Standard MIDI File of format 0 of what came to a port.
+    Port(PortAddr),
+    /// A Standard MIDI File of format 1 with a track for each port, by the division and the tempos of a map.
+    Ports {
+        ports: &'r [PortAddr],
+        clock: &'r TempoMap,
+    },
+}
 
 /// What a session is recorded as.
-#[derive(Clone, Copy, Debug, PartialEq, Eq)]
-pub struct Recording<'a> {
-    /// The port whose messages are recorded.
-    pub port: PortAddr,
-    /// One MIDI stream, and no file.
-    pub raw: bool,
+#[derive(Clone, Copy, Debug)]
+pub struct Recording<'a, 'r> {
+    pub what: Recorded<'r>,
     /// The file that is written.
     pub path: &'a str,
 }
 
-/// Runs the scripts of a session, and writes what came to a port to a file: with `raw` as one MIDI stream, and else as
-/// a Standard MIDI File. What stands at the path stays until all else is done; it is no file that the session reads.
-/// It gives what the run did not do.
+/// Runs the scripts of a session, and writes what is recorded of it to a file. What stands at the path stays until all
+/// else is done; it is no file that the session reads. It gives what the run did not do.
 pub fn record_session<'a, S: FileStore>(
     alloc: Global,
     store: &S,
     session: &Session<'a>,
     folder: &Folder,
     files: &NamedFiles<'_, '_>,
-    recording: &Recording<'a>,
+    recording: &Recording<'a, '_>,
 ) -> Result<Explanation, ProgramFault<'a>>
     requires rising { AreRising (owners session.now.scripts.items) }
     ensures recorded { IfOk result (IsSessionRecorded S.IsOpened S.Reader.HasLeft S.IsBegun
@@ -71,27 +86,57 @@ pub fn record_session<'a, S: FileStore>(
     }
     let run = run_session(alloc, store, session, files)?;
     let explanation = Explanation::of_run(alloc, &run)?;
-    let bytes = recorded(alloc, &run.log, recording.port, recording.raw)?;
+    let bytes = recorded_bytes(alloc, &run.log, &recording.what)?;
     write_file(alloc, store, recording.path, bytes.as_slice())?;
     Ok(explanation)
 }
 
-/// What came to a port: with `raw` as one MIDI stream, and else as a Standard MIDI File.
-pub fn recorded(
+/// What is recorded of a run.
+pub fn recorded_bytes(
+    alloc: Global,
+    log: &RunLog,
+    what: &Recorded<'_>,
+) -> Result<Vec<u8>, ProgramFault<'static>>
+    ensures text { IfOk result (λ bytes. bytes.items ≡ recorded_text what.now log.now.entries) }
+    ensures fault { IfErr result (IsOfEvents what.now log.now.entries) }
+{
+    match what {
+        Recorded::Stream(port) => Ok(log.port_bytes(*port)?),
+        Recorded::Port(port) => recorded_port(alloc, log, *port),
+        Recorded::Ports { ports, clock } => recorded_ports(alloc, log, ports, clock),
+    }
+}
+
+/// What came to a port, as a Standard MIDI File.
+fn recorded_port(
     alloc: Global,
     log: &RunLog,
     port: PortAddr,
-    raw: bool,
 ) -> Result<Vec<u8>, ProgramFault<'static>>
-    ensures text { IfOk result (λ bytes. bytes.items ≡ recorded_text raw port log.now.entries) }
-    ensures fault { IfErr result (IsOfEvents raw port log.now.entries) }
+    ensures text { IfOk result (λ file. file.items ≡ recording_text port log.now.entries) }
+    ensures fault { IfErr result (IsOfEvents (Recorded.Port port) log.now.entries) }
 {
-    if raw {
-        return Ok(log.port_bytes(port)?);
-    }
     match record_file(alloc, log, port) {
-        Ok(bytes) => Ok(bytes),
+        Ok(file) => Ok(file),
         Err(WriteFault::OutOfMemory) => Err(ProgramFault::OutOfMemory),
+        Err(_) => Err(ProgramFault::CannotRecord),
+    }
+}
+
+/// What came to several ports, as a Standard MIDI File with a track for each.
+fn recorded_ports(
+    alloc: Global,
+    log: &RunLog,
+    ports: &[PortAddr],
+    clock: &TempoMap,
+) -> Result<Vec<u8>, ProgramFault<'static>>
+    ensures text { IfOk result (λ file.
+        file.items ≡ written_file (ports_file clock.now ports.now log.now.entries)) }
+    ensures fault { IfErr result (IsOfEvents (Recorded.Ports ports.entry clock.entry) log.now.entries) }
+{
+    match record_ports(alloc, clock, ports, log.entries.as_slice()) {
+        Ok(file) => Ok(file),
+        Err(TracksFault::OutOfMemory) => Err(ProgramFault::OutOfMemory),
         Err(_) => Err(ProgramFault::CannotRecord),
     }
 }

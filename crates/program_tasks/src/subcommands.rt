@@ -112,15 +112,15 @@ pub fn circle<'a, S: FileStore, W: Sink, N: Notes>(
     print_circle(alloc, store, session, &named(&opened), question, out)
 }
 
-/// Runs the scripts of a session, and writes what came to a port to a file, once all else is done. It gives whether the
-/// run was complete, and where `explains` says so it tells, as `explain` does, what it did not do.
+/// Runs the scripts of a session, and writes what is recorded of it to a file, once all else is done. It gives whether
+/// the run was complete, and where `explains` says so it tells, as `explain` does, what it did not do.
 ///
 /// Tells first which files of the folder are left out.
 pub fn record<'a, S: FileStore, N: Notes>(
     alloc: Global,
     store: &S,
     session: &Session<'a>,
-    recording: &Recording<'a>,
+    recording: &Recording<'a, '_>,
     explains: bool,
     notes: &mut N,
 ) -> Result<RunAnswer, ProgramFault<'a>>

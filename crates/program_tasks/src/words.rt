@@ -4,7 +4,7 @@ ghost use Rattle.std.specs.Prelude.{◌≡◌, ◌≤◌, List, Some, IfSome, If
 ghost use Rattle.std.specs.List.{position_or_len};
 ghost use Rattle.std.specs.Option.{option_map};
 ghost use Rattle.script_text.specs.Numbers as says;
-ghost use Rattle.program_tasks.specs.Words.{port_named, script_named, scripts_named, with_script, put_at, with_word, seen_script, scripts_seen, IsOfWords, IsOfWord, IsOfScript};
+ghost use Rattle.program_tasks.specs.Words.{port_named, ports_named, IsOfPorts, script_named, scripts_named, with_script, put_at, with_word, seen_script, scripts_seen, IsOfWords, IsOfWord, IsOfScript};
 
 use crate::program_fault::ProgramFault;
 use node_table::{ClientId, PortAddr};
@@ -40,6 +40,21 @@ pub fn port_named(word: &str) -> Option<PortAddr>
     let client = client_of(client.as_bytes())?;
     let port = port_of(port.as_bytes())?;
     Some(PortAddr { client, port })
+}
+
+/// The ports that a word names, one or more, with commas between.
+pub fn ports_named<'a>(alloc: Global, word: &'a str) -> Result<Vec<PortAddr>, ProgramFault<'a>>
+    ensures ports { IfOk result (λ v. Some v.items ≡ ports_named word.now) }
+    ensures refused { IfErr result (IsOfPorts word.now) }
+{
+    let mut ports = Vec::new(alloc);
+    for part in word.split(',') {
+        let Some(port) = port_named(part) else {
+            return Err(ProgramFault::NotPorts(word));
+        };
+        ports.push(port)?;
+    }
+    Ok(ports)
 }
 
 impl<'a> ScriptWord<'a> {

@@ -12,7 +12,7 @@ returns-clause-recorded g c =
       read = run.read;
       explained = c.in_ok-explanation.ensures c.args.files.now c.args.session.now.until run.scripts run.is;
       written = subst (IsFileWritten g.S.FileStore.IsBegun g.S.Writer.Sink.HasTaken g.S.FileStore.IsStored c.args.recording.now.path.now)
-          (c.as_slice-2.ensures.value ∙ c.in_ok-bytes.ensures.text ∙ ap (recorded_text c.args.recording.now.raw c.args.recording.now.port) run.is.plain) c.in_ok-write_file.ensures.written;
+          (c.as_slice-2.ensures.value ∙ c.in_ok-bytes.ensures.text ∙ ap (recorded_text c.args.recording.now.what) run.is.plain) c.in_ok-write_file.ensures.written;
     }
 
 pub returns-in_err-bytes-clause-fault : goal.returns-in_err-bytes-clause-fault
@@ -20,4 +20,4 @@ returns-in_err-bytes-clause-fault g c =
     let run = c.in_ok-run.ensures.run in
     of_events g.S.FileStore.IsOpened g.S.Reader.Source.HasLeft g.S.FileStore.CannotOpen g.S.Reader.Source.failed c.args.files.now c.args.session.now.until c.args.session.now.scripts.items c.args.recording.now run.scripts run.read
     _ _ c.from_residual-in_err-bytes.result c.in_err-bytes.field-0.0 c.from_residual-in_err-bytes.ensures.1
-    (subst (λ entries. IsOfEvents c.args.recording.now.raw c.args.recording.now.port entries c.in_err-bytes.field-0.0) run.is.plain c.in_err-bytes.ensures.fault)
+    (subst (λ entries. IsOfEvents c.args.recording.now.what entries c.in_err-bytes.field-0.0) run.is.plain c.in_err-bytes.ensures.fault)
