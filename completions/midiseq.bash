@@ -42,13 +42,17 @@ _midiseq() {
             _midiseq_files "$word"
             return
             ;;
-        --until | --for | --port | --owner) return ;;
+        --like)
+            _midiseq_files "$word" .mid .MID .midi
+            return
+            ;;
+        --until | --for | --port | --ports | --ppq | --bpm | --owner) return ;;
     esac
     case $sub in
         run | record | circle)
             if [[ $word == -* ]]; then
                 local options='--until --for --to-end --dir --list --explain --strict --help'
-                [[ $sub == record ]] && options='--until --for --to-end --dir --explain --strict --raw --port --out --help'
+                [[ $sub == record ]] && options='--until --for --to-end --dir --explain --strict --raw --port --ports --ppq --bpm --like --out --help'
                 [[ $sub == circle ]] && options='--until --for --to-end --dir --owner --session --help'
                 mapfile -t COMPREPLY < <(compgen -W "$options" -- "$word")
             elif [[ $word == *=* ]]; then
