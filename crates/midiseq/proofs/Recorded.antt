@@ -1,5 +1,5 @@
 -- A session that was recorded, or was not, as words say it.
-use Rattle.std.proofs.Common.{◌≡◌, ◌⊎◌, ℕ, Bool, List, Option, Result, Ok, Err, inr}
+use Rattle.std.proofs.Common.{◌⊎◌, ℕ, Bool, List, Result, Ok, Err, inr}
 use Rattle.std.specs.Prelude.{IfErr, IfOk}
 use Rattle.std.specs.Option.{option_map}
 use Rattle.clap.specs.declared.parser.matches.Found.{Found}

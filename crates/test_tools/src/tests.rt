@@ -5,6 +5,7 @@ mod circles_of_scripts;
 mod dump;
 mod failing_devices;
 mod faults;
+mod grids;
 mod recording;
 mod sessions;
 mod streams;

@@ -15,7 +15,7 @@ use std::process::Abort;
 use std::test::Fail;
 
 /// The file whose reads fail.
-const BROKEN: &str = "broken.txt";
+pub(super) const BROKEN: &str = "broken.txt";
 
 fn source(alloc: Global, path: &str, bytes: &[u8]) -> Result<MemSource, DeviceFault>
     ensures { IfOk result (λ s. s.broken ≡ false) }
@@ -30,9 +30,9 @@ fn source(alloc: Global, path: &str, bytes: &[u8]) -> Result<MemSource, DeviceFa
 
 /// Files in memory, which are only read, by their paths.
 #[derive(Drop)]
-struct MemFiles {
-    alloc: Global,
-    files: &'static [(&'static str, &'static [u8])],
+pub(super) struct MemFiles {
+    pub(super) alloc: Global,
+    pub(super) files: &'static [(&'static str, &'static [u8])],
 }
 
 impl FileStore for MemFiles {

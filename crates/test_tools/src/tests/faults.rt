@@ -65,6 +65,22 @@ fn tells_of_sessions(rt: HostRuntime) -> Result<(), Fail> {
             2,
         ),
         (
+            ProgramFault::NotPorts("129:0,"),
+            "midiseq: 129:0, names no ports (as 129:0,130:1: clients 128 to 191, each with a port 0 to 15); \
+                see midiseq --help",
+            2,
+        ),
+        (
+            ProgramFault::NotAPpq("32768"),
+            "midiseq: 32768 is no number of ticks per quarter note, 1 to 32767; see midiseq --help",
+            2,
+        ),
+        (
+            ProgramFault::NotABpm("3"),
+            "midiseq: 3 is no number of quarter notes a minute, 4 to 60000000; see midiseq --help",
+            2,
+        ),
+        (
             ProgramFault::NotAClient("127"),
             "midiseq: 127 is no client 128 to 191; see midiseq --help",
             2,

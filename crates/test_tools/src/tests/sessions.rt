@@ -7,7 +7,7 @@ use memory::OutOfMemory;
 use node_table::{ClientId, PortAddr, PortNo};
 use program_tasks::{
     EndWord, FolderFiles, ProgramFault, ScriptWord, client_named, midi_files, open_files,
-    port_named, print_logs, scripts_named, taken_files, time_named, until_named,
+    port_named, ports_named, print_logs, scripts_named, taken_files, time_named, until_named,
 };
 use std::alloc::Global;
 use std::process::Abort;
@@ -91,6 +91,45 @@ fn reads_ports(rt: HostRuntime) -> Result<(), Fail> {
         assert!(rt; port_named(word) == None, "at {word}");
     }
     Ok(())
+}
+
+/// Words that name ports, and the numbers of the clients and the ports.
+const PORTS: &[(&str, &[(u8, u8)])] = &[
+    ("129:0", &[(129, 0)]),
+    ("129:0,130:1", &[(129, 0), (130, 1)]),
+    ("191:15,0128:007,191:15", &[(191, 15), (128, 7), (191, 15)]),
+];
+
+#[test]
+fn reads_lists_of_ports(rt: HostRuntime) -> Result<(), Fail> {
+    for (word, numbers) in PORTS {
+        let ports = ports_named(rt.alloc(), word).ok().ok_or("ports")?;
+        assert!(rt; ports.len() == numbers.len(), "at {word}");
+        for (port, (client, number)) in ports.iter().zip(numbers.iter()) {
+            assert!(rt; port.client.number() == *client, "at {word}");
+            assert!(rt; port.port.number() == *number, "at {word}");
+        }
+    }
+    Ok(())
+}
+
+#[test]
+fn tells_what_is_no_list_of_ports(rt: HostRuntime) {
+    for word in [
+        "",
+        ",",
+        "129:0,",
+        ",129:0",
+        "129:0,,130:1",
+        "129:0, 130:1",
+        "129:0;130:1",
+        "129:0,130:16",
+        "127:0,130:1",
+        "129,130",
+    ] {
+        let fault = ports_named(rt.alloc(), word).err();
+        assert!(rt; fault == Some(ProgramFault::NotPorts(word)), "at {word}");
+    }
 }
 
 #[test]
