@@ -160,9 +160,9 @@ fn record_as<'a, S: FileStore, N: Notes>(
     notes: &mut N,
 ) -> Result<Ended, ProgramFault<'a>>
     requires { AreRising (owners session.now.scripts.items) }
-    ensures recorded { IfOk result (EndsRecorded S.IsOpened S.Reader.HasLeft S.CannotOpen S.Reader.failed
-        S.HasNames S.IsBegun S.Writer.HasTaken S.IsStored N.HasTold (found_of found.now)
-        session.now recording.now notes.old notes.new) }
+    ensures recorded { IfOk result (EndsRecorded S.IsOpened S.Reader.HasLeft S.CannotOpen
+        S.Reader.failed S.HasNames S.IsBegun S.Writer.HasTaken S.IsStored N.HasTold
+        (found_of found.now) session.now recording.now notes.old notes.new) }
     ensures fault { IfErr result (λ e.
         IsOfListing S.CannotList (option_map (λ d. d.now) session.now.dir) e
         ⊎ IsRecordingStopped S.IsOpened S.Reader.HasLeft S.CannotOpen S.Reader.failed S.HasNames

@@ -343,7 +343,7 @@ fn port<'a>(alloc: Global) -> Result<Arg<'a>, AllocError> {
         .long("port")
         .value_name("CLIENT:N")
         .help("the port whose messages are recorded, as 129:0")
-        .required_unless_present_any(&["ports", "ppq", "bpm", "like"])
+        .required_unless_present("ports")
 }
 
 fn ports<'a>(alloc: Global) -> Result<Arg<'a>, AllocError> {

@@ -132,7 +132,8 @@ fn recorded_ports(
 ) -> Result<Vec<u8>, ProgramFault<'static>>
     ensures text { IfOk result (λ file.
         file.items ≡ written_file (ports_file clock.now ports.now log.now.entries)) }
-    ensures fault { IfErr result (IsOfEvents (Recorded.Ports ports.entry clock.entry) log.now.entries) }
+    ensures fault { IfErr result
+        (IsOfEvents (Recorded.Ports ports.entry clock.entry) log.now.entries) }
 {
     match record_ports(alloc, clock, ports, log.entries.as_slice()) {
         Ok(file) => Ok(file),
