@@ -77,8 +77,8 @@ pub(crate) fn run<'a, S: FileStore, W: Sink, N: Notes>(
     Ok(Ended::Done)
 }
 
-/// Runs the scripts, and writes what came to a port, or to several, to a file, once all else is done. With --explain and
-/// --strict it tells what the run did not do, and with --strict whether that is nothing.
+/// Runs the scripts, and writes what came to a port, or to several, to a file, once all else is done. With --explain
+/// and --strict it tells what the run did not do, and with --strict whether that is nothing.
 pub(crate) fn record<'a, S: FileStore, N: Notes>(
     alloc: Global,
     store: &S,

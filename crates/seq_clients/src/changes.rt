@@ -312,7 +312,8 @@ impl Clients {
         self.rows.offer(client, arrival)
     }
 
-    /// Lets the client listen: what comes to its input pool is taken at once. What waits still waits. It takes no memory.
+    /// Lets the client listen: what comes to its input pool is taken at once. What waits still waits. It takes no
+    /// memory.
     pub fn listen(&mut self, client: ClientId)
         ensures { let pool = with_listening (get self.old.pools client) in
             self.new ≡ with_pool self.old client pool }

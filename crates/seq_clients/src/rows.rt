@@ -84,8 +84,8 @@ impl RowTable {
         }
     }
 
-    /// Counts as lost what finds no room in the input pool of a client that may be there, where so many messages come at
-    /// a moment.
+    /// Counts as lost what finds no room in the input pool of a client that may be there, where so many messages come
+    /// at a moment.
     pub(crate) fn lose_beyond(&mut self, client: ClientId, moment: u64, copies: u64)
         ensures { let lost = with_pool_changed (after_losses_of moment copies) in
             self.new ≡ with_entry self.old client (option_map lost (map.get self.old client)) }

@@ -37,8 +37,8 @@ with_arrivals moment xs p None = record p { waiting = p.waiting ++ xs }
 with_arrivals moment xs p (Some l) =
     record p { listening = Some (so_many_more moment (length xs) l) }
 
--- a pool after copies were offered to it at a moment: the first for which it has room are taken, the
--- others are lost
+-- a pool after copies were offered to it at a moment: the first for which it has room are taken,
+-- the others are lost
 abbrev pub after_all : ℕ → ClientPool → ℕ → List Delivery → ClientPool
 after_all moment p room ds =
     after_losses (length ds - room)

@@ -1,4 +1,5 @@
--- Definition: The lines of scripts that did nothing: skipped ones, and ones whose commands were refused.
+-- Definition: The lines of scripts that did nothing: skipped ones, and ones whose commands were
+-- refused.
 use Rattle.std.specs.Prelude.{ℕ, zero, suc, ◌==◌, if◌then◌else◌, List, [], ◌∷◌, ◌++◌, map, Option, Some, None, slice_get}
 use Rattle.std.specs.List.{flat_map}
 use Rattle.std.specs.Option.{option_and_then}

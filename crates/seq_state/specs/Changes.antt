@@ -213,8 +213,8 @@ ReceiveLaw =
     × ((command_step files s moment actor (Receive max)).reply ≡ Received given)
     × Taken before after max given
 
--- after a Listen that is not refused the client listens, and after an Unlisten no longer; what waits,
--- what was lost and the size stay
+-- after a Listen that is not refused the client listens, and after an Unlisten no longer; what
+-- waits, what was lost and the size stay
 pub record ListenLaw : Type 0 where
   pub listens :
       (files : List PlayedFile) (s : State) (moment actor : ℕ) (before : ClientPool) →

@@ -92,8 +92,8 @@ fn assert_recorded(rt: &impl Abort, alloc: Global, recording: &Recording) -> Res
     Ok(())
 }
 
-/// Client 129 sends a note and a clock to one port of client 128, and a note on another channel to the other, 10,416,667
-/// nanoseconds later. It ends the first a second after it began.
+/// Client 129 sends a note and a clock to one port of client 128, and a note on another channel to the other,
+/// 10,416,667 nanoseconds later. It ends the first a second after it began.
 const TWO_PORTS: [&str; 2] = [
     "0 open b 8 8\n0 port 0 in 66\n0 port 1 in 66\n",
     "0 open a 8 8\n0 port 0 out 33\n0 port 1 out 33\n0 connect 129:p0 128:p0\n0 connect 129:p1 128:p1\n\
