@@ -1,7 +1,7 @@
 //! What waits to be read.
 
-ghost use Rattle.std.specs.Prelude.{◌≡◌, ◌↔◌, ◌≤◌, ◌<◌, ◌^◌, length, IfOk, OnOk, OnErr, IsErrOf, false};
-ghost use Rattle.cell_pools.specs.Pools.{most_waiting, is_size, empty_pool, taken_at, has_room, is_listening, listening_on, not_listening, after_offer, after_losses_of, oldest_items, after_take};
+ghost use Rattle.std.specs.Prelude.{◌≡◌, ◌↔◌, ◌≤◌, ◌<◌, ◌^◌, length, IfOk, OnOk, OnErr, IsErrOf, true, false, if◌then◌else◌};
+ghost use Rattle.cell_pools.specs.Pools.{most_waiting, is_size, empty_pool, taken_at, has_room, is_listening, listening_on, not_listening, with_item, after_offer, after_losses_of, oldest_items, after_take};
 
 use crate::fault::PoolFault;
 use crate::listening::Listening;
@@ -99,15 +99,30 @@ impl<T> InPool<T> {
         ensures taken { result ≡ has_room moment self.old }
         ensures after { self.new ≡ after_offer moment self.old item }
     {
-        let most = self.size();
-        let taken = match &mut self.listening {
-            Some(listening) => listening.take(moment, most),
-            None => self.items.try_push_back(item).is_ok(),
+        let taken = if self.listening.is_some() {
+            self.hear(moment)
+        } else {
+            self.items.try_push_back(item).is_ok()
         };
         if !taken {
             self.lost = self.lost.saturating_add(1);
         }
         taken
+    }
+
+    // Apart, so that an offer to a pool that does not listen is small enough to be inlined.
+    #[inline(never)]
+    fn hear(&mut self, moment: u64) -> bool
+        requires listens { is_listening self.old ≡ true }
+        ensures taken { result ≡ has_room moment self.old }
+        ensures after { (x : T) → let heard = with_item moment x self.old self.old.listening in
+            self.new ≡ (if has_room moment self.old then heard else self.old) }
+    {
+        let most = self.size();
+        match &mut self.listening {
+            Some(listening) => listening.take(moment, most),
+            None => false,
+        }
     }
 
     /// Whether an item that comes at this moment would find room.
