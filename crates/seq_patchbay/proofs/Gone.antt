@@ -1,7 +1,7 @@
 -- What goes with a node, or with a client, and what stays of others.
-use Rattle.std.proofs.Common.{◌≡◌, ℕ, Bool, true, false, eqb, cond, List, [], ◌∷◌, map, length, Option, refl, sym, ap, ◌∙◌, arith}
+use Rattle.std.proofs.Common.{◌≡◌, ℕ, Bool, true, false, eqb, cond, List, [], ◌∷◌, map, length, Option, Some, None, refl, sym, ap, subst, ◌∙◌, arith}
 use Rattle.std.proofs.lemmas.Bool.Decides.{nat_tests}
-use Rattle.std.specs.Prelude.{not, ◌||◌, ◌<◌}
+use Rattle.std.specs.Prelude.{not, ◌||◌, ◌<◌, IfSome, slice_get}
 use Rattle.std.specs.List.{filter, list_any}
 use Rattle.std.specs.Ordering.{nat_cmp}
 use Rattle.std.specs.FinMap.{FinMap}
@@ -19,7 +19,8 @@ use Rattle.seq_state.specs.State.{Client, with_entry}
 use Rattle.seq_sending.specs.Changes.{AgreeBut}
 use Rattle.seq_sending.proofs.Agreeing.{agree-trans}
 use Rattle.seq_patchbay.specs.Network.{Network}
-use Rattle.seq_patchbay.proofs.Changed.{but-client, not-source}
+use Rattle.seq_sending.proofs.Edged.{not-source}
+use Rattle.seq_patchbay.proofs.Changed.{but-client}
 
 -- ---- the targets of others
 
@@ -54,7 +55,7 @@ module _ (gone ending : Edge → Bool) (a : Addr) (apart : (e : Edge) → same a
 pub but-node-gone : (was now : FinMap nat_cmp Client) (edges : List Edge) (node : Addr) (o : Option Client) → now ≡ with_entry was node.client o → list_any (λ e. same node e.target) edges ≡ false →
     AgreeBut node.client was now edges (filter (λ e. not (touches node e)) edges)
 but-node-gone was now edges node o is none =
-    agree-trans (λ c. c ≡ node.client → ⊥) was now now edges edges (filter (λ e. not (touches node e)) edges) (but-client was now edges node.client o is) (record {
+    agree-trans (λ c. c ≡ node.client → ⊥) (λ a. a.client ≡ node.client → ⊥) was now now edges edges (filter (λ e. not (touches node e)) edges) (but-client was now edges node.client o is) (record {
       filters = λ c apart. refl;
       targets = λ a apart. targets-kept (touches node) (λ e. same node e.target) a (λ e from away.
           ap (λ b. b || same node e.target) (not-source node e.source (λ s. apart (ap (λ (x : Addr). x.client) (same-is a e.source from) ∙ sym s))) ∙ away) edges none;
@@ -63,7 +64,7 @@ but-node-gone was now edges node o is none =
 pub but-client-gone : (was now : FinMap nat_cmp Client) (edges : List Edge) (client : ℕ) (o : Option Client) → now ≡ with_entry was client o → list_any (ends_at_client client) edges ≡ false →
     AgreeBut client was now edges (filter (λ e. not (touches_client client e)) edges)
 but-client-gone was now edges client o is none =
-    agree-trans (λ c. c ≡ client → ⊥) was now now edges edges (filter (λ e. not (touches_client client e)) edges) (but-client was now edges client o is) (record {
+    agree-trans (λ c. c ≡ client → ⊥) (λ a. a.client ≡ client → ⊥) was now now edges edges (filter (λ e. not (touches_client client e)) edges) (but-client was now edges client o is) (record {
       filters = λ c apart. refl;
       targets = λ a apart. targets-kept (touches_client client) (ends_at_client client) a (λ e from away.
           ap (λ b. b || eqb e.target.client client) (refuted (eqb e.source.client client) (λ s. apart (ap (λ (x : Addr). x.client) (same-is a e.source from) ∙ eqb-true e.source.client client s))) ∙ away) edges none;
@@ -83,6 +84,12 @@ none-into (e ∷ es) a none = by (same a e.target) none (λ n. none-into es a n)
         (b || list_any (λ x. same a x.target) es) ≡ false
     by true n more = absurd (no-cons e.source (map (λ (x : Edge). x.source) (filter (λ x. same a x.target) es)) n)
     by false n more = more n
+
+-- the place that is known of the node from which the edge came
+pub known-there : (edges : List Edge) (node source : Addr) (known : Option (Addr × ℕ)) (place : Option ℕ) → IfSome place (λ i. known ≡ Some (source, i)) →
+    IfSome known (λ k. slice_get (targets_of edges k.0) k.1 ≡ Some node) → IfSome place (λ i. slice_get (targets_of edges source) i ≡ Some node)
+known-there edges node source known None is there = tt
+known-there edges node source known (Some i) is there = subst (λ o. IfSome o (λ k. slice_get (targets_of edges k.0) k.1 ≡ Some node)) is there
 
 pub into-length : (old new : List Edge) (e : Edge) → new ≡ without_edge old e.source e.target → has_edge old e.source e.target ≡ true → length new < length old
 into-length old new e is there = loses_length e.source old new (e, there, ap (λ b. b || same e.source e.target) (same-refl e.source), is)

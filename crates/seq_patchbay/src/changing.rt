@@ -54,8 +54,9 @@ impl Patchbay {
         ensures ok { OnOk result (self.new.graph ≡ self.old.graph ++ edge source target ∷ []) }
         ensures err { OnErr result (self.new ≡ self.old) }
     {
-        self.ways.forget_client(source.client);
-        self.graph.add(source, target)
+        self.graph.add(source, target)?;
+        self.ways.join(&self.clients, &self.graph, &source, &target);
+        Ok(())
     }
 
     /// Ends a subscription that may be there. It takes no memory.
@@ -63,8 +64,8 @@ impl Patchbay {
         ensures clients { self.new.clients ≡ self.old.clients }
         ensures graph { self.new.graph ≡ without_edge self.old.graph source.now target.now }
     {
-        let client = source.client;
-        self.ways.forget_client(client);
+        let place = self.ways.place_among(&self.graph, source, target);
         self.graph.disconnect(source, target);
+        self.ways.part(&self.graph, source, target, place);
     }
 }

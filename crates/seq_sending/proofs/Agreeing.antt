@@ -1,7 +1,7 @@
 -- Ways stay the same, where all that they hang on does.
-use Rattle.std.proofs.Common.{◌≡◌, if◌then◌else◌, ℕ, zero, suc, ◌+◌, ◌-◌, Bool, true, false, eqb, ◌||◌, List, [], ◌∷◌, ◌++◌, Some, refl, sym, ap, subst, ◌∙◌, inl, inr, arith}
+use Rattle.std.proofs.Common.{◌≡◌, if◌then◌else◌, ℕ, zero, suc, ◌+◌, ◌-◌, Bool, true, false, eqb, ◌||◌, List, [], ◌∷◌, ◌++◌, length, Some, refl, sym, ap, subst, ◌∙◌, arith}
 use Rattle.std.specs.Option.{option_to_list}
-use Rattle.std.specs.List.{AllByRecursion, flat_map}
+use Rattle.std.specs.List.{AllByRecursion, flat_map, remove}
 use Rattle.std.specs.Ordering.{nat_cmp}
 use Rattle.std.specs.FinMap
 use Rattle.std.specs.FinMap.{FinMap}
@@ -16,30 +16,22 @@ use Rattle.patch_graph.specs.declared.edge.Edge.{Edge}
 use Rattle.seq_state.specs.declared.log.Delivery.{Delivery}
 use Rattle.seq_state.specs.State.{Client}
 use Rattle.seq_state.specs.Copies.{filter_at, passed_by, copy}
-use Rattle.seq_sending.specs.Carrying.{of_some, copies_by, copies_onward}
-use Rattle.seq_sending.specs.Changes.{AgreeOn, HangOn}
-use Rattle.seq_sending.specs.Reach.{is_among, LeadWithin, LeadsWithin, MayLeadThrough}
-use Rattle.seq_sending.specs.Table.{AreWaysBy}
-use Rattle.seq_sending.specs.Ways.{copies_on, copies_along, AreWays, PartsFrom, PartFrom}
-use Rattle.seq_sending.specs.declared.reach.Through.{Through}
+use Rattle.seq_sending.specs.Carrying.{of_some, copies_by, copies_to, copies_onward}
+use Rattle.seq_sending.specs.Changes.{AgreeOn, AgreeOnFilters}
+use Rattle.seq_sending.specs.Reach.{is_among, LeadWithin, LeadsWithin}
+use Rattle.seq_sending.specs.Table.{AreWaysThrough}
+use Rattle.seq_sending.specs.Ways.{copies_on, copies_along, IsWay, AreWays, AreWaysTo, PartsFrom}
 use Rattle.seq_sending.specs.declared.ways.Way.{Way}
 use Rattle.seq_sending.specs.declared.ways.Way.TheVariants.{Straight, Filtered, Parting, Nowhere}
-use Rattle.seq_sending.proofs.Onward.{of-same}
+use Rattle.seq_sending.proofs.Onward.{of-same, ways-all}
 
 -- ---- agreement
 
-pub agree-refl : (P : ℕ → Type 0) (clients : FinMap nat_cmp Client) (edges : List Edge) → AgreeOn P clients clients edges edges
-agree-refl P clients edges = record { filters = λ c p. refl; targets = λ a p. refl }
+pub agree-refl : (P : ℕ → Type 0) (N : Addr → Type 0) (clients : FinMap nat_cmp Client) (edges : List Edge) → AgreeOn P N clients clients edges edges
+agree-refl P N clients edges = record { filters = λ c p. refl; targets = λ a p. refl }
 
-pub agree-with : (P Q : ℕ → Type 0) (clients others : FinMap nat_cmp Client) (edges other_edges : List Edge) → ((c : ℕ) → P c → Q c) →
-    AgreeOn Q clients others edges other_edges → AgreeOn P clients others edges other_edges
-agree-with P Q clients others edges other_edges more agree = record {
-  filters = λ c p. agree.filters c (more c p);
-  targets = λ a p. agree.targets a (more a.client p);
-}
-
-pub agree-trans : (P : ℕ → Type 0) (a b c : FinMap nat_cmp Client) (es fs gs : List Edge) → AgreeOn P a b es fs → AgreeOn P b c fs gs → AgreeOn P a c es gs
-agree-trans P a b c es fs gs first next = record {
+pub agree-trans : (P : ℕ → Type 0) (N : Addr → Type 0) (a b c : FinMap nat_cmp Client) (es fs gs : List Edge) → AgreeOn P N a b es fs → AgreeOn P N b c fs gs → AgreeOn P N a c es gs
+agree-trans P N a b c es fs gs first next = record {
   filters = λ x p. first.filters x p ∙ next.filters x p;
   targets = λ x p. first.targets x p ∙ next.targets x p;
 }
@@ -122,10 +114,21 @@ within-each P edges nodes within = within
 
 -- ---- from node to node
 
-module _ (P : ℕ → Type 0) (clients others : FinMap nat_cmp Client) (edges other_edges : List Edge) (agree : AgreeOn P clients others edges other_edges) where
+module _ (P : ℕ → Type 0) (clients others : FinMap nat_cmp Client) (edges other_edges : List Edge) (agree : AgreeOnFilters P clients others edges other_edges) where
   filter-agrees : (c : ℕ) (node : Node) → P c → filter_at clients c node ≡ filter_at others c node
   filter-agrees c (Port n) p = refl
   filter-agrees c (Filter n) p = ap (λ fs. FinMap.get fs n) (agree.filters c p)
+
+  leads-agrees : (n : ℕ) → ((nodes : List Addr) → LeadWithin P edges n nodes → LeadWithin P other_edges n nodes) → (a : Addr) → LeadsWithin P edges n a → LeadsWithin P other_edges n a
+  leads-agrees n further a within e =
+      let w = within e in
+      (w.0, subst (LeadWithin P other_edges n) (agree.targets a (e, w.0)) (further (targets_of edges a) w.1))
+
+  within-agrees : (n : ℕ) (nodes : List Addr) → LeadWithin P edges n nodes → LeadWithin P other_edges n nodes
+  unfolding LeadWithin
+  within-agrees zero nodes within = within
+  within-agrees (suc n) nodes within =
+      all-map (LeadsWithin P edges n) (LeadsWithin P other_edges n) (leads-agrees n (λ ts w. within-agrees n ts w)) nodes within
 
   module _ (moment : ℕ) where
     to-agrees : (n : ℕ) (f g : List Addr → List ℕ → List Delivery) → ((ts : List Addr) (m : List ℕ) → LeadWithin P edges n ts → f ts m ≡ g ts m) → (message : List ℕ) (node : Addr) →
@@ -146,7 +149,7 @@ module _ (P : ℕ → Type 0) (clients others : FinMap nat_cmp Client) (edges ot
             let w = within e in
             ap (λ o. of_some (f (targets_of edges node)) (passed_by o message)) (filter-agrees node.client node.node w.0)
             ∙ of-same (f (targets_of edges node)) (g (targets_of other_edges node))
-            (λ m. further (targets_of edges node) m w.1 ∙ ap (λ ts. g ts m) (agree.targets node w.0)) (passed_by (filter_at others node.client node.node) message)
+            (λ m. further (targets_of edges node) m w.1 ∙ ap (λ ts. g ts m) (agree.targets node (e, w.0))) (passed_by (filter_at others node.client node.node) message)
         by false e = refl
 
     onward-agrees : (n : ℕ) (nodes : List Addr) (message : List ℕ) → LeadWithin P edges n nodes →
@@ -158,45 +161,99 @@ module _ (P : ℕ → Type 0) (clients others : FinMap nat_cmp Client) (edges ot
         (λ node w. to-agrees n (λ ts m. copies_onward clients edges moment n ts m) (λ ts m. copies_onward others other_edges moment n ts m) (λ ts m v. onward-agrees n ts m v) message node w)
         nodes within
 
+    node-agrees : (node : Addr) (message : List ℕ) → LeadsWithin P edges (hops - 1) node →
+        copies_to clients edges moment (hops - 1) node message ≡ copies_to others other_edges moment (hops - 1) node message
+    node-agrees node message within =
+        to-agrees (hops - 1) (λ ts m. copies_onward clients edges moment (hops - 1) ts m) (λ ts m. copies_onward others other_edges moment (hops - 1) ts m)
+        (λ ts m v. onward-agrees (hops - 1) ts m v) message node within
+
     way-agrees : (node : Addr) (message : List ℕ) (way : Way) → PartsFrom node way → LeadsWithin P edges (hops - 1) node →
         copies_on clients edges moment message way ≡ copies_on others other_edges moment message way
     way-agrees node message (Straight end) parts within = refl
     way-agrees node message (Filtered rule end) parts within = refl
-    way-agrees node message (Parting from) parts within =
-        to-agrees (hops - 1) (λ ts m. copies_onward clients edges moment (hops - 1) ts m) (λ ts m. copies_onward others other_edges moment (hops - 1) ts m)
-        (λ ts m v. onward-agrees (hops - 1) ts m v) message from (subst (LeadsWithin P edges (hops - 1)) (sym parts) within)
+    way-agrees node message (Parting from) parts within = node-agrees from message (subst (LeadsWithin P edges (hops - 1)) (sym parts) within)
     way-agrees node message Nowhere parts within = refl
 
-    along-agrees : (nodes : List Addr) (ways : List Way) (message : List ℕ) → PartFrom nodes ways → AllByRecursion (LeadsWithin P edges (hops - 1)) nodes →
-        copies_along clients edges moment ways message ≡ copies_along others other_edges moment ways message
-    along-agrees [] [] message parts within = refl
-    along-agrees [] (way ∷ ways) message parts within = absurd parts
-    along-agrees (node ∷ nodes) [] message parts within = absurd parts
-    along-agrees (node ∷ nodes) (way ∷ ways) message parts within =
-        ap (λ ds. ds ++ copies_along clients edges moment ways message) (way-agrees node message way parts.0 within.0)
-        ∙ ap (λ ds. copies_on others other_edges moment message way ++ ds) (along-agrees nodes ways message parts.1 within.1)
+  to-each : (nodes : List Addr) (ways : List Way) → AreWaysTo clients edges nodes ways → AllByRecursion (LeadsWithin P edges (hops - 1)) nodes → AreWaysTo others other_edges nodes ways
+  to-each [] [] each within = record {}
+  to-each [] (way ∷ ways) each within = absurd each
+  to-each (node ∷ nodes) [] each within = absurd each
+  to-each (node ∷ nodes) (way ∷ ways) each within = (
+    (
+      (λ moment message is.
+          sym (way-agrees moment node message way each.0.1 within.0) ∙ each.0.0 moment message is ∙ node-agrees moment node message within.0),
+      each.0.1,
+    ),
+    to-each nodes ways each.1 within.1,
+  )
+
+  -- the ways to nodes stay the ways to them
+  pub through-agrees : (nodes : List Addr) (ways : List Way) → AreWaysThrough P clients edges nodes ways → AreWaysThrough P others other_edges nodes ways
+  through-agrees nodes ways are = record {
+    each = to-each nodes ways are.each (within-each P edges nodes are.within);
+    within = within-agrees hops nodes are.within;
+  }
 
 -- ---- ways
 
--- ways that are found are those that hang on these clients alone
-pub ways-by : (clients : FinMap nat_cmp Client) (edges : List Edge) (source : Addr) (ways : List Way) (through : Through) →
-    AreWays clients edges (targets_of edges source) ways → PartFrom (targets_of edges source) ways → LeadWithin (MayLeadThrough through) edges hops (targets_of edges source) →
-    AreWaysBy (HangOn source.client through) clients edges source ways
-ways-by clients edges source ways through are parts within others other_edges agree moment message is =
-    let ts = targets_of edges source in
-    let P : ℕ → Type 0 = MayLeadThrough through in
-    let on : AgreeOn P clients others edges other_edges = agree-with P (HangOn source.client through) clients others edges other_edges (λ c p. inr p) agree in
-    sym (along-agrees P clients others edges other_edges on moment ts ways message parts (within-each P edges ts within))
-    ∙ are moment message is
-    ∙ onward-agrees P clients others edges other_edges on moment hops ts message within
-    ∙ ap (λ ns. copies_onward others other_edges moment hops ns message) (agree.targets source (inl refl))
-
-pub ways-now : (P : ℕ → Type 0) (clients : FinMap nat_cmp Client) (edges : List Edge) (source : Addr) (ways : List Way) → AreWaysBy P clients edges source ways → AreWays clients edges (targets_of edges source) ways
-ways-now P clients edges source ways by = by clients edges (agree-refl P clients edges)
+-- what comes by the ways to all the nodes
+pub ways-are : (clients : FinMap nat_cmp Client) (edges : List Edge) (nodes : List Addr) (ways : List Way) → AreWaysTo clients edges nodes ways → AreWays clients edges nodes ways
+ways-are clients edges nodes ways each moment message is = go nodes ways each ∙ ways-all clients edges moment nodes message
+  where
+    go : (nodes : List Addr) (ways : List Way) → AreWaysTo clients edges nodes ways → copies_along clients edges moment ways message ≡ flat_map (λ node. copies_to clients edges moment (hops - 1) node message) nodes
+    go [] [] each = refl
+    go [] (way ∷ ways) each = absurd each
+    go (node ∷ nodes) [] each = absurd each
+    go (node ∷ nodes) (way ∷ ways) each =
+        ap (λ ds. ds ++ copies_along clients edges moment ways message) (each.0.0 moment message is)
+        ∙ ap (λ ds. copies_to clients edges moment (hops - 1) node message ++ ds) (go nodes ways each.1)
 
 -- a way more, and the node that it leads to
-pub parts-more : (nodes : List Addr) (ways : List Way) (node : Addr) (way : Way) → PartFrom nodes ways → PartsFrom node way → PartFrom (nodes ++ node ∷ []) (ways ++ way ∷ [])
-parts-more [] [] node way all its = (its, all)
-parts-more [] (w ∷ ways) node way all its = absurd all
-parts-more (n ∷ nodes) [] node way all its = absurd all
-parts-more (n ∷ nodes) (w ∷ ways) node way all its = (all.0, parts-more nodes ways node way all.1 its)
+pub ways-one-more : (clients : FinMap nat_cmp Client) (edges : List Edge) (nodes : List Addr) (ways : List Way) (node : Addr) (way : Way) → AreWaysTo clients edges nodes ways → IsWay clients edges node way →
+    PartsFrom node way → AreWaysTo clients edges (nodes ++ node ∷ []) (ways ++ way ∷ [])
+ways-one-more clients edges [] [] node way each is parts = ((is, parts), each)
+ways-one-more clients edges [] (w ∷ ways) node way each is parts = absurd each
+ways-one-more clients edges (n ∷ nodes) [] node way each is parts = absurd each
+ways-one-more clients edges (n ∷ nodes) (w ∷ ways) node way each is parts = (each.0, ways-one-more clients edges nodes ways node way each.1 is parts)
+
+pub ways-count : (clients : FinMap nat_cmp Client) (edges : List Edge) (nodes : List Addr) (ways : List Way) → AreWaysTo clients edges nodes ways → length ways ≡ length nodes
+ways-count clients edges [] [] each = refl
+ways-count clients edges [] (w ∷ ways) each = absurd each
+ways-count clients edges (n ∷ nodes) [] each = absurd each
+ways-count clients edges (n ∷ nodes) (w ∷ ways) each = ap suc (ways-count clients edges nodes ways each.1)
+
+-- a way less, and its node
+ways-removed : (clients : FinMap nat_cmp Client) (edges : List Edge) (nodes : List Addr) (ways : List Way) (i : ℕ) → AreWaysTo clients edges nodes ways → AreWaysTo clients edges (remove nodes i) (remove ways i)
+ways-removed clients edges [] [] zero each = each
+ways-removed clients edges [] [] (suc i) each = each
+ways-removed clients edges [] (w ∷ ways) i each = absurd each
+ways-removed clients edges (n ∷ nodes) [] i each = absurd each
+ways-removed clients edges (n ∷ nodes) (w ∷ ways) zero each = each.1
+ways-removed clients edges (n ∷ nodes) (w ∷ ways) (suc i) each = (each.0, ways-removed clients edges nodes ways i each.1)
+
+all-removed : {X : Type 0} (Q : X → Type 0) (xs : List X) (i : ℕ) → AllByRecursion Q xs → AllByRecursion Q (remove xs i)
+all-removed Q [] zero all = all
+all-removed Q [] (suc i) all = all
+all-removed Q (x ∷ xs) zero all = all.1
+all-removed Q (x ∷ xs) (suc i) all = (all.0, all-removed Q xs i all.1)
+
+within-removed : (P : ℕ → Type 0) (edges : List Edge) (nodes : List Addr) (i : ℕ) → LeadWithin P edges hops nodes → LeadWithin P edges hops (remove nodes i)
+unfolding LeadWithin hops
+within-removed P edges nodes i within = all-removed (LeadsWithin P edges (hops - 1)) nodes i within
+
+pub through-removed : (P : ℕ → Type 0) (clients : FinMap nat_cmp Client) (edges : List Edge) (nodes : List Addr) (ways : List Way) (i : ℕ) → AreWaysThrough P clients edges nodes ways →
+    AreWaysThrough P clients edges (remove nodes i) (remove ways i)
+through-removed P clients edges nodes ways i are = record {
+  each = ways-removed clients edges nodes ways i are.each;
+  within = within-removed P edges nodes i are.within;
+}
+
+-- one node more, to which the ways may lead through filters of more clients
+pub through-one-more : (P Q : ℕ → Type 0) (clients : FinMap nat_cmp Client) (edges : List Edge) (nodes : List Addr) (ways more_ways : List Way) (node : Addr) → ((c : ℕ) → P c → Q c) →
+    AreWaysThrough P clients edges nodes ways → (AreWaysTo clients edges nodes ways → AreWaysTo clients edges (nodes ++ node ∷ []) more_ways) → LeadsWithin Q edges (hops - 1) node →
+    AreWaysThrough Q clients edges (nodes ++ node ∷ []) more_ways
+unfolding hops
+through-one-more P Q clients edges nodes ways more_ways node more are each its = record {
+  each = each are.each;
+  within = within-one-more Q edges (hops - 1) nodes node (within-more P Q more edges hops nodes are.within) its;
+}

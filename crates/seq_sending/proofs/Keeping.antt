@@ -14,10 +14,9 @@ use Rattle.seq_state.specs.State.{Client, PortInfo, Queue, filters_of, with_entr
 use Rattle.seq_state.specs.Effect.{with_change, put_port, put_queue}
 use Rattle.seq_state.proofs.Effects.{get-put}
 use Rattle.seq_clients.specs.Roster.{Roster, with_client}
-use Rattle.seq_sending.specs.Changes.{AgreeOn, HangOn}
 use Rattle.seq_sending.specs.Table.{AreWaysKept}
 use Rattle.seq_sending.specs.declared.table.WayTable.{WayTable}
-use Rattle.seq_sending.proofs.Agreeing.{agree-trans}
+use Rattle.seq_sending.proofs.Known.{slot-moved}
 use Rattle.seq_sending.proofs.Onward.{SameFilters, number-same}
 
 -- ways are kept, where one client has another entry with the same filters
@@ -35,13 +34,8 @@ kept-with was now edges table actor o is same kept =
     let filters = entry-same was.clients actor o same in
     subst (λ cs. AreWaysKept cs edges table) (sym is) (record {
       rows = kept.rows;
-      ways = λ place found e. record {
-        before = (kept.ways place found e).before;
-        ways = λ a row at current x y on.
-            let P : ℕ → Type 0 = HangOn a.client found.through in
-            let same_on : AgreeOn P was.clients after edges edges = record { filters = λ c p. filters c; targets = λ b p. refl } in
-            (kept.ways place found e).ways a row at current x y (agree-trans P was.clients after x edges edges y same_on on);
-      };
+      ways = λ place.
+          slot-moved was.clients after edges edges table.changes place _ (λ P. record { filters = λ c p. filters c; targets = λ b p. refl }) (λ a row at. refl) (kept.ways place);
       counts = λ i k e a place at message its. record {
         rows = (kept.counts i k e a place at message its).rows;
         each = λ row low. (kept.counts i k e a place at message its).each row low ∙ number-same was.clients after filters edges (first_client + row) hops (targets_of edges a) message;

@@ -13,24 +13,25 @@ use Rattle.patch_graph.specs.declared.edge.Edge.{Edge}
 use Rattle.patch_graph.proofs.Same.{place-is}
 use Rattle.seq_state.specs.State.{Client}
 use Rattle.seq_sending.specs.KeptCounts.{AreClassCounts, AreCountsKept}
-use Rattle.seq_sending.specs.Changes.{AgreeBut, HangOn, IsCurrent, last_change}
-use Rattle.seq_sending.specs.Table.{IsWayFound, AreWaysFound, AreEarlier, AreWaysBy}
+use Rattle.seq_sending.specs.Changes.{AgreeBut, AgreeOnFilters, IsCurrent, last_change}
+use Rattle.seq_sending.specs.Reach.{MayLeadThrough}
+use Rattle.seq_sending.specs.Table.{IsWayFound, IsSlotFound, AreWaysFound, AreEarlier, AreWaysThrough}
 use Rattle.seq_sending.specs.Ways.{AreWays}
 use Rattle.seq_sending.specs.declared.kept_counts.KeptCount.{KeptCount}
 use Rattle.seq_sending.specs.declared.changes.Changes.{Changes}
 use Rattle.seq_sending.specs.declared.reach.Through.{Through}
 use Rattle.seq_sending.specs.declared.reach.Through.TheVariants.{These, Anyone}
 use Rattle.seq_sending.specs.declared.table.Found.{Found}
-use Rattle.seq_sending.proofs.Agreeing.{agree-trans, agree-with, ways-now}
+use Rattle.seq_sending.proofs.Agreeing.{through-agrees, ways-are}
 
-some-is : {X : Type 0} (x y : X) → ◌≡◌ {A = Option X} (Some x) (Some y) → x ≡ y
+pub some-is : {X : Type 0} (x y : X) → ◌≡◌ {A = Option X} (Some x) (Some y) → x ≡ y
 some-is x y e = cc
 
 none-some : {X : Type 0} (x : X) → ◌≡◌ {A = Option X} None (Some x) → ⊥
 none-some x e = cc
 
 -- past no end it does not matter what would stand there
-within : {X : Type 0} (xs : List X) (i : ℕ) (d e : X) → i < length xs → get_or xs i d ≡ get_or xs i e
+pub within : {X : Type 0} (xs : List X) (i : ℕ) (d e : X) → i < length xs → get_or xs i d ≡ get_or xs i e
 within [] i d e l = absurd (omega arith)
 within (x ∷ xs) zero d e l = refl
 within (x ∷ xs) (suc i) d e l = within xs i d e (omega arith)
@@ -41,32 +42,56 @@ at-place places place x d there e some = within places place None d (ltb-true pl
 module _ (clients : FinMap nat_cmp Client) (edges : List Edge) (changes : Changes) where
   pub found-is : (places : List (Option Found)) (source : Addr) (row place : ℕ) (found : Found) → AreWaysFound clients edges changes places → IsPlace source row place →
       get_or places place None ≡ Some found → IsCurrent changes found.at source.client found.through → AreWays clients edges (targets_of edges source) found.ways
-  found-is places source row place found kept at e current =
-      ways-now (HangOn source.client found.through) clients edges source found.ways ((kept place found e).ways source row at current)
+  found-is places source row place found kept at e current = ways-are clients edges (targets_of edges source) found.ways ((kept place found e).ways source row at current).each
 
   pub found-same : (new old : List (Option Found)) → ReadsAs None new old → AreWaysFound clients edges changes old → AreWaysFound clients edges changes new
   found-same new old same kept place found e = kept place found (sym (same place) ∙ e)
 
-  pub found-set : (places : List (Option Found)) (source : Addr) (row place : ℕ) (found : Found) → IsPlace source row place → place < length places → found.at ≤ changes.count →
-      AreWaysBy (HangOn source.client found.through) clients edges source found.ways →
-      AreWaysFound clients edges changes places → AreWaysFound clients edges changes (set places place (Some found))
-  found-set places source row place found at within before are kept p others e = elim (cases_eq p place) [
+  -- what is known of the ways from one address is known at its place
+  pub slot-is : (source : Addr) (row place : ℕ) (found : Found) → IsPlace source row place → found.at ≤ changes.count →
+      (IsCurrent changes found.at source.client found.through → AreWaysThrough (MayLeadThrough found.through) clients edges (targets_of edges source) found.ways) → IsWayFound clients edges changes place found
+  slot-is source row place found at before are = record {
+    before = before;
+    ways = λ a r here current.
+        let same = place-is a source r row place here at in
+        subst (λ x. AreWaysThrough (MayLeadThrough found.through) clients edges (targets_of edges x) found.ways) (sym same)
+        (are (subst (λ x. IsCurrent changes found.at x.client found.through) same current));
+  }
+
+  pub slot-set : (places : List (Option Found)) (place : ℕ) (slot : Option Found) → place < length places → IsSlotFound clients edges changes place slot →
+      ((p : ℕ) → (p ≡ place → ⊥) → IsSlotFound clients edges changes p (get_or places p None)) → AreWaysFound clients edges changes (set places place slot)
+  slot-set places place slot within its others p = elim (cases_eq p place) [
     | inl same ↦
-        let its : found ≡ others = some-is found others
-        (sym (get_or-set_same places place (Some found) None within) ∙ ap (λ n. get_or (set places place (Some found)) n None) (sym same) ∙ e) in
-        subst (IsWayFound clients edges changes p) its (record {
-          before = before;
-          ways = λ a r k _. subst (λ x. AreWaysBy (HangOn x.client found.through) clients edges x found.ways) (sym (place-is a source r row place (subst (IsPlace a r) same k) at)) are;
-        })
-    | inr apart ↦ kept p others (sym (get_or-set_other places place p (Some found) None apart) ∙ e)
+        subst (IsSlotFound clients edges changes p) (sym (get_or-set_same places place slot None within) ∙ ap (λ n. get_or (set places place slot) n None) (sym same))
+        (subst (λ n. IsSlotFound clients edges changes n slot) (sym same) its)
+    | inr apart ↦ subst (IsSlotFound clients edges changes p) (sym (get_or-set_other places place p slot None apart)) (others p apart)
   ]
 
+  pub found-set : (places : List (Option Found)) (source : Addr) (row place : ℕ) (found : Found) → IsPlace source row place → place < length places → found.at ≤ changes.count →
+      AreWaysThrough (MayLeadThrough found.through) clients edges (targets_of edges source) found.ways →
+      AreWaysFound clients edges changes places → AreWaysFound clients edges changes (set places place (Some found))
+  found-set places source row place found at within before are kept =
+      slot-set places place (Some found) within
+      (λ other e. subst (IsWayFound clients edges changes place) (some-is found other e) (slot-is source row place found at before (λ _. are)))
+      (λ p apart. kept p)
+
+  pub slot-none : (place : ℕ) → IsSlotFound clients edges changes place None
+  slot-none place found e = absurd (none-some found e)
+
   pub found-none : (places : List (Option Found)) (place : ℕ) → place < length places → AreWaysFound clients edges changes places → AreWaysFound clients edges changes (set places place None)
-  found-none places place within kept p found e = elim (cases_eq p place) [
-    | inl same ↦
-        absurd (none-some found (sym (get_or-set_same places place None None within) ∙ ap (λ n. get_or (set places place None) n None) (sym same) ∙ e))
-    | inr apart ↦ kept p found (sym (get_or-set_other places place p None None apart) ∙ e)
-  ]
+  found-none places place within kept = slot-set places place None within (slot-none place) (λ p apart. kept p)
+
+-- a place stays known where all filters and what leaves the address of that place stay
+pub slot-moved : (clients others : FinMap nat_cmp Client) (edges other_edges : List Edge) (changes : Changes) (place : ℕ) (slot : Option Found) →
+    ((P : ℕ → Type 0) → AgreeOnFilters P clients others edges other_edges) → ((a : Addr) (row : ℕ) → IsPlace a row place → targets_of edges a ≡ targets_of other_edges a) →
+    IsSlotFound clients edges changes place slot → IsSlotFound others other_edges changes place slot
+slot-moved clients others edges other_edges changes place slot agree leaves kept found e = record {
+  before = (kept found e).before;
+  ways = λ a row at current.
+      let P : ℕ → Type 0 = MayLeadThrough found.through in
+      subst (λ ts. AreWaysThrough P others other_edges ts found.ways) (leaves a row at)
+      (through-agrees P clients others edges other_edges (agree P) (targets_of edges a) found.ways ((kept found e).ways a row at current));
+}
 
 -- ---- after a change
 
@@ -83,21 +108,18 @@ unchanged-other was now client row change at is within set_is later c old = elim
       ((λ same. apart (omega (arith, same, is))), omega (arith, e))
 ]
 
--- what is current after the change was so before, and hangs on no change of the client
+-- what is current after the change was so before, and is of no port of the client, nor leads through its filters
 current-before : (was now : Changes) (client row change at port : ℕ) (through : Through) → client ≡ first_client + row → row < length was.last → now.last ≡ set was.last row change → now.count ≡ change → at < change →
-    IsCurrent now at port through → IsCurrent was at port through × ((c : ℕ) → HangOn port through c → c ≡ client → ⊥)
+    IsCurrent now at port through → IsCurrent was at port through × (port ≡ client → ⊥) × ((c : ℕ) → MayLeadThrough through c → c ≡ client → ⊥)
 current-before was now client row change at port Anyone is within set_is count later current = absurd (omega (arith, current.others, count))
 current-before was now client row change at port (These clients) is within set_is count later current = (
   record {
     own = (unchanged-other was now client row change at is within set_is later port current.own).1;
     others = λ c among. (unchanged-other was now client row change at is within set_is later c (current.others c among)).1;
   },
-  hang,
+  (unchanged-other was now client row change at is within set_is later port current.own).0,
+  (λ c among. (unchanged-other was now client row change at is within set_is later c (current.others c among)).0),
 )
-  where
-    hang : (c : ℕ) → HangOn port (These clients) c → c ≡ client → ⊥
-    hang c (inl same) = (unchanged-other was now client row change at is within set_is later c (subst (λ x. last_change now x ≤ at) (sym same) current.own)).0
-    hang c (inr among) = (unchanged-other was now client row change at is within set_is later c (current.others c among)).0
 
 pub found-after : (was now : Changes) (client row change : ℕ) (clients others : FinMap nat_cmp Client) (edges other_edges : List Edge) (places : List (Option Found)) →
     client ≡ first_client + row → row < length was.last → now.last ≡ set was.last row change → now.count ≡ change → AreEarlier change places →
@@ -106,11 +128,12 @@ found-after was now client row change clients others edges other_edges places is
     let later = earlier place found e in
     record {
       before = omega (arith, later, count);
-      ways = λ a r at current x y on.
-          let P : ℕ → Type 0 = HangOn a.client found.through in
+      ways = λ a r at current.
+          let P : ℕ → Type 0 = MayLeadThrough found.through in
           let both = current-before was now client row change found.at a.client found.through is within set_is count later current in
-          (kept place found e).ways a r at both.0 x y
-          (agree-trans P clients others x edges other_edges y (agree-with P (λ c. c ≡ client → ⊥) clients others edges other_edges both.1 agree) on);
+          let on : AgreeOnFilters P clients others edges other_edges = record { filters = λ c p. agree.filters c (both.2 c p); targets = λ b p. agree.targets b (both.2 b.client p.1) } in
+          subst (λ ts. AreWaysThrough P others other_edges ts found.ways) (agree.targets a both.1)
+          (through-agrees P clients others edges other_edges on (targets_of edges a) found.ways ((kept place found e).ways a r at both.0));
     }
 
 -- after a change of everybody nothing is known

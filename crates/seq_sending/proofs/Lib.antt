@@ -1,6 +1,8 @@
 pub mod Sent
 pub mod Onward
+pub mod Edged
 pub mod Known
+pub mod Joined
 pub mod Agreeing
 pub mod Keeping
 pub mod OneMoment

@@ -1,6 +1,6 @@
 -- What comes behind a node, along one edge more.
-use Rattle.std.proofs.Common.{◌≡◌, ℕ, zero, suc, ◌+◌, ◌*◌, List, Option, Some, None, refl, ap, ◌∙◌, arith, add-one}
-use Rattle.std.specs.Prelude.{Result, Ok, Err, OnOk, IfOk}
+use Rattle.std.proofs.Common.{◌≡◌, ℕ, zero, suc, ◌+◌, ◌*◌, true, List, Option, Some, None, refl, ap, ◌∙◌, arith, add-one}
+use Rattle.std.specs.Prelude.{Result, Ok, Err, OnOk, IfOk, is_ok}
 use Rattle.std.specs.Ordering.{nat_cmp}
 use Rattle.std.specs.FinMap.{FinMap}
 use Rattle.node_table.specs.declared.number.Addr.{Addr}
@@ -16,6 +16,10 @@ use Rattle.seq_sending.proofs.Totals.{sum_by-none}
 pub on-ok : {T E : Type 0} (r : Result T E) (P Q : Type 0) → (P → Q) → OnOk r P → OnOk r Q
 on-ok (Ok x) P Q f p = f p
 on-ok (Err e) P Q f p = tt
+
+pub where-is-ok : {T E : Type 0} (r : Result T E) (P : Type 0) → is_ok r ≡ true → OnOk r P → P
+where-is-ok (Ok x) P e p = p
+where-is-ok (Err x) P e p = cc
 
 pub if-ok : {T E : Type 0} (r : Result T E) (P Q : T → Type 0) → ((x : T) → P x → Q x) → IfOk r P → IfOk r Q
 if-ok (Ok x) P Q f p = f x p

@@ -6,22 +6,23 @@ use Rattle.node_table.specs.Kept.{IsPlace}
 use Rattle.node_table.specs.Numbers.{most_clients}
 use Rattle.node_table.specs.declared.number.Addr.{Addr}
 use Rattle.patch_graph.specs.Index.{targets_of}
+use Rattle.patch_graph.specs.Paths.{hops}
 use Rattle.patch_graph.specs.declared.edge.Edge.{Edge}
 use Rattle.seq_state.specs.State.{Client}
-use Rattle.seq_sending.specs.Changes.{AgreeOn, HangOn, IsCurrent}
+use Rattle.seq_sending.specs.Changes.{IsCurrent}
 use Rattle.seq_sending.specs.KeptCounts.{AreCountsKept}
-use Rattle.seq_sending.specs.Ways.{AreWays}
+use Rattle.seq_sending.specs.Reach.{MayLeadThrough, LeadWithin}
+use Rattle.seq_sending.specs.Ways.{AreWaysTo}
 use Rattle.seq_sending.specs.declared.changes.Changes.{Changes}
 use Rattle.seq_sending.specs.declared.table.Found.{Found}
 use Rattle.seq_sending.specs.declared.table.WayTable.{WayTable}
 use Rattle.seq_sending.specs.declared.ways.Way.{Way}
 
--- the ways from a port, whatever is changed of others than such clients
-abbrev pub AreWaysBy : (ℕ → Type 0) → FinMap nat_cmp Client → List Edge → Addr → List Way → Type 0
-AreWaysBy P clients edges source ways =
-    (others : FinMap nat_cmp Client) (other_edges : List Edge) →
-    AgreeOn P clients others edges other_edges →
-    AreWays others other_edges (targets_of other_edges source) ways
+-- the ways to nodes, which lead through filters of such clients alone
+pub record AreWaysThrough (P : ℕ → Type 0) (clients : FinMap nat_cmp Client) (edges : List Edge)
+    (nodes : List Addr) (ways : List Way) : Type 0 where
+  pub each : AreWaysTo clients edges nodes ways
+  pub within : LeadWithin P edges hops nodes
 
 -- What stands at a place was found after no more changes than there were. Where it is current, it
 -- is the ways from the address whose place it is.
@@ -30,12 +31,16 @@ pub record IsWayFound (clients : FinMap nat_cmp Client) (edges : List Edge) (cha
   pub before : found.at ≤ changes.count
   pub ways : (a : Addr) (row : ℕ) → IsPlace a row place →
       IsCurrent changes found.at a.client found.through →
-      AreWaysBy (HangOn a.client found.through) clients edges a found.ways
+      AreWaysThrough (MayLeadThrough found.through) clients edges (targets_of edges a) found.ways
+
+-- what stands at a place, if anything, is known so
+abbrev pub IsSlotFound : FinMap nat_cmp Client → List Edge → Changes → ℕ → Option Found → Type 0
+IsSlotFound clients edges changes place slot =
+    (found : Found) → slot ≡ Some found → IsWayFound clients edges changes place found
 
 abbrev pub AreWaysFound : FinMap nat_cmp Client → List Edge → Changes → List (Option Found) → Type 0
 AreWaysFound clients edges changes places =
-    (place : ℕ) (found : Found) → slice_index_or places place None ≡ Some found →
-    IsWayFound clients edges changes place found
+    (place : ℕ) → IsSlotFound clients edges changes place (slice_index_or places place None)
 
 -- all that stands in a table was found before a change
 abbrev pub AreEarlier : ℕ → List (Option Found) → Type 0

@@ -50,14 +50,15 @@ abbrev pub PartsFrom : Addr → Way → Type 0
 PartsFrom node (Parting from) = from ≡ node
 PartsFrom node way = Unit {0}
 
--- each of the ways does, of as many nodes
-abbrev pub PartFrom : List Addr → List Way → Type 0
-PartFrom [] [] = Unit {0}
-PartFrom [] (way ∷ ways) = ⊥
-PartFrom (node ∷ nodes) [] = ⊥
-PartFrom (node ∷ nodes) (way ∷ ways) = PartsFrom node way × PartFrom nodes ways
+-- each of the ways is that to its node, of as many nodes
+abbrev pub AreWaysTo : FinMap nat_cmp Client → List Edge → List Addr → List Way → Type 0
+AreWaysTo clients edges [] [] = Unit {0}
+AreWaysTo clients edges [] (way ∷ ways) = ⊥
+AreWaysTo clients edges (node ∷ nodes) [] = ⊥
+AreWaysTo clients edges (node ∷ nodes) (way ∷ ways) =
+    (IsWay clients edges node way × PartsFrom node way) × AreWaysTo clients edges nodes ways
 
--- the ways to all the nodes that a port is joined to
+-- all that is sent to the nodes that a port is joined to comes by these ways
 abbrev pub AreWays : FinMap nat_cmp Client → List Edge → List Addr → List Way → Type 0
 AreWays clients edges targets ways =
     (moment : ℕ) (message : List ℕ) → IsMessage message →

@@ -14,6 +14,7 @@ mod counted;
 mod counting;
 mod front;
 mod hints;
+mod joining;
 mod kept_counts;
 mod laws;
 mod reach;

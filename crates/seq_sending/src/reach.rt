@@ -21,7 +21,7 @@ pub(crate) enum Extent {
 }
 
 /// The most nodes to which ways come whose copies are not counted before they are sent.
-const MOST_UNCOUNTED: usize = 128;
+pub(crate) const MOST_UNCOUNTED: usize = 128;
 
 /// The most nodes that a walk without marks comes to.
 const MOST_WALKED: usize = 8_192;
@@ -49,10 +49,25 @@ impl Through {
     }
 }
 
+impl Extent {
+    /// That of ways which come to so many nodes.
+    #[inline(always)]
+    pub(crate) fn of(nodes: usize) -> Extent {
+        if nodes <= MOST_UNCOUNTED {
+            Extent::Few
+        } else if nodes < MOST_WALKED {
+            Extent::Many
+        } else {
+            Extent::TooMany
+        }
+    }
+}
+
 /// How far ways lead.
 #[derive(Drop)]
 pub(crate) struct Reach {
-    pub(crate) extent: Extent,
+    /// How many nodes they come to: `MOST_WALKED` of as many or more.
+    pub(crate) nodes: usize,
     pub(crate) through: Through,
 }
 
@@ -96,7 +111,7 @@ fn look_at_all(
 
 /// The same of one node, where ways of at most `hops` subscriptions lead on from it.
 #[cycle(look)]
-fn look_at(
+pub(crate) fn look_at(
     graph: &PatchGraph,
     hops: usize,
     node: &Addr,
@@ -131,21 +146,12 @@ pub(crate) fn reach_of(
     let left = look_at_all(graph, HOPS - 1, nodes, MOST_WALKED, &mut clients)?;
     if left == 0 {
         return Ok(Reach {
-            extent: Extent::TooMany,
+            nodes: MOST_WALKED,
             through: Through::Anyone,
         });
     }
     Ok(Reach {
-        extent: extent_by(left),
+        nodes: MOST_WALKED.saturating_sub(left),
         through: Through::These(clients),
     })
-}
-
-/// How many nodes ways come to, of which so many are left.
-fn extent_by(left: usize) -> Extent {
-    if left < MOST_WALKED - MOST_UNCOUNTED {
-        Extent::Many
-    } else {
-        Extent::Few
-    }
 }

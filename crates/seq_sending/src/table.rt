@@ -8,8 +8,9 @@ ghost use Rattle.patch_graph.specs.Index.{targets_of};
 ghost use Rattle.patch_graph.specs.declared.edge.Edge.{Edge};
 ghost use Rattle.seq_state.specs.State.{Client};
 ghost use Rattle.seq_state.specs.Step.{pools_after, copies_with_room};
-ghost use Rattle.seq_sending.specs.Changes.{AgreeBut, HangOn};
-ghost use Rattle.seq_sending.specs.Table.{AreWaysFound, AreEarlier, AreWaysBy, AreWaysKept};
+ghost use Rattle.seq_sending.specs.Changes.{AgreeBut};
+ghost use Rattle.seq_sending.specs.Reach.{MayLeadThrough};
+ghost use Rattle.seq_sending.specs.Table.{AreWaysFound, AreEarlier, AreWaysThrough, AreWaysKept};
 ghost use Rattle.seq_sending.specs.Ways.{AreWays, spread_all};
 ghost use Rattle.seq_sending.specs.declared.ways.Way.{Way};
 
@@ -40,7 +41,7 @@ pub(crate) struct Found {
 /// lead, and counts until any changes.
 #[derive(Drop)]
 pub struct WayTable {
-    alloc: Global,
+    pub(crate) alloc: Global,
     // By `place_of`; it ends behind the last port that has sent. Ways that are not current any more stay in their
     // places, known no more.
     pub(crate) places: Vec<Option<Found>>,
@@ -102,7 +103,8 @@ fn keep_ways(
     found: Found,
 ) -> Result<(), OutOfMemory>
     ensures { (clients : map.FinMap nat_cmp Client) (edges : List Edge) (changes : Changes)
-        → AreWaysBy (HangOn source.now.client found.through) clients edges source.now found.ways
+        → AreWaysThrough (MayLeadThrough found.through) clients edges
+        (targets_of edges source.now) found.ways
         → found.at ≤ changes.count → AreWaysFound clients edges changes places.old.items
         → AreWaysFound clients edges changes places.new.items }
 {
@@ -122,13 +124,13 @@ fn find(
 ) -> Result<Found, OutOfMemory>
     requires { room.0.items ≡ [] }
     ensures at { IfOk result (λ found. found.at ≡ changes.now.count) }
-    ensures ways { IfOk result (λ found. AreWaysBy (HangOn source.now.client found.through)
-        clients.now.clients graph.now source.now found.ways) }
+    ensures ways { IfOk result (λ found. AreWaysThrough (MayLeadThrough found.through)
+        clients.now.clients graph.now (targets_of graph.now source.now) found.ways) }
 {
     let targets = graph.targets(source);
     let (ways, through) = room;
-    let Reach { extent, through } = reach_of(through, graph, targets)?;
-    let ways = ways_to(ways, clients, graph, targets, extent)?;
+    let Reach { nodes, through } = reach_of(through, graph, targets)?;
+    let ways = ways_to(ways, clients, graph, targets, nodes)?;
     Ok(Found {
         at: changes.count,
         through,

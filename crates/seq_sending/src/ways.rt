@@ -1,6 +1,7 @@
 //! The ways from a port. Filters one after another are one rule, so that a message is changed once on a way.
 
-ghost use Rattle.std.specs.Prelude.{◌≡◌, ◌≢◌, ℕ, List, [], ◌∷◌, IfOk, IfSome, IfNone};
+ghost use Rattle.std.specs.Prelude.{◌≡◌, ◌≢◌, ◌<◌, ℕ, List, [], ◌∷◌, ◌++◌, length, IfOk, IfSome, IfNone, OnOk};
+ghost use Rattle.std.specs.List.{remove};
 ghost use Rattle.std.specs.Ordering.{nat_cmp};
 ghost use Rattle.std.specs.FinMap as map;
 ghost use Rattle.std.specs.Option.{option_and_then, option_copied, option_to_list};
@@ -10,9 +11,9 @@ ghost use Rattle.patch_graph.specs.Cursor.{at_port};
 ghost use Rattle.seq_state.specs.Copies.{copy};
 ghost use Rattle.seq_state.specs.State.{Client};
 ghost use Rattle.seq_sending.specs.Carrying.{let_through};
-ghost use Rattle.seq_sending.specs.Ways.{copies_on, IsWay, AreWays, PartsFrom, PartFrom};
+ghost use Rattle.seq_sending.specs.Ways.{copies_on, IsWay, AreWaysTo, PartsFrom};
 
-use crate::reach::Extent;
+use crate::reach::{Extent, MOST_UNCOUNTED};
 use memory::OutOfMemory;
 use node_table::{Addr, Node, PortAddr};
 use patch_graph::{HOPS, PatchGraph};
@@ -37,7 +38,8 @@ pub(crate) enum Way {
 #[derive(Drop)]
 pub(crate) struct Ways {
     ways: Vec<Way>,
-    extent: Extent,
+    /// How many nodes they come to, at least where these are few. Nothing rests on it but speed.
+    nodes: usize,
 }
 
 impl Model for Ways {
@@ -70,7 +72,51 @@ impl Ways {
     /// How many nodes they come to.
     #[inline(always)]
     pub(crate) fn extent(&self) -> Extent {
-        self.extent
+        Extent::of(self.nodes)
+    }
+
+    /// How many ways there are.
+    pub(crate) fn len(&self) -> usize
+        ensures { result ≡ length self.now }
+    {
+        self.ways.len()
+    }
+
+    /// How many nodes they come to, at least where these are few.
+    pub(crate) fn nodes(&self) -> usize {
+        self.nodes
+    }
+
+    /// How many nodes more they may come to and still be few.
+    pub(crate) fn room(&self) -> usize {
+        MOST_UNCOUNTED.saturating_sub(self.nodes)
+    }
+
+    /// Adds the way to one node more, after which so many nodes more may come and the ways still be few. `Err` leaves
+    /// the ways.
+    pub(crate) fn join(
+        &mut self,
+        clients: &Clients,
+        graph: &PatchGraph,
+        target: &Addr,
+        room: usize,
+    ) -> Result<(), OutOfMemory>
+        ensures { let cs = clients.now.clients in OnOk result ((nodes : List Addr) →
+            AreWaysTo cs graph.now nodes self.old →
+            AreWaysTo cs graph.now (nodes ++ target.now ∷ []) self.new) }
+    {
+        push_copy(&mut self.ways, &way_to(clients, graph, target))?;
+        self.nodes = MOST_UNCOUNTED.saturating_sub(room);
+        Ok(())
+    }
+
+    /// Takes out the way at a place, so that the others come to so many nodes.
+    pub(crate) fn remove(&mut self, place: usize, nodes: usize)
+        requires { place < length self.old }
+        ensures { self.new ≡ remove self.old place }
+    {
+        self.ways.remove(place);
+        self.nodes = nodes;
     }
 
     /// The port that messages go to by these ways, where that is all that they do.
@@ -97,6 +143,15 @@ fn chained(first: Option<Rule>, next: Option<&Rule>) -> Option<Rule>
         (None, Some(next)) => Some(*next),
         (None, None) => None,
     }
+}
+
+/// Adds an item at the end.
+// Generic, since the borrow checker does not cover the call where an address goes in.
+fn push_copy<T: Copy>(items: &mut Vec<T>, item: &T) -> Result<(), OutOfMemory>
+    ensures { OnOk result (items.new.items ≡ items.old.items ++ item.now ∷ []) }
+{
+    items.push(*item)?;
+    Ok(())
 }
 
 /// The way to a node which a port is joined to.
@@ -138,22 +193,22 @@ fn way_by(rule: Option<Rule>, end: PortAddr) -> Way
     }
 }
 
-/// The ways to the nodes which a port is joined to, in their order, put into the room that is given.
+/// The ways to the nodes which a port is joined to, in their order, put into the room that is given. They come to so
+/// many nodes.
 pub(crate) fn ways_to(
     room: Vec<Way>,
     clients: &Clients,
     graph: &PatchGraph,
     targets: &[Addr],
-    extent: Extent,
+    nodes: usize,
 ) -> Result<Ways, OutOfMemory>
     requires { room.items ≡ [] }
-    ensures ways { IfOk result (λ ways. AreWays clients.now.clients graph.now targets.now ways) }
-    ensures parts { IfOk result (λ ways. PartFrom targets.now ways) }
+    ensures { IfOk result (λ ways. AreWaysTo clients.now.clients graph.now targets.now ways) }
 {
     let mut ways = room;
     ways.reserve(targets.len())?;
     for target in targets {
         ways.push(way_to(clients, graph, target))?;
     }
-    Ok(Ways { ways, extent })
+    Ok(Ways { ways, nodes })
 }

@@ -1,16 +1,15 @@
 use Rattle.std.proofs.Common.{subst}
 use Rattle.patch_graph.specs.Paths.{hops}
 use Rattle.seq_sending.specs.Reach.{LeadWithin, MayLeadThrough}
-use Rattle.seq_sending.specs.Ways.{AreWays, PartFrom}
-use Rattle.seq_sending.proofs.Agreeing.{ways-by}
+use Rattle.seq_sending.specs.Ways.{AreWaysTo}
 use Rattle.seq_sending.proofs.table.find.Goals as goal
 
 pub returns-clause-ways : goal.returns-clause-ways
 returns-clause-ways c =
     let a = c.args in
     let at = c.targets-targets.ensures in
-    let reach = c.in_ok-extent.field-0 in
-    ways-by a.clients.now.clients a.graph.now a.source.now c.in_ok-ways.ways reach.through
-    (subst (λ ts. AreWays a.clients.now.clients a.graph.now ts c.in_ok-ways.ways) at c.in_ok-ways.ensures.ways)
-    (subst (λ ts. PartFrom ts c.in_ok-ways.ways) at c.in_ok-ways.ensures.parts)
-    (subst (LeadWithin (MayLeadThrough reach.through) a.graph.now hops) at c.in_ok-extent.ensures)
+    let reach = c.in_ok-nodes.field-0 in
+    record {
+      each = subst (λ ts. AreWaysTo a.clients.now.clients a.graph.now ts c.in_ok-ways.ways) at c.in_ok-ways.ensures;
+      within = subst (LeadWithin (MayLeadThrough reach.through) a.graph.now hops) at c.in_ok-nodes.ensures;
+    }

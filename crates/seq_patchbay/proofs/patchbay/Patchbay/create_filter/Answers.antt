@@ -15,4 +15,4 @@ invariant_of-self c =
     (λ e. c.forget_client.ensures was.clients _ s.graph s.graph (but-client was.clients _ s.graph c.args.client _ (ap (λ (r : Roster). r.clients) e)) c.self.invariant)
     c.create_filter.ensures.ok)
     c.create_filter.ensures.err
-    (c.forget_client.ensures was.clients was.clients s.graph s.graph (agree-refl _ was.clients s.graph) c.self.invariant)
+    (c.forget_client.ensures was.clients was.clients s.graph s.graph (agree-refl _ _ was.clients s.graph) c.self.invariant)

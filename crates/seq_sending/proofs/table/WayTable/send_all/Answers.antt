@@ -2,6 +2,7 @@ use Rattle.std.proofs.Common.{◌≡◌, ◌++◌, length, append-nil, sym, ap, 
 use Rattle.std.proofs.lemmas.Bool.{eqb-true}
 use Rattle.patch_graph.specs.Index.{targets_of}
 use Rattle.seq_state.specs.Step.{pools_after, copies_with_room}
+use Rattle.seq_sending.proofs.Agreeing.{ways-are}
 use Rattle.seq_sending.proofs.Onward.{none-to-nobody}
 use Rattle.seq_sending.proofs.table.WayTable.send_all.Goals as goal
 
@@ -48,3 +49,8 @@ returns-clause-kept c =
           (c.take.ensures r a.graph.now a.self.now.changes c.requires.ways);
       counts = c.in_ok-send_each.ensures.counts;
     }
+
+pub send_each-requires-2-clause-ways : goal.send_each-requires-2-clause-ways
+send_each-requires-2-clause-ways c =
+    let a = c.args in
+    ways-are a.clients.now.clients a.graph.now (targets_of a.graph.now a.source.now) c.in_ok-found.found.ways c.in_ok-found.ensures.ways.each
