@@ -5,10 +5,12 @@
 #![tactic(auto)]
 
 mod draft;
+mod standing;
 mod store;
 mod system;
 
 pub use byte_io::DeviceFault;
 pub use draft::Draft;
+pub use standing::Standing;
 pub use store::FileStore;
 pub use system::SystemFiles;

@@ -2,6 +2,7 @@
 
 ghost use Rattle.std.specs.Prelude.{◌≡◌, true, false, map, string_bytes, IfOk, OnOk, OnErr, IsErrOf};
 
+use crate::standing::Standing;
 use byte_io::{DeviceFault, Sink, Source};
 use std::alloc::Global;
 
@@ -11,6 +12,7 @@ use std::alloc::Global;
 /// calls tells that, so what is proved over every store holds of the calls that were made.
 pub trait FileStore {
     ghost use Rattle.std.specs.Prelude.{ℕ, List};
+    ghost use Rattle.file_store.specs.declared.standing.Standing.{Standing};
 
     type Reader: Source + Drop;
 
@@ -21,6 +23,9 @@ pub trait FileStore {
 
     /// No file could be opened at this path.
     ghost CannotOpen: { List ℕ → Type 0 };
+
+    /// This was seen to stand at this path.
+    ghost IsStanding: { List ℕ → Standing → Type 0 };
 
     /// No folder could be listed at this path.
     ghost CannotList: { List ℕ → Type 0 };
@@ -57,6 +62,11 @@ pub trait FileStore {
         ensures opened { IfOk result (λ r. IsOpened path.now r) }
         ensures refused { OnErr result (CannotOpen path.now) }
         ensures sound { IfOk result (λ r. Self.Reader.failed r ≡ false) };
+
+    /// What stands at a path, for whoever tells why it could not be read. Only a regular file is opened for it, and
+    /// nothing is read.
+    fn look(&self, path: &str) -> Standing
+        ensures { IsStanding path.now result };
 
     /// The names in a folder, but for those that are not UTF-8.
     fn names(&self, alloc: Global, folder: &str) -> Result<Vec<String>, DeviceFault>

@@ -3,6 +3,7 @@
 ghost use Rattle.std.specs.Prelude.{◌≡◌, false, IfOk};
 
 use crate::draft::{Draft, DraftPaths};
+use crate::standing::Standing;
 use crate::store::FileStore;
 use byte_io::{DeviceFault, StdSink, StdSource};
 use std::alloc::Global;
@@ -96,6 +97,8 @@ impl<R: Files + AllocGlobal + Clone + Drop> FileStore for SystemFiles<R> {
 
     ghost CannotOpen = { λ _. Unit {0} };
 
+    ghost IsStanding = { λ _ _. Unit {0} };
+
     ghost CannotList = { λ _. Unit {0} };
 
     ghost HasNames = { λ _ _. Unit {0} };
@@ -123,6 +126,18 @@ impl<R: Files + AllocGlobal + Clone + Drop> FileStore for SystemFiles<R> {
         match fs::metadata(&self.rt, path) {
             Ok(there) if there.is_file() => self.open(path),
             _ => Err(DeviceFault::Broken),
+        }
+    }
+
+    fn look(&self, path: &str) -> Standing {
+        match fs::metadata(&self.rt, path) {
+            Ok(there) if there.is_dir() => Standing::Folder,
+            Ok(there) if there.is_file() => match fs::open(&self.rt, path) {
+                Ok(_) => Standing::File,
+                Err(error) => standing_of(error.kind()),
+            },
+            Ok(_) => Standing::Special,
+            Err(error) => standing_of(error.kind()),
         }
     }
 
@@ -197,5 +212,14 @@ fn fault_of(kind: ErrorKind) -> DeviceFault {
     match kind {
         ErrorKind::OutOfMemory => DeviceFault::OutOfMemory,
         _ => DeviceFault::Broken,
+    }
+}
+
+/// What stands at a path that could not be looked at, or opened.
+fn standing_of(kind: ErrorKind) -> Standing {
+    match kind {
+        ErrorKind::NotFound | ErrorKind::NotADirectory => Standing::Nothing,
+        ErrorKind::PermissionDenied => Standing::Denied,
+        _ => Standing::File,
     }
 }

@@ -3,6 +3,7 @@ use Rattle.std.specs.Prelude.{◌≡◌, ◌≢◌, ℕ, Bool, true, false, ◌|
 use Rattle.std.specs.Option.{option_map}
 use Rattle.clap.specs.declared.parser.matches.Found.{Found}
 use Rattle.clap.specs.Matches.{first_value, matched_of, one_text, raw_values}
+use Rattle.file_store.specs.declared.standing.Standing.{Standing}
 use Rattle.node_table.specs.declared.number.PortAddr.{PortAddr}
 use Rattle.script_text.specs.Numbers as says
 use Rattle.tempo_clock.specs.Ticks.{Tempos}
@@ -64,6 +65,14 @@ pub record IsFlag (found : Found) (id : List ℕ) (given : Bool) : Type 0 where
   pub absent : one_text found id ≡ None → given ≡ false
   pub present : one_text found id ≡ Some (codes "true") → given ≡ true
 
+-- what a run did not do is told, with all reasons: where --strict or --explain is given
+pub record IsAsked (found : Found) (asked : Bool) : Type 0 where
+  pub strict : Bool
+  pub strict_flag : IsFlag found (codes "strict") strict
+  pub explains : Bool
+  pub explain_flag : IsFlag found (codes "explain") explains
+  pub is : asked ≡ (strict || explains)
+
 -- ---- what is recorded
 
 -- the port of --port, with --raw as one MIDI stream and else as a file
@@ -106,9 +115,10 @@ module _ {R : Type 0} (IsOpened : List ℕ → R → Type 0) (HasLeft : R → Li
   AreTracksGiven found _ word = ⊥
 
   -- What is recorded: a track for each port of --ports, and without it the port of --port. It goes
-  -- to the file of --out.
+  -- to the file of --out, and is strict with --strict.
   pub record IsRecordingGiven (found : Found) (recording : Recording) : Type 0 where
     pub path : recording.path.now ≡ text_of found (codes "out")
+    pub strict : IsFlag found (codes "strict") recording.strict
     pub what : MatchOption (first_value found (codes "ports"))
         (IsOnePortGiven found recording.what) (AreTracksGiven found recording.what)
 
@@ -116,20 +126,21 @@ module _ {R : Type 0} (IsOpened : List ℕ → R → Type 0) (HasLeft : R → Li
 
 module _ {R W : Type 0} (IsOpened : List ℕ → R → Type 0) (HasLeft : R → List ℕ → Type 0)
     (CannotOpen : List ℕ → Type 0)
-    (failed : R → Bool) (HasNames : List ℕ → List (List ℕ) → Type 0) where
+    (failed : R → Bool) (IsStanding : List ℕ → Standing → Type 0)
+    (HasNames : List ℕ → List (List ℕ) → Type 0) where
   -- A run of this session has ended so: where it is strict, explained and judged; where it is to
   -- explain, explained; else it was printed.
   abbrev pub RanAs : {N : Type 0} → (W → List ℕ → Type 0) → (N → List ℕ → Type 0) → Session → Bool →
       (strict explains : Bool) → W → W → N → N → Ended → Type 0
   RanAs HasTaken HasTold session listed true explains old new before after (Judged answer) =
-      IsRunExplained IsOpened HasLeft CannotOpen failed HasNames HasTaken HasTold session listed
-      answer old new before after
+      IsRunExplained IsOpened HasLeft CannotOpen failed IsStanding HasNames HasTaken HasTold session
+      listed answer old new before after
   RanAs HasTaken HasTold session listed false true old new before after Done =
-      (answer : RunAnswer) × IsRunExplained IsOpened HasLeft CannotOpen failed HasNames HasTaken
-      HasTold session listed answer old new before after
+      (answer : RunAnswer) × IsRunExplained IsOpened HasLeft CannotOpen failed IsStanding HasNames
+      HasTaken HasTold session listed answer old new before after
   RanAs HasTaken HasTold session listed false false old new before after Done =
-      IsRunPrinted IsOpened HasLeft CannotOpen failed HasNames HasTaken HasTold session listed
-      old new before after
+      IsRunPrinted IsOpened HasLeft CannotOpen failed IsStanding HasNames HasTaken HasTold session
+      listed old new before after
   RanAs HasTaken HasTold session listed strict explains old new before after _ = ⊥
 
   -- The session of these words was run, with the listing where --list is given, as --strict and
@@ -156,8 +167,8 @@ module _ {R W : Type 0} (IsOpened : List ℕ → R → Type 0) (HasLeft : R → 
     pub client : Some owner ≡ says.client_number word
     pub in_session : Bool
     pub flag : IsFlag found (codes "session") in_session
-    pub printed : IsCircleAnswered IsOpened HasLeft CannotOpen failed HasNames HasTaken HasTold
-        session (Of owner in_session) answer
+    pub printed : IsCircleAnswered IsOpened HasLeft CannotOpen failed IsStanding HasNames HasTaken
+        HasTold session (Of owner in_session) answer
         old new before after
 
   -- The circle round the client of --owner in the session of these words was printed, and the
@@ -168,26 +179,24 @@ module _ {R W : Type 0} (IsOpened : List ℕ → R → Type 0) (HasLeft : R → 
     pub session : Session
     pub given : IsGiven found session
     pub printed : MatchOption (first_value found (codes "owner"))
-        (IsCircleAnswered IsOpened HasLeft CannotOpen failed HasNames HasTaken HasTold session
-        OfAll answer old new before after)
+        (IsCircleAnswered IsOpened HasLeft CannotOpen failed IsStanding HasNames HasTaken HasTold
+        session OfAll answer old new before after)
         (IsAnsweredRound HasTaken HasTold found session answer old new before after)
 
-  -- The session was recorded so; it was explained where --strict or --explain says so, and judged
-  -- with --strict.
+  -- The session was recorded so; it was explained where the recording is strict or --explain says
+  -- so, and judged where it is strict.
   pub record EndsRecorded {N : Type 0} (IsBegun : List ℕ → W → Type 0)
       (HasTaken : W → List ℕ → Type 0)
       (IsStored : List ℕ → W → Type 0) (HasTold : N → List ℕ → Type 0) (found : Found)
       (session : Session) (recording : Recording)
       (before after : N) (ended : Ended) : Type 0 where
-    pub strict : Bool
-    pub strict_flag : IsFlag found (codes "strict") strict
     pub explains : Bool
     pub explain_flag : IsFlag found (codes "explain") explains
     pub answer : RunAnswer
-    pub recorded : IsRunRecorded IsOpened HasLeft CannotOpen failed HasNames IsBegun HasTaken
-        IsStored HasTold
-        session recording (strict || explains) answer before after
-    pub ends : ended ≡ (if strict then Judged answer else Done)
+    pub recorded : IsRunRecorded IsOpened HasLeft CannotOpen failed IsStanding HasNames IsBegun
+        HasTaken IsStored HasTold
+        session recording (recording.strict || explains) answer before after
+    pub ends : ended ≡ (if recording.strict then Judged answer else Done)
 
   -- The session of these words was recorded as they say.
   pub record RecordsAsGiven {N : Type 0} (IsBegun : List ℕ → W → Type 0)
@@ -226,7 +235,8 @@ IfAnswered _ P = ⊥
 -- both may explain and judge, and each other is a tool's.
 pub record DoesAsGiven {R V I W N : Type 0} (IsOpened : List ℕ → R → Type 0)
     (HasLeft : R → List ℕ → Type 0)
-    (CannotOpen : List ℕ → Type 0) (failed : R → Bool) (HasNames : List ℕ → List (List ℕ) → Type 0)
+    (CannotOpen : List ℕ → Type 0) (failed : R → Bool) (IsStanding : List ℕ → Standing → Type 0)
+    (HasNames : List ℕ → List (List ℕ) → Type 0)
     (IsBegun : List ℕ → V → Type 0) (HasWritten : V → List ℕ → Type 0)
     (IsStored : List ℕ → V → Type 0)
     (HasInput : I → List ℕ → Type 0) (HasTaken : W → List ℕ → Type 0)
@@ -234,14 +244,14 @@ pub record DoesAsGiven {R V I W N : Type 0} (IsOpened : List ℕ → R → Type 
     (name : List ℕ) (found : Found) (asked left : I) (old new : W) (before after : N)
     (ended : Ended) : Type 0 where
   pub circled : name ≡ codes "circle" → IfAnswered ended
-      (CirclesAsGiven IsOpened HasLeft CannotOpen failed HasNames HasTaken HasTold found old new
-      before after)
+      (CirclesAsGiven IsOpened HasLeft CannotOpen failed IsStanding HasNames HasTaken HasTold found
+      old new before after)
   pub ran : name ≡ codes "run" →
-      RunsAsGiven IsOpened HasLeft CannotOpen failed HasNames HasTaken HasTold found old new before
-      after ended
+      RunsAsGiven IsOpened HasLeft CannotOpen failed IsStanding HasNames HasTaken HasTold found old
+      new before after ended
   pub recorded : name ≡ codes "record" →
-      RecordsAsGiven IsOpened HasLeft CannotOpen failed HasNames IsBegun HasWritten IsStored HasTold
-      found before after ended
+      RecordsAsGiven IsOpened HasLeft CannotOpen failed IsStanding HasNames IsBegun HasWritten
+      IsStored HasTold found before after ended
   pub tool : IsOfTool name →
       ToolDoesAsGiven IsOpened HasLeft HasInput HasTaken name found asked left old new
       × (ended ≡ Done)

@@ -1,8 +1,9 @@
 -- Definition: Why a subcommand stops, from the words that it was given.
-use Rattle.std.specs.Prelude.{◌≡◌, ◌≢◌, ◌⊎◌, ℕ, Bool, List, [], None, codes, unwrap_or, MatchOption}
+use Rattle.std.specs.Prelude.{◌≡◌, ◌≢◌, ◌⊎◌, ℕ, Bool, true, false, List, [], None, codes, unwrap_or, MatchOption}
 use Rattle.std.specs.Option.{option_map}
 use Rattle.clap.specs.declared.parser.matches.Found.{Found}
 use Rattle.clap.specs.Matches.{first_value, matched_of, raw_values}
+use Rattle.file_store.specs.declared.standing.Standing.{Standing}
 use Rattle.script_text.specs.Numbers as says
 use Rattle.program_tasks.specs.Grid.{IsOfGrid}
 use Rattle.program_tasks.specs.declared.grid.GridWords.{GridWords}
@@ -18,8 +19,8 @@ use Rattle.program_tasks.specs.declared.choice.Task.{Task}
 use Rattle.program_tasks.specs.declared.choice.Tool.{Tool}
 use Rattle.program_tasks.specs.declared.program_fault.ProgramFault.{ProgramFault}
 use Rattle.program_tasks.specs.declared.program_fault.ProgramFault.TheVariants.{NoSubcommand, NotAClient, NotAPort}
-use Rattle.program_tasks.specs.Program.{tool_name, IsNamedBy}
-use Rattle.midiseq.specs.Given.{text_of, IsEndGiven, IsGiven, AreGridWords, IsRecordingGiven, IsOfTool}
+use Rattle.program_tasks.specs.Program.{tool_name, IsNamedBy, IsReasoned}
+use Rattle.midiseq.specs.Given.{text_of, IsAsked, IsEndGiven, IsGiven, AreGridWords, IsRecordingGiven, IsOfTool}
 
 -- The word for the session's end says none.
 pub record IsOfEndWord (found : Found) (fault : ProgramFault) : Type 0 where
@@ -79,6 +80,7 @@ pub record IsRunStopped {R : Type 0} (IsOpened : List ℕ → R → Type 0)
 pub record IsCircleStopped {R N : Type 0} (IsOpened : List ℕ → R → Type 0)
     (HasLeft : R → List ℕ → Type 0)
     (CannotOpen CannotList : List ℕ → Type 0) (failed : R → Bool)
+    (IsStanding : List ℕ → Standing → Type 0)
     (HasNames : List ℕ → List (List ℕ) → Type 0) (stuck : Type 0)
     (HasTold : N → List ℕ → Type 0) (found : Found) (before after : N)
     (fault : ProgramFault) : Type 0 where
@@ -87,13 +89,34 @@ pub record IsCircleStopped {R N : Type 0} (IsOpened : List ℕ → R → Type 0)
   pub why :
       IsOfListing CannotList (option_map (λ d. d.now) session.dir) fault
       ⊎ (IsOfScripts IsOpened HasLeft CannotOpen failed session.scripts.items fault
-      ⊎ (IsTimeless IsOpened HasLeft CannotOpen failed HasNames HasTold session before after fault
+      ⊎ (IsTimeless IsOpened HasLeft CannotOpen failed IsStanding HasNames HasTold session before
+      after fault
       ⊎ IsOfOutput stuck fault))
+
+-- The session was not recorded so, for one of these reasons.
+pub record IsNotRecorded {R V N : Type 0} (IsOpened : List ℕ → R → Type 0)
+    (HasLeft : R → List ℕ → Type 0)
+    (CannotOpen CannotList : List ℕ → Type 0) (failed : R → Bool)
+    (IsStanding : List ℕ → Standing → Type 0)
+    (HasNames : List ℕ → List (List ℕ) → Type 0)
+    (AreOne : List ℕ → List ℕ → Type 0) (IsBegun : List ℕ → V → Type 0)
+    (writer_failed takes_some : V → Bool)
+    (CannotBegin CannotStore : List ℕ → Type 0) (HasTold : N → List ℕ → Type 0) (found : Found)
+    (session : Session) (recording : Recording) (before after : N)
+    (fault : ProgramFault) : Type 0 where
+  pub explains : Bool
+  pub asked : IsAsked found explains
+  pub why :
+      IsOfListing CannotList (option_map (λ d. d.now) session.dir) fault
+      ⊎ IsRecordingStopped IsOpened HasLeft CannotOpen failed IsStanding HasNames AreOne IsBegun
+      writer_failed takes_some
+      CannotBegin CannotStore HasTold session recording explains before after fault
 
 -- The session of the words was not recorded.
 pub record IsRecordStopped {R V N : Type 0} (IsOpened : List ℕ → R → Type 0)
     (HasLeft : R → List ℕ → Type 0)
     (CannotOpen CannotList : List ℕ → Type 0) (failed : R → Bool)
+    (IsStanding : List ℕ → Standing → Type 0)
     (HasNames : List ℕ → List (List ℕ) → Type 0)
     (AreOne : List ℕ → List ℕ → Type 0) (IsBegun : List ℕ → V → Type 0)
     (writer_failed takes_some : V → Bool)
@@ -104,11 +127,28 @@ pub record IsRecordStopped {R V N : Type 0} (IsOpened : List ℕ → R → Type 
   pub given : IsGiven found session
   pub recording : Recording
   pub given_recording : IsRecordingGiven IsOpened HasLeft found recording
-  pub why :
-      IsOfListing CannotList (option_map (λ d. d.now) session.dir) fault
-      ⊎ IsRecordingStopped IsOpened HasLeft CannotOpen failed HasNames AreOne IsBegun writer_failed
-      takes_some
-      CannotBegin CannotStore HasTold session recording before after fault
+  pub why : IsNotRecorded IsOpened HasLeft CannotOpen CannotList failed IsStanding HasNames AreOne
+      IsBegun writer_failed takes_some
+      CannotBegin CannotStore HasTold found session recording before after fault
+
+-- how a fault is told: where it is asked for, that of a path with what was seen to stand there
+abbrev pub ToldWhere : (List ℕ → Standing → Type 0) → Bool → ProgramFault → ProgramFault → Type 0
+ToldWhere IsStanding true fault told = IsReasoned IsStanding fault told
+ToldWhere IsStanding false fault told = told ≡ fault
+
+-- A fault is told as --strict and --explain say.
+pub record IsToldAsAsked (IsStanding : List ℕ → Standing → Type 0) (found : Found)
+    (fault told : ProgramFault) : Type 0 where
+  pub explains : Bool
+  pub asked : IsAsked found explains
+  pub is : ToldWhere IsStanding explains fault told
+
+-- There is a fault of which this holds, and it is told as --strict and --explain say.
+pub record IsToldOf (IsStanding : List ℕ → Standing → Type 0) (found : Found)
+    (P : ProgramFault → Type 0) (told : ProgramFault) : Type 0 where
+  pub fault : ProgramFault
+  pub why : P fault
+  pub is : IsToldAsAsked IsStanding found fault told
 
 -- The tool of this name stopped over the stream that FILE names.
 pub record IsToolStopped {R I : Type 0} (IsOpened : List ℕ → R → Type 0)
@@ -133,6 +173,7 @@ IsOfNoTool name _ = ⊥
 pub record IsStoppedAsGiven {R V I N : Type 0} (IsOpened : List ℕ → R → Type 0)
     (HasLeft : R → List ℕ → Type 0)
     (CannotOpen CannotList : List ℕ → Type 0) (failed : R → Bool)
+    (IsStanding : List ℕ → Standing → Type 0)
     (HasNames : List ℕ → List (List ℕ) → Type 0)
     (AreOne : List ℕ → List ℕ → Type 0) (IsBegun : List ℕ → V → Type 0)
     (writer_failed takes_some : V → Bool)
@@ -144,17 +185,15 @@ pub record IsStoppedAsGiven {R V I N : Type 0} (IsOpened : List ℕ → R → Ty
   pub circled : name ≡ codes "circle" →
       IsOfSessionWords found fault
       ⊎ (IsNotAClient (text_of found (codes "owner")) fault
-      ⊎ IsCircleStopped IsOpened HasLeft CannotOpen CannotList failed HasNames stuck HasTold found
-      before after fault)
-  pub ran : name ≡ codes "run" →
-      IsOfSessionWords found fault
-      ⊎ IsRunStopped IsOpened HasLeft CannotOpen CannotList failed stuck found fault
-  pub recorded : name ≡ codes "record" →
-      IsOfSessionWords found fault
-      ⊎ (IsOfRecordingWords IsOpened HasLeft CannotOpen failed found fault
-      ⊎ IsRecordStopped IsOpened HasLeft CannotOpen CannotList failed HasNames AreOne IsBegun
-      writer_failed takes_some
-      CannotBegin CannotStore HasTold found before after fault)
+      ⊎ IsCircleStopped IsOpened HasLeft CannotOpen CannotList failed IsStanding HasNames stuck
+      HasTold found before after fault)
+  pub ran : name ≡ codes "run" → IsToldOf IsStanding found (λ e. IsOfSessionWords found e
+      ⊎ IsRunStopped IsOpened HasLeft CannotOpen CannotList failed stuck found e) fault
+  pub recorded : name ≡ codes "record" → IsToldOf IsStanding found (λ e. IsOfSessionWords found e
+      ⊎ (IsOfRecordingWords IsOpened HasLeft CannotOpen failed found e
+      ⊎ IsRecordStopped IsOpened HasLeft CannotOpen CannotList failed IsStanding HasNames AreOne
+      IsBegun writer_failed takes_some
+      CannotBegin CannotStore HasTold found before after e)) fault
   pub tool : IsOfTool name →
       IsOfNoTool name fault
       ⊎ IsToolStopped IsOpened CannotOpen HasLeft failed HasInput input_failed stuck name found

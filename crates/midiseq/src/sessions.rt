@@ -2,12 +2,10 @@
 
 ghost use Rattle.std.specs.Prelude.{◌≡◌, ◌⊎◌, ◌||◌, false, Some, codes, IfOk, IfErr, OnOk};
 ghost use Rattle.clap.specs.Matches.{found_of};
-ghost use Rattle.midiseq.specs.Given.{text_of, IsEndGiven, IsGiven, IsOnePortGiven, AreGridWords, RunsAsGiven, CirclesAsGiven, EndsRecorded, RecordsAsGiven};
-ghost use Rattle.midiseq.specs.Refused.{IsOfSessionWords, IsOfRecordingWords, IsNotAClient, IsNotAPort, IsRunStopped, IsCircleStopped, IsRecordStopped};
+ghost use Rattle.midiseq.specs.Given.{text_of, IsAsked, IsEndGiven, IsGiven, IsFlag, IsOnePortGiven, AreGridWords, RunsAsGiven, CirclesAsGiven, EndsRecorded, RecordsAsGiven};
+ghost use Rattle.midiseq.specs.Refused.{IsOfSessionWords, IsOfRecordingWords, IsNotAClient, IsNotAPort, IsRunStopped, IsCircleStopped, IsNotRecorded, IsRecordStopped};
 ghost use Rattle.seq_session.specs.Rising.{AreRising};
-ghost use Rattle.std.specs.Option.{option_map};
-ghost use Rattle.program_tasks.specs.Faults.{IsOfListing, IsStuck};
-ghost use Rattle.program_tasks.specs.Subcommands.{IsRecordingStopped};
+ghost use Rattle.program_tasks.specs.Faults.{IsStuck};
 ghost use Rattle.program_tasks.specs.Sessions.{owners};
 ghost use Rattle.program_tasks.specs.Words.{port_named};
 
@@ -55,7 +53,7 @@ pub(crate) fn run<'a, S: FileStore, W: Sink, N: Notes>(
 ) -> Result<Ended, ProgramFault<'a>>
     requires { W.failed out.old ≡ false }
     ensures ran { IfOk result (RunsAsGiven S.IsOpened S.Reader.HasLeft S.CannotOpen S.Reader.failed
-        S.HasNames W.HasTaken N.HasTold (found_of found.now)
+        S.IsStanding S.HasNames W.HasTaken N.HasTold (found_of found.now)
         out.old out.new notes.old notes.new) }
     ensures fault { IfErr result (λ e. IsOfSessionWords (found_of found.now) e
         ⊎ IsRunStopped S.IsOpened S.Reader.HasLeft S.CannotOpen S.CannotList S.Reader.failed
@@ -78,7 +76,8 @@ pub(crate) fn run<'a, S: FileStore, W: Sink, N: Notes>(
 }
 
 /// Runs the scripts, and writes what came to a port, or to several, to a file, once all else is done. With --explain
-/// and --strict it tells what the run did not do, and with --strict whether that is nothing.
+/// and --strict it tells what the run did not do, and with --strict whether that is nothing; with --strict nothing is
+/// written where a port was never there.
 pub(crate) fn record<'a, S: FileStore, N: Notes>(
     alloc: Global,
     store: &S,
@@ -86,21 +85,22 @@ pub(crate) fn record<'a, S: FileStore, N: Notes>(
     notes: &mut N,
 ) -> Result<Ended, ProgramFault<'a>>
     ensures recorded { IfOk result (RecordsAsGiven S.IsOpened S.Reader.HasLeft S.CannotOpen S.Reader.failed
-        S.HasNames S.IsBegun S.Writer.HasTaken S.IsStored N.HasTold (found_of found.now)
+        S.IsStanding S.HasNames S.IsBegun S.Writer.HasTaken S.IsStored N.HasTold (found_of found.now)
         notes.old notes.new) }
     ensures fault { IfErr result (λ e. IsOfSessionWords (found_of found.now) e
         ⊎ (IsOfRecordingWords S.IsOpened S.Reader.HasLeft S.CannotOpen S.Reader.failed
         (found_of found.now) e
         ⊎ IsRecordStopped S.IsOpened S.Reader.HasLeft S.CannotOpen S.CannotList S.Reader.failed
-        S.HasNames S.AreOne S.IsBegun S.Writer.failed S.Writer.takes_some S.CannotBegin
+        S.IsStanding S.HasNames S.AreOne S.IsBegun S.Writer.failed S.Writer.takes_some S.CannotBegin
         S.CannotStore N.HasTold (found_of found.now) notes.old notes.new e)) }
 {
     let session = session_of(alloc, found)?;
     let path = found.get_str("out").unwrap_or("");
+    let strict = is_strict(found);
     let Some(word) = found.get_str("ports") else {
         let port = port_of(found)?;
         let what = one_port(found, port);
-        let recording = Recording { what, path };
+        let recording = Recording { what, path, strict };
         return record_as(alloc, store, found, &session, &recording, notes);
     };
     let ports = ports_named(alloc, word)?;
@@ -109,8 +109,15 @@ pub(crate) fn record<'a, S: FileStore, N: Notes>(
         ports: ports.as_slice(),
         clock: &grid,
     };
-    let recording = Recording { what, path };
+    let recording = Recording { what, path, strict };
     record_as(alloc, store, found, &session, &recording, notes)
+}
+
+/// Whether the words ask to be strict.
+fn is_strict(found: &ArgMatches<'_>) -> bool
+    ensures { IsFlag (found_of found.now) (codes "strict") result }
+{
+    found.get_flag("strict")
 }
 
 /// The port of --port.
@@ -159,17 +166,17 @@ fn record_as<'a, S: FileStore, N: Notes>(
     recording: &Recording<'a, '_>,
     notes: &mut N,
 ) -> Result<Ended, ProgramFault<'a>>
-    requires { AreRising (owners session.now.scripts.items) }
+    requires rising { AreRising (owners session.now.scripts.items) }
+    requires strict { IsFlag (found_of found.now) (codes "strict") recording.now.strict }
     ensures recorded { IfOk result (EndsRecorded S.IsOpened S.Reader.HasLeft S.CannotOpen
-        S.Reader.failed S.HasNames S.IsBegun S.Writer.HasTaken S.IsStored N.HasTold
+        S.Reader.failed S.IsStanding S.HasNames S.IsBegun S.Writer.HasTaken S.IsStored N.HasTold
         (found_of found.now) session.now recording.now notes.old notes.new) }
-    ensures fault { IfErr result (λ e.
-        IsOfListing S.CannotList (option_map (λ d. d.now) session.now.dir) e
-        ⊎ IsRecordingStopped S.IsOpened S.Reader.HasLeft S.CannotOpen S.Reader.failed S.HasNames
-        S.AreOne S.IsBegun S.Writer.failed S.Writer.takes_some S.CannotBegin S.CannotStore
-        N.HasTold session.now recording.now notes.old notes.new e) }
+    ensures fault { IfErr result (IsNotRecorded S.IsOpened S.Reader.HasLeft S.CannotOpen S.CannotList
+        S.Reader.failed S.IsStanding S.HasNames S.AreOne S.IsBegun S.Writer.failed
+        S.Writer.takes_some S.CannotBegin S.CannotStore N.HasTold (found_of found.now) session.now
+        recording.now notes.old notes.new) }
 {
-    let strict = found.get_flag("strict");
+    let strict = recording.strict;
     let asked = found.get_flag("explain");
     let explains = is_explained(strict, asked);
     let answer = program_tasks::record(alloc, store, session, recording, explains, notes)?;
@@ -186,6 +193,15 @@ fn is_explained(strict: bool, asked: bool) -> bool
     strict || asked
 }
 
+/// Whether a run is to be explained, with --explain or --strict.
+pub(crate) fn is_asked(found: &ArgMatches<'_>) -> bool
+    ensures { IsAsked (found_of found.now) result }
+{
+    let strict = found.get_flag("strict");
+    let asked = found.get_flag("explain");
+    is_explained(strict, asked)
+}
+
 /// Prints the circle round the client of --owner, with --session also whether it is closed there, and tells whether it
 /// is shut; without --owner those round all clients, and whether all are.
 pub(crate) fn circle<'a, S: FileStore, W: Sink, N: Notes>(
@@ -197,13 +213,13 @@ pub(crate) fn circle<'a, S: FileStore, W: Sink, N: Notes>(
 ) -> Result<CircleAnswer, ProgramFault<'a>>
     requires { W.failed out.old ≡ false }
     ensures printed { IfOk result (CirclesAsGiven S.IsOpened S.Reader.HasLeft S.CannotOpen
-        S.Reader.failed S.HasNames W.HasTaken N.HasTold (found_of found.now)
+        S.Reader.failed S.IsStanding S.HasNames W.HasTaken N.HasTold (found_of found.now)
         out.old out.new notes.old notes.new) }
     ensures fault { IfErr result (λ e. IsOfSessionWords (found_of found.now) e
         ⊎ (IsNotAClient (text_of (found_of found.now) (codes "owner")) e
         ⊎ IsCircleStopped S.IsOpened S.Reader.HasLeft S.CannotOpen S.CannotList S.Reader.failed
-        S.HasNames (IsStuck W.failed W.takes_some out.old out.new) N.HasTold (found_of found.now)
-        notes.old notes.new e)) }
+        S.IsStanding S.HasNames (IsStuck W.failed W.takes_some out.old out.new) N.HasTold
+        (found_of found.now) notes.old notes.new e)) }
 {
     let session = session_of(alloc, found)?;
     let Some(word) = found.get_str("owner") else {

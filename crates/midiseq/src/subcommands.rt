@@ -6,7 +6,7 @@ ghost use Rattle.midiseq.specs.Given.{ToolDoesAsGiven, DoesAsGiven};
 ghost use Rattle.midiseq.specs.Refused.{IsOfNoTool, IsToolStopped, IsStoppedAsGiven};
 ghost use Rattle.program_tasks.specs.Faults.{IsStuck};
 
-use crate::sessions;
+use crate::{reasons, sessions};
 use byte_io::{Sink, Source};
 use clap::ArgMatches;
 use file_store::FileStore;
@@ -27,10 +27,10 @@ pub(crate) fn perform<'a, S: FileStore, I: Source, W: Sink, N: Notes>(
     requires input_sound { I.failed input.old ≡ false }
     requires out_sound { W.failed out.old ≡ false }
     ensures done { IfOk result (DoesAsGiven S.IsOpened S.Reader.HasLeft S.CannotOpen S.Reader.failed
-        S.HasNames S.IsBegun S.Writer.HasTaken S.IsStored I.HasLeft W.HasTaken N.HasTold
+        S.IsStanding S.HasNames S.IsBegun S.Writer.HasTaken S.IsStored I.HasLeft W.HasTaken N.HasTold
         name.now (found_of found.now) input.old input.new out.old out.new notes.old notes.new) }
     ensures fault { IfErr result (IsStoppedAsGiven S.IsOpened S.Reader.HasLeft S.CannotOpen
-        S.CannotList S.Reader.failed S.HasNames S.AreOne S.IsBegun S.Writer.failed
+        S.CannotList S.Reader.failed S.IsStanding S.HasNames S.AreOne S.IsBegun S.Writer.failed
         S.Writer.takes_some S.CannotBegin S.CannotStore I.HasLeft I.failed
         (IsStuck W.failed W.takes_some out.old out.new) N.HasTold
         name.now (found_of found.now) input.old input.new notes.old notes.new) }
@@ -40,8 +40,8 @@ pub(crate) fn perform<'a, S: FileStore, I: Source, W: Sink, N: Notes>(
             let answer = sessions::circle(alloc, store, found, out, notes)?;
             Ok(Ended::Answered(answer))
         }
-        "run" => sessions::run(alloc, store, found, out, notes),
-        "record" => sessions::record(alloc, store, found, notes),
+        "run" => reasons::run(alloc, store, found, out, notes),
+        "record" => reasons::record(alloc, store, found, notes),
         _ => {
             perform_tool(alloc, store, name, found, input, out)?;
             Ok(Ended::Done)

@@ -21,12 +21,13 @@ Examples:
       prints the messages of keys.raw, and then the stream written anew
   midiseq dump song.mid
       prints the tempos and the events of the file song.mid
-  midiseq run --for 1s 128=keys.txt 129=synth.txt
+  midiseq run --for 1s --strict 128=keys.txt 129=synth.txt
       runs two scripts for a second, and prints the log of each client
-  midiseq record --to-end --port 129:0 --out take.mid 128=keys.txt 129=synth.txt
+  midiseq record --to-end --strict --port 129:0 --out take.mid 128=keys.txt \\
+      129=synth.txt
       writes what came to port 0 of client 129 to the file take.mid
-  midiseq record --for 4s --ports 129:0,130:1 --out takes.mid 128=keys.txt \\
-      129=synth.txt 130=drums.txt
+  midiseq record --for 4s --strict --ports 129:0,130:1 --out takes.mid \\
+      128=keys.txt 129=synth.txt 130=drums.txt
       the same for two ports, each a track of the file takes.mid
   midiseq circle --for 1s --owner 129 128=keys.txt 129=synth.txt
       prints who can change what client 129 hears, and last `shut`, or `open`
@@ -103,10 +104,11 @@ said. With --list comes the listing at the end: clients, ports, filters, queues
 and subscriptions.
 
 With --explain standard error tells of each line that did nothing, whether it
-was skipped or its command refused, with what to do about it; of each client
-that lost messages since its input pool was full; and of each note that still
-sounds at the end. --strict does the same, and where a line did nothing, a
-message was lost or a file was left out, the status is 3.
+was skipped or its command refused, with what to do about it; of each line that
+was most likely meant otherwise; of each client that lost messages since its
+input pool was full; of each note that still sounds at the end; and why a file
+was left out or cannot be read. --strict does the same, and where a line did
+nothing, a message was lost or a file was left out, the status is 3.
 
 The files in D whose names end in .mid can be played by these names; the first
 256 in byte order are taken. One that cannot be read, or is no regular file or
@@ -117,10 +119,11 @@ Example, with these lines in keys.txt and synth.txt:
   0 open keys 100 100             0 open synth 100 100
   0 port 0 out 33                 0 port 0 in 66
   5 send 0 90 3C 40               0 connect 128:p0 129:p0
-  midiseq run --until 10 128=keys.txt 129=synth.txt
+  midiseq run --until 10 --strict 128=keys.txt 129=synth.txt
       prints `client 128`, `0 line 1 ok`, `0 line 2 ok`, `5 line 3 ok`,
       `client 129`, `0 line 1 ok`, `0 line 2 ok`, `0 line 3 ok` and
-      `5 port 0 90 3C 40`, each on a line";
+      `5 port 0 90 3C 40`, each on a line, and then on standard error that the
+      note still sounds";
 
 const RECORD_HELP: &str = "\
 The scripts are run as by `midiseq run`, and what came to port N of CLIENT is
@@ -130,7 +133,8 @@ note of half a second, without system common and real time messages, or with
 file without messages. FILE is made or replaced when all else is done; until
 the new one is whole, what was there stays. It can be none of the scripts and
 none of the files of D that scripts may play. --explain and --strict do what
-they do of `midiseq run`.
+they do of `midiseq run`, and tell of a port that was never there; with --strict
+nothing is written then.
 
 With --ports in place of --port the file is of format 1: first a track of
 tempos, and then a track for each port of LIST, with its name, as 129:p0. Each
@@ -145,9 +149,9 @@ messages of a track, or the file would have more than 16,777,216 bytes, or LIST
 has more than 65,534 ports.
 
 Examples:
-  midiseq record --until 1000000000 --port 129:0 --out take.mid 128=keys.txt \\
-      129=synth.txt
-  midiseq record --for 4s --ports 129:0,130:1 --ppq 96 --bpm 100 \\
+  midiseq record --until 1000000000 --strict --port 129:0 --out take.mid \\
+      128=keys.txt 129=synth.txt
+  midiseq record --for 4s --strict --ports 129:0,130:1 --ppq 96 --bpm 100 \\
       --out takes.mid 128=keys.txt 129=synth.txt 130=drums.txt";
 
 const CIRCLE_HELP: &str = "\

@@ -1,6 +1,7 @@
 -- What was read of files that were opened by their paths.
-use Rattle.std.proofs.Common.{◌≡◌, ℕ, ◌+◌, ◌<◌, Bool, List, [], ◌∷◌, ◌++◌, ◌∙◌, length, map, take, get_or, Option, refl, sym, ap, append_assoc, inl, inr}
+use Rattle.std.proofs.Common.{◌≡◌, ℕ, ◌+◌, ◌<◌, Bool, List, [], ◌∷◌, ◌++◌, ◌∙◌, length, map, take, get_or, Result, refl, sym, ap, append_assoc, inl, inr}
 use Rattle.std.proofs.lemmas.List.{map_more, take_more}
+use Rattle.file_store.specs.declared.standing.Standing.{Standing}
 use Rattle.seq_session.specs.declared.source.Script.{Script}
 use Rattle.seq_session.specs.declared.source.ScriptSource.{ScriptSource}
 use Rattle.script_text.specs.declared.script.TheConstants.{MOST_SCRIPT}
@@ -64,11 +65,11 @@ sources_next IsOpened words i w sources news x lt here e o c h =
 
 -- ---- the files of a folder
 
-module _ {R : Type 0} (IsOpened : List ℕ → R → Type 0) (HasLeft : R → List ℕ → Type 0) (CannotOpen : List ℕ → Type 0) (failed : R → Bool) (folder : List ℕ) where
+module _ {R : Type 0} (IsOpened : List ℕ → R → Type 0) (HasLeft : R → List ℕ → Type 0) (CannotOpen : List ℕ → Type 0) (failed : R → Bool) (IsStanding : List ℕ → Standing → Type 0) (folder : List ℕ) where
   -- one more file
-  contents_more : (names : List (List ℕ)) (contents : List (Option (List ℕ))) (name : List ℕ) (content : Option (List ℕ)) →
-      AreContents IsOpened HasLeft CannotOpen failed folder names contents → IsContent IsOpened HasLeft CannotOpen failed (path_in folder name) content →
-      AreContents IsOpened HasLeft CannotOpen failed folder (names ++ name ∷ []) (contents ++ content ∷ [])
+  contents_more : (names : List (List ℕ)) (contents : List (Result (List ℕ) Standing)) (name : List ℕ) (content : Result (List ℕ) Standing) →
+      AreContents IsOpened HasLeft CannotOpen failed IsStanding folder names contents → IsContent IsOpened HasLeft CannotOpen failed IsStanding (path_in folder name) content →
+      AreContents IsOpened HasLeft CannotOpen failed IsStanding folder (names ++ name ∷ []) (contents ++ content ∷ [])
   contents_more [] [] name content a h = (h, tt)
   contents_more [] (c ∷ contents) name content a h = absurd a
   contents_more (n ∷ names) [] name content a h = absurd a
@@ -78,10 +79,10 @@ module _ {R : Type 0} (IsOpened : List ℕ → R → Type 0) (HasLeft : R → Li
   map-last f [] x = refl
   map-last f (y ∷ ys) x = ap (λ zs. f y ∷ zs) (map-last f ys x)
 
-  pub contents_next : {N C : Type 0} (name_of : N → List ℕ) (content_of : C → Option (List ℕ)) (names : List N) (i : ℕ) (name : N) (contents news : List C) (content : C) →
-      i < length names → name ≡ get_or names i name → news ≡ contents ++ content ∷ [] → IsContent IsOpened HasLeft CannotOpen failed (path_in folder (name_of name)) (content_of content) →
-      AreContents IsOpened HasLeft CannotOpen failed folder (map name_of (take i names)) (map content_of contents) →
-      AreContents IsOpened HasLeft CannotOpen failed folder (map name_of (take (i + 1) names)) (map content_of news)
+  pub contents_next : {N C : Type 0} (name_of : N → List ℕ) (content_of : C → Result (List ℕ) Standing) (names : List N) (i : ℕ) (name : N) (contents news : List C) (content : C) →
+      i < length names → name ≡ get_or names i name → news ≡ contents ++ content ∷ [] → IsContent IsOpened HasLeft CannotOpen failed IsStanding (path_in folder (name_of name)) (content_of content) →
+      AreContents IsOpened HasLeft CannotOpen failed IsStanding folder (map name_of (take i names)) (map content_of contents) →
+      AreContents IsOpened HasLeft CannotOpen failed IsStanding folder (map name_of (take (i + 1) names)) (map content_of news)
   contents_next name_of content_of names i name contents news content lt here e h a =
       let first : map name_of (take (i + 1) names) ≡ map name_of (take i names) ++ name_of name ∷ [] =
       map_more name_of names i name lt ∙ ap (λ n. map name_of (take i names) ++ name_of n ∷ []) (sym here) in

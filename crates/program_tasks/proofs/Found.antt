@@ -1,11 +1,12 @@
 -- Files that are found one after another.
-use Rattle.std.proofs.Common.{◌≡◌, ℕ, suc, ◌+◌, ◌<◌, ◌≤◌, List, [], ◌∷◌, ◌++◌, length, map, drop, get_or, Option, Some, None, refl, sym, ap, ◌∙◌, subst, append_assoc, arith}
+use Rattle.std.proofs.Common.{◌≡◌, ℕ, suc, ◌+◌, ◌<◌, ◌≤◌, List, [], ◌∷◌, ◌++◌, length, map, drop, get_or, Result, Ok, Err, refl, sym, ap, ◌∙◌, subst, append_assoc, arith}
 use Rattle.std.specs.List.{flat_map}
-use Rattle.std.specs.Option.{option_to_list}
 use Rattle.std.proofs.lemmas.List.{append-nil, drop_more, length-map}
 use Rattle.std.proofs.Math.ListN.{drop_of_length-le}
+use Rattle.file_store.specs.declared.standing.Standing.{Standing}
 use Rattle.smf_grammar.specs.Files.{MidiFile}
-use Rattle.program_tasks.specs.FolderFiles.{FoundFiles, AreFound, AreOpened, GainsFile, found_name, lost_name, by_name}
+use Rattle.program_tasks.specs.declared.left_out.WhyLeftOut.{WhyLeftOut}
+use Rattle.program_tasks.specs.FolderFiles.{FoundFiles, AreFound, AreOpened, GainsFile, found_file, found_name, lost_file, by_name}
 
 -- no file
 abbrev pub nothing : FoundFiles
@@ -20,11 +21,11 @@ joined one more = record {
 }
 
 -- With these opened, what is made of the others is what is still to come.
-abbrev pub OpensOn : List (List ℕ) → List (Option (List ℕ)) → List (List ℕ) → List (Option (List ℕ)) → FoundFiles → Type 0
+abbrev pub OpensOn : List (List ℕ) → List (Result (List ℕ) Standing) → List (List ℕ) → List (Result (List ℕ) Standing) → FoundFiles → Type 0
 OpensOn names contents others other_contents o =
     (more : FoundFiles) → AreOpened others other_contents more → AreOpened names contents (joined o more)
 
-pub opens_first : (names : List (List ℕ)) (contents : List (Option (List ℕ))) (o : FoundFiles) → o.names ≡ [] → o.files ≡ [] → o.left_out ≡ [] → OpensOn names contents names contents o
+pub opens_first : (names : List (List ℕ)) (contents : List (Result (List ℕ) Standing)) (o : FoundFiles) → o.names ≡ [] → o.files ≡ [] → o.left_out ≡ [] → OpensOn names contents names contents o
 opens_first names contents o n f l more h = record {
   found = h.found;
   are = h.are;
@@ -33,27 +34,27 @@ opens_first names contents o n f l more h = record {
   left_out_are = ap (λ xs. xs ++ more.left_out) l ∙ h.left_out_are;
 }
 
-pub opens_next : (names ns : List (List ℕ)) (contents cs : List (Option (List ℕ))) (name : List ℕ) (content : Option (List ℕ)) (old new : FoundFiles) →
+pub opens_next : (names ns : List (List ℕ)) (contents cs : List (Result (List ℕ) Standing)) (name : List ℕ) (content : Result (List ℕ) Standing) (old new : FoundFiles) →
     OpensOn names contents (name ∷ ns) (content ∷ cs) old → GainsFile name content old new → OpensOn names contents ns cs new
 opens_next names ns contents cs name content old new h g more m =
-    let one : FoundFiles = record { names = found_name name g.file; files = option_to_list g.file; left_out = lost_name name g.file } in
+    let one : FoundFiles = record { names = found_name name g.file; files = found_file g.file; left_out = lost_file name g.file } in
     let next : AreOpened (name ∷ ns) (content ∷ cs) (joined one more) = record {
       found = g.file ∷ m.found;
       are = (g.is, m.are);
       names_are = ap (λ xs. found_name name g.file ++ xs) m.names_are;
-      files_are = ap (λ xs. option_to_list g.file ++ xs) m.files_are;
-      left_out_are = ap (λ xs. lost_name name g.file ++ xs) m.left_out_are;
+      files_are = ap (λ xs. found_file g.file ++ xs) m.files_are;
+      left_out_are = ap (λ xs. lost_file name g.file ++ xs) m.left_out_are;
     } in
     let all : AreOpened names contents (joined old (joined one more)) = h (joined one more) next in
     record {
       found = all.found;
       are = all.are;
       names_are = ap (λ xs. xs ++ more.names) g.names_are ∙ append_assoc old.names (found_name name g.file) more.names ∙ all.names_are;
-      files_are = ap (λ xs. xs ++ more.files) g.files_are ∙ append_assoc old.files (option_to_list g.file) more.files ∙ all.files_are;
-      left_out_are = ap (λ xs. xs ++ more.left_out) g.left_out_are ∙ append_assoc old.left_out (lost_name name g.file) more.left_out ∙ all.left_out_are;
+      files_are = ap (λ xs. xs ++ more.files) g.files_are ∙ append_assoc old.files (found_file g.file) more.files ∙ all.files_are;
+      left_out_are = ap (λ xs. xs ++ more.left_out) g.left_out_are ∙ append_assoc old.left_out (lost_file name g.file) more.left_out ∙ all.left_out_are;
     }
 
-pub opens_last : (names : List (List ℕ)) (contents : List (Option (List ℕ))) (o : FoundFiles) → OpensOn names contents [] [] o → AreOpened names contents o
+pub opens_last : (names : List (List ℕ)) (contents : List (Result (List ℕ) Standing)) (o : FoundFiles) → OpensOn names contents [] [] o → AreOpened names contents o
 opens_last names contents o h =
     let none : AreOpened [] [] nothing = record { found = []; are = tt; names_are = refl; files_are = refl; left_out_are = refl } in
     let all : AreOpened names contents (joined o nothing) = h nothing none in
@@ -66,33 +67,33 @@ opens_last names contents o h =
     }
 
 -- as many names as files are found
-count : (names : List (List ℕ)) (contents : List (Option (List ℕ))) (found : List (Option MidiFile)) → length names ≡ length contents → AreFound contents found →
-    length (by_name found_name names found) ≡ length (flat_map option_to_list found)
+count : (names : List (List ℕ)) (contents : List (Result (List ℕ) Standing)) (found : List (Result MidiFile WhyLeftOut)) → length names ≡ length contents → AreFound contents found →
+    length (by_name found_name names found) ≡ length (flat_map found_file found)
 count [] [] [] e are = refl
 count [] [] (file ∷ found) e are = elim are [ ]
 count [] (c ∷ cs) found e are = absurd (omega (arith, e))
 count (n ∷ ns) [] found e are = absurd (omega (arith, e))
 count (n ∷ ns) (c ∷ cs) [] e are = elim are [ ]
-count (n ∷ ns) (c ∷ cs) (None ∷ found) e are = count ns cs found (omega (arith, e)) are.1
-count (n ∷ ns) (c ∷ cs) (Some file ∷ found) e are = ap (λ k. suc k) (count ns cs found (omega (arith, e)) are.1)
+count (n ∷ ns) (c ∷ cs) (Err why ∷ found) e are = count ns cs found (omega (arith, e)) are.1
+count (n ∷ ns) (c ∷ cs) (Ok file ∷ found) e are = ap (λ k. suc k) (count ns cs found (omega (arith, e)) are.1)
 
-pub as_many_opened : (names : List (List ℕ)) (contents : List (Option (List ℕ))) (o : FoundFiles) → length names ≡ length contents → AreOpened names contents o → length o.names ≡ length o.files
+pub as_many_opened : (names : List (List ℕ)) (contents : List (Result (List ℕ) Standing)) (o : FoundFiles) → length names ≡ length contents → AreOpened names contents o → length o.names ≡ length o.files
 as_many_opened names contents o e h =
     ap length h.names_are ∙ count names contents h.found e h.are ∙ sym (ap length h.files_are)
 
 -- no more names are found than there are
-few : (names : List (List ℕ)) (found : List (Option MidiFile)) → length (by_name found_name names found) ≤ length names
+few : (names : List (List ℕ)) (found : List (Result MidiFile WhyLeftOut)) → length (by_name found_name names found) ≤ length names
 few [] found = omega arith
 few (n ∷ ns) [] = omega arith
-few (n ∷ ns) (None ∷ found) = let h : length (by_name found_name ns found) ≤ length ns = few ns found in omega arith
-few (n ∷ ns) (Some file ∷ found) = let h : length (by_name found_name ns found) ≤ length ns = few ns found in omega arith
+few (n ∷ ns) (Err why ∷ found) = let h : length (by_name found_name ns found) ≤ length ns = few ns found in omega arith
+few (n ∷ ns) (Ok file ∷ found) = let h : length (by_name found_name ns found) ≤ length ns = few ns found in omega arith
 
-pub few_opened : (names : List (List ℕ)) (contents : List (Option (List ℕ))) (o : FoundFiles) → AreOpened names contents o → length o.names ≤ length names
+pub few_opened : (names : List (List ℕ)) (contents : List (Result (List ℕ) Standing)) (o : FoundFiles) → AreOpened names contents o → length o.names ≤ length names
 few_opened names contents o h = subst (λ xs. length xs ≤ length names) (sym h.names_are) (few names h.found)
 
 -- ---- the same of what stands in lists from a place on
 
-module _ {X Y : Type 0} (name : X → List ℕ) (content : Y → Option (List ℕ)) (xs : List X) (ys : List Y) (as_many : length xs ≡ length ys) (i : ℕ) where
+module _ {X Y : Type 0} (name : X → List ℕ) (content : Y → Result (List ℕ) Standing) (xs : List X) (ys : List Y) (as_many : length xs ≡ length ys) (i : ℕ) where
   abbrev pub OpensFrom : ℕ → FoundFiles → Type 0
   OpensFrom j o = OpensOn (map name xs) (map content ys) (map name (drop j xs)) (map content (drop j ys)) o
 

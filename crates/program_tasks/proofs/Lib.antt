@@ -19,3 +19,4 @@ pub mod GridRead
 pub mod Lengths
 pub mod AllTaken
 pub mod Diagnosed
+pub mod Absent

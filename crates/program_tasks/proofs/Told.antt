@@ -1,37 +1,16 @@
 -- Lines that are shown one after another.
-use Rattle.std.proofs.Common.{◌≡◌, ◌<◌, ◌≤◌, ◌+◌, ◌++◌, ℕ, List, [], ◌∷◌, ◌∙◌, length, map, take, get_or, sym, ap, subst}
+use Rattle.std.proofs.Common.{◌≡◌, ◌<◌, ◌≤◌, ◌+◌, ◌++◌, ℕ, List, [], ◌∷◌, ◌∙◌, length, map, take, drop, get_or, refl, sym, ap, subst, Bool}
 use Rattle.std.proofs.lemmas.Grind.{flat_map-append}
-use Rattle.std.proofs.lemmas.List.{append-nil, map_more, take_more}
+use Rattle.std.proofs.lemmas.List.{append-nil, drop-map, take_more}
 use Rattle.byte_io.specs.Moved.{Took}
 use Rattle.byte_io.proofs.Moved.{took_more}
-use Rattle.program_tasks.specs.Program.{left_out_line, left_out_lines}
+use Rattle.script_text.specs.declared.script.TheConstants.{MOST_FILES}
+use Rattle.program_tasks.specs.declared.left_out.WhyLeftOut.{WhyLeftOut}
+use Rattle.program_tasks.specs.declared.left_out.WhyLeftOut.TheVariants.{Beyond}
 use Rattle.program_tasks.specs.Explained.{lines_told}
+use Rattle.program_tasks.specs.FolderFiles.{LostFile}
+use Rattle.program_tasks.specs.LeftOut.{all_lost, lost_for, lost_line, lost_lines, lost_where}
 use Rattle.program_tasks.proofs.Opened.{take-all}
-
--- the first line, and then the others
-pub told_first : {N X : Type 0} (HasTold : N → List ℕ → Type 0) (name_of : X → List ℕ) (names more : List X) (first : X) (s t u : N) → names ≡ first ∷ more →
-    Took HasTold s (left_out_line (name_of first) ++ 10 ∷ []) t → Took HasTold t (left_out_lines (map name_of more)) u → Took HasTold s (left_out_lines (map name_of names)) u
-told_first HasTold name_of names more first s t u e line lines = rw e (took_more HasTold s t u _ _ line lines)
-
-module _ {N X : Type 0} (HasTold : N → List ℕ → Type 0) (name_of : X → List ℕ) where
-  -- one more line
-  pub told_next : (names : List X) (i : ℕ) (name : X) (s t u : N) → i < length names → name ≡ get_or names i name →
-      Took HasTold s (left_out_lines (map name_of (take i names))) t → Took HasTold t (left_out_line (name_of name) ++ 10 ∷ []) u →
-      Took HasTold s (left_out_lines (map name_of (take (i + 1) names))) u
-  told_next names i name s t u lt here before line =
-      let last : left_out_lines (name_of name ∷ []) ≡ left_out_line (name_of name) ++ 10 ∷ [] = append-nil _ in
-      let lines : left_out_lines (map name_of (take (i + 1) names)) ≡ left_out_lines (map name_of (take i names)) ++ (left_out_line (name_of name) ++ 10 ∷ []) =
-      ap left_out_lines (map_more name_of names i name lt ∙ ap (λ n. map name_of (take i names) ++ name_of n ∷ []) (sym here))
-      ∙ flat_map-append (λ n. left_out_line n ++ 10 ∷ []) (map name_of (take i names)) (name_of name ∷ [])
-      ∙ ap (λ more. left_out_lines (map name_of (take i names)) ++ more) last in
-      subst (λ text. Took HasTold s text u) (sym lines) (took_more HasTold s t u _ _ before line)
-
-  -- and so all of them
-  pub told_all : (names : List X) (i : ℕ) (s t : N) → i ≤ length names → length names ≤ i →
-      Took HasTold s (left_out_lines (map name_of (take i names))) t → Took HasTold s (left_out_lines (map name_of names)) t
-  told_all names i s t l g told = subst (λ xs. Took HasTold s (left_out_lines (map name_of xs)) t) (take-all i names l g) told
-
--- ---- lines of anything
 
 module _ {N X : Type 0} (HasTold : N → List ℕ → Type 0) (line : X → List ℕ) where
   -- one more line
@@ -50,3 +29,42 @@ module _ {N X : Type 0} (HasTold : N → List ℕ → Type 0) (line : X → List
   pub line_all : (xs : List X) (i : ℕ) (s t : N) → i ≤ length xs → length xs ≤ i →
       Took HasTold s (lines_told line (take i xs)) t → Took HasTold s (lines_told line xs) t
   line_all xs i s t l g told = subst (λ ys. Took HasTold s (lines_told line ys) t) (take-all i xs l g) told
+
+-- ---- lines of what stands in a list of something else
+
+-- the first line, and then the others
+pub told_first : {N X Y : Type 0} (HasTold : N → List ℕ → Type 0) (line : Y → List ℕ) (of : X → Y) (xs more : List X) (first : X) (s t u : N) → xs ≡ first ∷ more →
+    Took HasTold s (line (of first) ++ 10 ∷ []) t → Took HasTold t (lines_told line (map of more)) u → Took HasTold s (lines_told line (map of xs)) u
+told_first HasTold line of xs more first s t u e one others = rw e (took_more HasTold s t u _ _ one others)
+
+lines_mapped : {X Y : Type 0} (line : Y → List ℕ) (of : X → Y) (xs : List X) → lines_told (λ x. line (of x)) xs ≡ lines_told line (map of xs)
+lines_mapped line of [] = refl
+lines_mapped line of (x ∷ xs) = ap (λ more. (line (of x) ++ 10 ∷ []) ++ more) (lines_mapped line of xs)
+
+pub mapped_all : {N X Y : Type 0} (HasTold : N → List ℕ → Type 0) (line : Y → List ℕ) (of : X → Y) (xs : List X) (i : ℕ) (s t : N) → i ≤ length xs → length xs ≤ i →
+    Took HasTold s (lines_told (λ x. line (of x)) (take i xs)) t → Took HasTold s (lines_told line (map of xs)) t
+mapped_all HasTold line of xs i s t l g told = subst (λ text. Took HasTold s text t) (lines_mapped line of xs) (line_all HasTold (λ x. line (of x)) xs i s t l g told)
+
+-- lines of names, of files that are left out for one reason
+pub named_all : {N X : Type 0} (HasTold : N → List ℕ → Type 0) (explains : Bool) (why : WhyLeftOut) (name_of : X → List ℕ) (names : List X) (i : ℕ) (s t : N) → i ≤ length names → length names ≤ i →
+    Took HasTold s (lines_told (λ name. lost_line explains (record { name = name_of name; why = why })) (take i names)) t → Took HasTold s (lost_lines explains (lost_for why (map name_of names))) t
+named_all HasTold explains why name_of names i s t l g told =
+    subst (λ text. Took HasTold s text t) (lines_mapped (lost_line explains) (λ name. record { name = name; why = why }) (map name_of names))
+    (mapped_all HasTold (λ name. lost_line explains (record { name = name; why = why })) name_of names i s t l g told)
+
+-- ---- the files that are left out
+
+module _ {N : Type 0} (HasTold : N → List ℕ → Type 0) (explains : Bool) where
+  lost_append : (xs ys : List LostFile) (s t u : N) → Took HasTold s (lost_lines explains xs) t → Took HasTold t (lost_lines explains ys) u → Took HasTold s (lost_lines explains (xs ++ ys)) u
+  lost_append xs ys s t u one more =
+      subst (λ text. Took HasTold s text u) (sym (flat_map-append (λ file. lost_line explains file ++ 10 ∷ []) xs ys)) (took_more HasTold s t u _ _ one more)
+
+  -- those that cannot be played, those that stand behind the others, and those with capitals
+  pub told_lost : {X : Type 0} (unplayable : List LostFile) (name_of : X → List ℕ) (names rest capitals : List X) (s t u v : N) → rest ≡ drop MOST_FILES names →
+      Took HasTold s (lost_lines explains unplayable) t → Took HasTold t (lost_lines explains (lost_for Beyond (map name_of rest))) u →
+      Took HasTold u (lost_lines explains (lost_where explains (map name_of capitals))) v →
+      Took HasTold s (lost_lines explains (all_lost explains unplayable (map name_of names) (map name_of capitals))) v
+  told_lost unplayable name_of names rest capitals s t u v is one two three =
+      let behind : map name_of rest ≡ drop MOST_FILES (map name_of names) = ap (map name_of) is ∙ sym (drop-map name_of MOST_FILES names) in
+      lost_append unplayable _ s t v one
+      (lost_append _ _ t u v (subst (λ names. Took HasTold t (lost_lines explains (lost_for Beyond names)) u) behind two) three)

@@ -1,10 +1,13 @@
 -- Definition: What is told of a run, beside its logs: what it did not do, and notes that sound.
-use Rattle.std.specs.Prelude.{◌≡◌, ℕ, ◌+◌, ◌==◌, Bool, true, false, ◌&&◌, if◌then◌else◌, List, [], ◌∷◌, ◌++◌, length, codes}
-use Rattle.std.specs.List.{flat_map}
+use Rattle.std.specs.Prelude.{◌≡◌, ℕ, ◌+◌, ◌/◌, ◌==◌, max, Bool, true, false, not, ◌&&◌, if◌then◌else◌, List, [], ◌∷◌, ◌++◌, length, codes}
+use Rattle.std.specs.List.{filter, flat_map}
 use Rattle.std.specs.Fmt.{decimal}
 use Rattle.byte_io.specs.Moved.{Took}
-use Rattle.node_table.specs.Text.{addr_text}
+use Rattle.node_table.specs.Text.{addr_text, queue_text}
+use Rattle.node_table.specs.declared.number.Addr.{Addr}
 use Rattle.node_table.specs.declared.number.Node.TheVariants.{Port}
+use Rattle.node_table.specs.declared.number.PortAddr.{PortAddr}
+use Rattle.node_table.specs.declared.number.QueueAddr.{QueueAddr}
 use Rattle.seq_state.specs.Refusals.{refusal_text}
 use Rattle.seq_state.specs.declared.refusal.Refusal.{Refusal}
 use Rattle.seq_state.specs.declared.refusal.Refusal.TheVariants.{NotOpen, AlreadyOpen, BadName, BadSize, BadRule, NodeExists, NoNode, NoSender, NoDest, NotPermitted, AlreadyConnected, NotConnected, SourcesFull, Cycle, QueueExists, NotYours, NoQueue, QueueRunning, QueueStopped, NoFile, DivisionDiffers, BadTempo, BadTime, OutFull}
@@ -12,13 +15,20 @@ use Rattle.seq_engine.specs.declared.losses.Loss.{Loss}
 use Rattle.script_text.specs.declared.reading.SkipReason.{SkipReason}
 use Rattle.script_text.specs.declared.reading.SkipReason.TheVariants as reason
 use Rattle.script_text.specs.LineFaults.{line_fault_text}
+use Rattle.seq_session.specs.declared.about.About.{About}
+use Rattle.seq_session.specs.declared.about.About.TheVariants as about
+use Rattle.seq_session.specs.declared.about.Capability.{Capability}
+use Rattle.seq_session.specs.declared.about.Capability.TheVariants.{Read, SubsRead, Write, SubsWrite}
 use Rattle.seq_session.specs.declared.diagnostic.Cause.{Cause}
 use Rattle.seq_session.specs.declared.diagnostic.Cause.TheVariants.{Unreadable, Skipped, Refused}
 use Rattle.seq_session.specs.declared.diagnostic.Diagnostic.{Diagnostic}
 use Rattle.seq_session.specs.declared.session_run.SessionRun.{SessionRun}
+use Rattle.seq_session.specs.declared.slip.Slip.{Slip}
+use Rattle.seq_session.specs.declared.slip.Slip.TheVariants.{TempoAsBpm, ChannelsTen}
+use Rattle.seq_session.specs.declared.slip.SlipOnLine.{SlipOnLine}
 use Rattle.seq_session.specs.declared.source.Script.{Script}
 use Rattle.seq_session.specs.Devices.{IsRunOf}
-use Rattle.seq_session.specs.Sessions.{FolderContents, happens, diagnosed_in, lost_in}
+use Rattle.seq_session.specs.Sessions.{FolderContents, happens, diagnosed_in, lost_in, slips_in, has_port}
 use Rattle.sounding_notes.specs.declared.listing.SoundingNote.{SoundingNote}
 use Rattle.sounding_notes.specs.Sounding.{sounding}
 use Rattle.program_tasks.specs.declared.explanation.Explanation.{Explanation}
@@ -38,7 +48,7 @@ skipped_since reason.PastEnd = codes "its moment lies past the end of the run"
 skipped_since reason.Late = codes "its moment lies before that of a line above it"
 skipped_since reason.TooLong = codes "the script has more than 1048576 bytes"
 
--- what to do about a refusal
+-- what to do about a refusal, where nothing is named
 abbrev pub remedy : Refusal → List ℕ
 remedy NotOpen = codes "open first"
 remedy AlreadyOpen = codes "close first"
@@ -73,10 +83,75 @@ remedy OutFull =
     codes "the output pool is full: wait until something was sent, drop, or open with a "
     ++ codes "greater OUT"
 
+-- what is said of a node that a refusal is about; other refusals are about none
+abbrev pub said_of_node : Refusal → List ℕ
+said_of_node NodeExists = codes " is there already: use another number, or drop it"
+said_of_node NoNode = codes " is not there: make it first"
+said_of_node NoSender = codes " is not there: its client has to make it first"
+said_of_node NoDest = codes " is not there: its client has to make it first"
+said_of_node SourcesFull = codes " has 32 sources already: end another subscription first"
+said_of_node _ = codes " is at fault"
+
+-- of a subscription that a refusal is about; other refusals are about none
+abbrev pub said_of_edge : Refusal → List ℕ
+said_of_edge AlreadyConnected = codes " is there already"
+said_of_edge Cycle = codes " would close a ring of filters: leave out one subscription of it"
+said_of_edge _ = codes " is at fault"
+
+-- `128:p0 to 129:p0`
+abbrev pub edge_text : Addr → Addr → List ℕ
+edge_text s t = addr_text s.client s.node ++ (codes " to " ++ addr_text t.client t.node)
+
+abbrev pub edge_remedy : Refusal → Addr → Addr → List ℕ
+edge_remedy NotConnected s t = codes "there is no subscription " ++ edge_text s t
+edge_remedy r s t = edge_text s t ++ said_of_edge r
+
+-- of a queue that a refusal is about; other refusals are about none
+abbrev pub said_of_queue : Refusal → List ℕ
+said_of_queue QueueExists = codes " is there already: use another number, or drop it"
+said_of_queue NoQueue = codes " is not there: make it first"
+said_of_queue QueueRunning = codes " runs already: stop it first"
+said_of_queue QueueStopped = codes " is held already"
+said_of_queue _ = codes " is at fault"
+
+-- of a queue that is another client's
+abbrev pub owner_said : ℕ → List ℕ
+owner_said client =
+    codes " is client "
+    ++ (decimal client ++ codes "'s: only status, schedule and play may use it, once it is shared")
+
+abbrev pub queue_remedy : Refusal → QueueAddr → List ℕ
+queue_remedy NotYours q = queue_text q.client q.queue ++ owner_said q.client
+queue_remedy r q = queue_text q.client q.queue ++ said_of_queue r
+
+-- of a node that lacks a capability
+abbrev pub said_of_lack : Capability → List ℕ
+said_of_lack Read = codes " lacks READ: its owner chooses that"
+said_of_lack SubsRead = codes " lacks SUBS_READ: its owner chooses that"
+said_of_lack Write = codes " lacks WRITE: its owner chooses that"
+said_of_lack SubsWrite = codes " lacks SUBS_WRITE: its owner chooses that"
+
+-- `131:p0 lacks READ: its owner chooses that`
+abbrev pub lack_text : Addr → Capability → List ℕ
+lack_text a c = addr_text a.client a.node ++ said_of_lack c
+
+abbrev pub no_export_text : Addr → List ℕ
+no_export_text a = addr_text a.client a.node ++ codes " has NO_EXPORT: its owner chooses that"
+
+-- what to do about a refusal, with the names of what it is about:
+-- `131:f0 is not there: its client has to make it first`
+abbrev pub remedy_named : Refusal → About → List ℕ
+remedy_named r about.Nothing = remedy r
+remedy_named r (about.Node a) = addr_text a.client a.node ++ said_of_node r
+remedy_named r (about.Edge s t) = edge_remedy r s t
+remedy_named r (about.Queue q) = queue_remedy r q
+remedy_named r (about.Lacks a c) = lack_text a c
+remedy_named r (about.NotExported a) = no_export_text a
+
 abbrev pub cause_text : Cause → List ℕ
 cause_text (Unreadable fault) = codes "skipped: " ++ line_fault_text fault
 cause_text (Skipped why) = codes "skipped: " ++ skipped_since why
-cause_text (Refused r) = codes "refused " ++ refusal_text r ++ codes ": " ++ remedy r
+cause_text (Refused r a) = codes "refused " ++ refusal_text r ++ codes ": " ++ remedy_named r a
 
 -- `:3`; nothing for the whole script
 abbrev pub place_text : ℕ → List ℕ
@@ -91,6 +166,27 @@ diagnostic_line path d =
 abbrev pub path_for : List ScriptWord → ℕ → List ℕ
 path_for [] client = []
 path_for (w ∷ words) client = if w.client == client then w.path.now else path_for words client
+
+-- ---- lines that did most likely not what was meant
+
+-- microseconds per quarter note at so many beats per minute, rounded down
+abbrev pub tempo_meant : ℕ → ℕ
+tempo_meant bpm = 60000000 / max bpm 1
+
+-- what a tempo says, and what was meant
+abbrev pub said_text : ℕ → List ℕ
+said_text tempo =
+    codes "TEMPO " ++ (decimal tempo ++ (codes " is " ++ (decimal tempo
+    ++ (codes " microseconds per quarter note: " ++ (decimal tempo
+    ++ codes " beats per minute are ")))))
+
+abbrev pub slip_text : Slip → List ℕ
+slip_text (TempoAsBpm tempo) = said_text tempo ++ decimal (tempo_meant tempo)
+slip_text ChannelsTen = codes "CHANNELS 10 is channels 2 and 4: channel 10 alone is 512"
+
+-- `keys.txt:3: CHANNELS 10 is channels 2 and 4: channel 10 alone is 512`
+abbrev pub slip_line : List ℕ → SlipOnLine → List ℕ
+slip_line path s = escaped_text path ++ place_text s.line ++ codes ": " ++ slip_text s.slip
 
 -- ---- messages that were lost
 
@@ -119,6 +215,12 @@ sounding_line n =
     line_start ++ (addr_text n.target.client (Port n.target.port)
     ++ (note_text n ++ codes " still sounds"))
 
+-- ---- ports that were never there
+
+-- `midiseq: 129:p0 was never there`
+abbrev pub absent_line : PortAddr → List ℕ
+absent_line p = line_start ++ (addr_text p.client (Port p.port) ++ codes " was never there")
+
 -- ---- a run
 
 abbrev pub lines_told : {X : Type 0} → (X → List ℕ) → List X → List ℕ
@@ -128,11 +230,18 @@ lines_told line xs = flat_map (λ x. line x ++ 10 ∷ []) xs
 abbrev pub diagnostics_told : List ScriptWord → List Diagnostic → List ℕ
 diagnostics_told words ds = lines_told (λ d. diagnostic_line (path_for words d.client) d) ds
 
--- the lines that did nothing, then what was lost, and then what sounds
+abbrev pub slips_told : List ScriptWord → List SlipOnLine → List ℕ
+slips_told words ss = lines_told (λ s. slip_line (path_for words s.client) s) ss
+
+-- the lines that did nothing, the ones that did most likely not what was meant, then what was lost,
+-- what sounds, and which ports were never there
 abbrev pub explanation_lines : List ScriptWord → Explanation → List ℕ
 explanation_lines words x =
     diagnostics_told words x.diagnostics.items
-    ++ (lines_told loss_line x.losses.items ++ lines_told sounding_line x.sounding.items)
+    ++ (slips_told words x.slips.items
+    ++ (lines_told loss_line x.losses.items
+    ++ (lines_told sounding_line x.sounding.items
+    ++ lines_told absent_line x.absent.items)))
 
 -- the same, where it is asked for
 abbrev pub told_where : Bool → List ScriptWord → Explanation → List ℕ
@@ -146,22 +255,30 @@ abbrev pub answer_where : Bool → RunAnswer
 answer_where true = Complete
 answer_where false = Incomplete
 
--- complete where all files were taken, no line did nothing, and no message was lost
+-- complete where all files were taken, no line did nothing, no message was lost, and each port that
+-- is recorded was there
 abbrev pub run_answer : Bool → Explanation → RunAnswer
 run_answer all_taken x =
-    answer_where (all_taken && are_none x.diagnostics.items && are_none x.losses.items)
+    answer_where (all_taken && are_none x.diagnostics.items && are_none x.losses.items
+    && are_none x.absent.items)
 
--- what the run of these scripts did not do
+-- those of some ports that were never there
+abbrev pub absent_ports : FolderContents → ℕ → List Script → List PortAddr → List PortAddr
+absent_ports folder end scripts ports = filter (λ p. not (has_port folder end scripts p)) ports
+
+-- what the run of these scripts did not do, where these ports are recorded
 pub record IsExplanationOf (folder : FolderContents) (end : ℕ) (scripts : List Script)
-    (x : Explanation) : Type 0 where
+    (ports : List PortAddr) (x : Explanation) : Type 0 where
   pub diagnostics : x.diagnostics.items ≡ diagnosed_in folder end scripts
+  pub slips : x.slips.items ≡ slips_in folder end scripts
   pub losses : x.losses.items ≡ lost_in folder end scripts
   pub sounding : x.sounding.items ≡ sounding (happens folder end scripts)
+  pub absent : x.absent.items ≡ absent_ports folder end scripts ports
 
 -- it is that of whatever scripts were run
-abbrev pub IsExplainedBy : SessionRun → Explanation → Type 0
-IsExplainedBy run x = (folder : FolderContents) (end : ℕ) (scripts : List Script) →
-    IsRunOf folder end scripts run → IsExplanationOf folder end scripts x
+abbrev pub IsExplainedBy : SessionRun → List PortAddr → Explanation → Type 0
+IsExplainedBy run ports x = (folder : FolderContents) (end : ℕ) (scripts : List Script) →
+    IsRunOf folder end scripts run → IsExplanationOf folder end scripts ports x
 
 module _ {R : Type 0} (IsOpened : List ℕ → R → Type 0) (HasLeft : R → List ℕ → Type 0) where
   -- The scripts were read from the files that the words name, and the run is that of just these.
@@ -172,11 +289,11 @@ module _ {R : Type 0} (IsOpened : List ℕ → R → Type 0) (HasLeft : R → Li
     pub is : IsRunOf folder end scripts run
 
   -- The scripts were read from the files that the words name, the sink took what the session of
-  -- just these says, and its explanation is given.
+  -- just these says, and its explanation is given; no port is recorded.
   pub record IsSessionExplained {W : Type 0} (HasTaken : W → List ℕ → Type 0)
       (folder : FolderContents) (end : ℕ) (listed : Bool) (words : List ScriptWord)
       (x : Explanation) (old new : W) : Type 0 where
     pub scripts : List Script
     pub read : AreOfFiles IsOpened HasLeft words scripts
     pub took : Took HasTaken old (session_text folder end listed scripts) new
-    pub explained : IsExplanationOf folder end scripts x
+    pub explained : IsExplanationOf folder end scripts [] x

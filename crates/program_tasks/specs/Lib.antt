@@ -11,6 +11,7 @@ pub mod Apart
 pub mod Sessions
 pub mod Printed
 pub mod Explained
+pub mod LeftOut
 pub mod Circles
 pub mod Recorded
 pub mod Faults

@@ -1,12 +1,13 @@
 -- Definition: What was read of files that were opened by their paths.
-use Rattle.std.specs.Prelude.{◌≡◌, ◌+◌, ◌⊎◌, ℕ, Bool, true, List, [], ◌∷◌, ◌++◌, Option, Some, None, take, codes}
+use Rattle.std.specs.Prelude.{◌≡◌, ◌+◌, ◌⊎◌, ℕ, Bool, true, List, [], ◌∷◌, ◌++◌, Option, Some, None, Result, Ok, Err, take, codes}
 use Rattle.byte_io.specs.Moved.{GaveAll}
+use Rattle.file_store.specs.declared.standing.Standing.{Standing}
 use Rattle.smf_grammar.specs.Chunks.{most_bytes}
 use Rattle.script_text.specs.declared.script.TheConstants.{MOST_FILES, MOST_SCRIPT}
 use Rattle.seq_session.specs.declared.source.Script.{Script}
 use Rattle.seq_session.specs.declared.source.ScriptSource.{ScriptSource}
 use Rattle.program_tasks.specs.declared.words.ScriptWord.{ScriptWord}
-use Rattle.program_tasks.specs.FolderFiles.{AreMidiFiles}
+use Rattle.program_tasks.specs.FolderFiles.{AreInCapitals, AreMidiFiles}
 
 -- Each source is of the client that a word names, and was opened at the path that it names.
 abbrev pub AreSourcesOf : {R : Type 0} → (List ℕ → R → Type 0) → List ScriptWord
@@ -58,28 +59,33 @@ module _ {R : Type 0} (IsOpened : List ℕ → R → Type 0) (HasLeft : R → Li
     abbrev pub IsUnreadable : List ℕ → Type 0
     IsUnreadable path = CannotOpen path ⊎ IsBroken path
 
-    -- what was read of the file at a path, if it could be read
-    abbrev pub IsContent : List ℕ → Option (List ℕ) → Type 0
-    IsContent path (Some bytes) = IsOfFile (most_bytes + 1) path bytes
-    IsContent path None = IsUnreadable path
+    module _ (IsStanding : List ℕ → Standing → Type 0) where
+      -- what was read of the file at a path, and of one that could not be read what stands there
+      abbrev pub IsContent : List ℕ → Result (List ℕ) Standing → Type 0
+      IsContent path (Ok bytes) = IsOfFile (most_bytes + 1) path bytes
+      IsContent path (Err there) = IsUnreadable path × IsStanding path there
 
-    -- so of each of these names in a folder
-    abbrev pub AreContents : List ℕ → List (List ℕ) → List (Option (List ℕ)) → Type 0
-    AreContents folder (name ∷ names) (content ∷ contents) =
-        IsContent (path_in folder name) content × AreContents folder names contents
-    AreContents folder [] [] = Unit {0}
-    AreContents folder _ _ = ⊥
+      -- so of each of these names in a folder
+      abbrev pub AreContents : List ℕ → List (List ℕ) → List (Result (List ℕ) Standing) → Type 0
+      AreContents folder (name ∷ names) (content ∷ contents) =
+          IsContent (path_in folder name) content × AreContents folder names contents
+      AreContents folder [] [] = Unit {0}
+      AreContents folder _ _ = ⊥
 
-    -- The names are those of a folder that end in `.mid`, and the contents those of the first of
-    -- them; where no folder is named there are none.
-    pub record IsFolderListed (HasNames : List ℕ → List (List ℕ) → Type 0) (folder : List ℕ)
-        (names : List (List ℕ)) (contents : List (Option (List ℕ))) : Type 0 where
-      pub entries : List (List ℕ)
-      pub listed : HasNames folder entries
-      pub files : AreMidiFiles entries names
-      pub read : AreContents folder (take MOST_FILES names) contents
+      -- The names are those of a folder that end in `.mid`, the contents those of the first of
+      -- them, and then there are the names that end so but for capitals.
+      pub record IsFolderListed (HasNames : List ℕ → List (List ℕ) → Type 0) (folder : List ℕ)
+          (names : List (List ℕ)) (contents : List (Result (List ℕ) Standing))
+          (capitals : List (List ℕ)) : Type 0 where
+        pub entries : List (List ℕ)
+        pub listed : HasNames folder entries
+        pub files : AreMidiFiles entries names
+        pub read : AreContents folder (take MOST_FILES names) contents
+        pub in_capitals : AreInCapitals entries capitals
 
-    abbrev pub IsFolder : (List ℕ → List (List ℕ) → Type 0) → Option (List ℕ) →
-        List (List ℕ) → List (Option (List ℕ)) → Type 0
-    IsFolder HasNames None names contents = names ≡ []
-    IsFolder HasNames (Some folder) names contents = IsFolderListed HasNames folder names contents
+      -- where no folder is named there are no names
+      abbrev pub IsFolder : (List ℕ → List (List ℕ) → Type 0) → Option (List ℕ) →
+          List (List ℕ) → List (Result (List ℕ) Standing) → List (List ℕ) → Type 0
+      IsFolder HasNames None names contents capitals = (names ≡ []) × (capitals ≡ [])
+      IsFolder HasNames (Some folder) names contents capitals =
+          IsFolderListed HasNames folder names contents capitals

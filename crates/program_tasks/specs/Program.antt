@@ -7,6 +7,8 @@ use Rattle.std.specs.Char.Escape.{escape_default}
 use Rattle.std.specs.Str.{chars}
 use Rattle.memory.specs.Faults.{out_of_memory_text}
 use Rattle.smf_grammar.specs.Faults as smf
+use Rattle.file_store.specs.declared.standing.Standing.{Standing}
+use Rattle.file_store.specs.declared.standing.Standing.TheVariants.{Nothing, Folder, Special, Denied, File}
 use Rattle.program_tasks.specs.declared.answer.CircleAnswer.{CircleAnswer}
 use Rattle.program_tasks.specs.declared.answer.CircleAnswer.TheVariants as circle
 use Rattle.program_tasks.specs.declared.choice.Tool.{Tool}
@@ -20,7 +22,7 @@ use Rattle.program_tasks.specs.declared.run_answer.RunAnswer.TheVariants.{Comple
 use Rattle.tool_text.specs.declared.fault.ToolFault.{ToolFault}
 use Rattle.tool_text.specs.declared.fault.ToolFault.TheVariants as tool
 use Rattle.program_tasks.specs.declared.program_fault.ProgramFault.{ProgramFault}
-use Rattle.program_tasks.specs.declared.program_fault.ProgramFault.TheVariants.{NotUtf8, NoSubcommand, NotAMoment, NotATime, NotAPort, NotPorts, NotAPpq, NotABpm, NotAClient, NotAScript, TwoScripts, OutIsRead, GoesBack, CannotRead, CannotWrite, OutOfMemory, CannotRecord, Smf}
+use Rattle.program_tasks.specs.declared.program_fault.ProgramFault.TheVariants.{NotUtf8, NoSubcommand, NotAMoment, NotATime, NotAPort, NotPorts, NotAPpq, NotABpm, NotAClient, NotAScript, TwoScripts, OutIsRead, GoesBack, CannotRead, CannotWrite, OutOfMemory, CannotRecord, Smf, Unreadable}
 
 -- ---- the choice
 
@@ -49,6 +51,14 @@ escaped_char c = if is_control c then encode_utf8_all (escape_default c) else en
 -- a text without control characters
 abbrev pub escaped_text : List ℕ → List ℕ
 escaped_text text = flat_map escaped_char (chars text)
+
+-- why a path cannot be read, where what stands there says so
+abbrev pub unread_text : Standing → List ℕ
+unread_text Nothing = codes ": there is no such file"
+unread_text Folder = codes ": it is a folder"
+unread_text Special = []
+unread_text Denied = codes ": permission is denied"
+unread_text File = []
 
 -- what stands in the line of a fault
 abbrev pub program_fault_text : ProgramFault → List ℕ
@@ -85,6 +95,8 @@ program_fault_text (CannotWrite path) = codes "cannot write " ++ escaped_text pa
 program_fault_text OutOfMemory = out_of_memory_text
 program_fault_text CannotRecord = codes "cannot record"
 program_fault_text (Smf fault) = smf.fault_text fault
+program_fault_text (Unreadable path there) =
+    codes "cannot read " ++ (escaped_text path.now ++ unread_text there)
 
 -- what is printed for the fault of a tool that was given a stream
 abbrev pub told_text : Stream → ToolFault → List ℕ
@@ -113,6 +125,7 @@ is_helped (CannotWrite path) = false
 is_helped OutOfMemory = false
 is_helped CannotRecord = false
 is_helped (Smf fault) = false
+is_helped (Unreadable path there) = false
 
 -- how to ask for help, where that says more
 abbrev pub help_hint : ProgramFault → List ℕ
@@ -122,6 +135,15 @@ help_hint fault = if is_helped fault then codes "; see midiseq --help" else []
 abbrev pub line_start : List ℕ
 line_start = codes "midiseq: "
 
+-- the fault of a path that cannot be read is told with what was seen to stand there, but for `-`,
+-- and each other fault as it is
+abbrev pub IsReasoned : (List ℕ → Standing → Type 0) → ProgramFault → ProgramFault → Type 0
+IsReasoned IsStanding (CannotRead path) (Unreadable told there) =
+    (told ≡ path) × (path.now ≢ codes "-") × IsStanding path.now there
+IsReasoned IsStanding (CannotRead path) told =
+    (path.now ≡ codes "-") × (told ≡ CannotRead path)
+IsReasoned IsStanding fault told = told ≡ fault
+
 -- the line of a fault, without its end
 abbrev pub fault_line : ProgramFault → List ℕ
 fault_line fault = line_start ++ program_fault_text fault ++ help_hint fault
@@ -129,10 +151,6 @@ fault_line fault = line_start ++ program_fault_text fault ++ help_hint fault
 -- the line of a file that a run leaves out, without its end
 abbrev pub left_out_line : List ℕ → List ℕ
 left_out_line name = line_start ++ codes "left out " ++ escaped_text name
-
--- a line for each file that a run leaves out
-abbrev pub left_out_lines : List (List ℕ) → List ℕ
-left_out_lines names = flat_map (λ name. left_out_line name ++ 10 ∷ []) names
 
 -- 2 for a fault in the words, 1 for any other
 abbrev pub exit_status : ProgramFault → ℕ
@@ -154,6 +172,7 @@ exit_status (CannotWrite path) = 1
 exit_status OutOfMemory = 1
 exit_status CannotRecord = 1
 exit_status (Smf fault) = 1
+exit_status (Unreadable path there) = 1
 
 -- ---- how the program ends
 

@@ -1,6 +1,7 @@
 -- Definition: What is written of a session.
-use Rattle.std.specs.Prelude.{ℕ, List}
+use Rattle.std.specs.Prelude.{◌≡◌, ℕ, Bool, false, not, ◌&&◌, List, [], ◌∷◌}
 use Rattle.byte_io.specs.Moved.{Took}
+use Rattle.node_table.specs.declared.number.PortAddr.{PortAddr}
 use Rattle.port_files.specs.Tracks.{ports_file}
 use Rattle.program_tasks.specs.Recording.{recording_text}
 use Rattle.seq_session.specs.declared.source.Script.{Script}
@@ -13,7 +14,7 @@ use Rattle.program_tasks.specs.declared.recording.Recorded.{Recorded}
 use Rattle.program_tasks.specs.declared.recording.Recorded.TheVariants.{Stream, Port, Ports}
 use Rattle.program_tasks.specs.declared.recording.Recording.{Recording}
 use Rattle.program_tasks.specs.declared.explanation.Explanation.{Explanation}
-use Rattle.program_tasks.specs.Explained.{IsExplanationOf}
+use Rattle.program_tasks.specs.Explained.{are_none, IsExplanationOf}
 use Rattle.program_tasks.specs.Opened.{AreOfFiles}
 
 -- A file was begun for the path, all of the bytes were written to it, and then it was put there.
@@ -34,8 +35,18 @@ recorded_text (Stream port) entries = port_bytes port entries
 recorded_text (Port port) entries = recording_text port entries
 recorded_text (Ports ports clock) entries = written_file (ports_file clock.now ports.now entries)
 
--- The scripts were read from the files that the words name, and the file that is written has what
--- is recorded of the run of just these, whose explanation is given.
+-- the ports that are recorded
+abbrev pub ports_of : Recorded → List PortAddr
+ports_of (Stream port) = port ∷ []
+ports_of (Port port) = port ∷ []
+ports_of (Ports ports clock) = ports.now
+
+-- a strict recording is withheld where a port of it was never there
+abbrev pub is_withheld : Recording → Explanation → Bool
+is_withheld recording x = recording.strict && not (are_none x.absent.items)
+
+-- The scripts were read from the files that the words name, and the explanation is that of the run
+-- of just these. Unless it is withheld, a file is written that has what is recorded of that run.
 pub record IsSessionRecorded {R W : Type 0} (IsOpened : List ℕ → R → Type 0)
     (HasLeft : R → List ℕ → Type 0)
     (IsBegun : List ℕ → W → Type 0) (HasTaken : W → List ℕ → Type 0)
@@ -44,6 +55,6 @@ pub record IsSessionRecorded {R W : Type 0} (IsOpened : List ℕ → R → Type 
     (recording : Recording) (x : Explanation) : Type 0 where
   pub scripts : List Script
   pub read : AreOfFiles IsOpened HasLeft words scripts
-  pub explained : IsExplanationOf folder end scripts x
-  pub written : IsFileWritten IsBegun HasTaken IsStored recording.path.now
-      (recorded_text recording.what (happens folder end scripts))
+  pub explained : IsExplanationOf folder end scripts (ports_of recording.what) x
+  pub written : is_withheld recording x ≡ false → IsFileWritten IsBegun HasTaken IsStored
+      recording.path.now (recorded_text recording.what (happens folder end scripts))

@@ -1,13 +1,14 @@
 -- Definition: What the subcommands that run scripts do with a session.
-use Rattle.std.specs.Prelude.{◌≡◌, ◌⊎◌, ◌++◌, ℕ, Bool, List, Option, take, drop, map}
+use Rattle.std.specs.Prelude.{◌≡◌, ◌⊎◌, ℕ, Bool, true, false, List, Option, Result, take, map}
 use Rattle.std.specs.Option.{option_map}
 use Rattle.byte_io.specs.Moved.{Took}
+use Rattle.file_store.specs.declared.standing.Standing.{Standing}
 use Rattle.script_text.specs.declared.script.TheConstants.{MOST_FILES}
 use Rattle.seq_session.specs.Sessions.{FolderContents}
-use Rattle.program_tasks.specs.FolderFiles.{FoundFiles, AreOpened}
+use Rattle.program_tasks.specs.FolderFiles.{FoundFiles, LostFile, AreOpened}
 use Rattle.smf_grammar.specs.Played.{as_played}
 use Rattle.program_tasks.specs.declared.program_fault.ProgramFault.{ProgramFault}
-use Rattle.program_tasks.specs.Program.{left_out_lines}
+use Rattle.program_tasks.specs.LeftOut.{all_lost, lost_lines}
 use Rattle.program_tasks.specs.declared.recording.Recording.{Recording}
 use Rattle.program_tasks.specs.declared.session.Session.{Session}
 use Rattle.program_tasks.specs.Faults.{IsOfRefusal, IsOfScripts, IsOfSharing, IsOfWriting}
@@ -23,27 +24,31 @@ use Rattle.program_tasks.specs.Recorded.{IsSessionRecorded}
 
 module _ {R : Type 0} (IsOpened : List ℕ → R → Type 0) (HasLeft : R → List ℕ → Type 0)
     (CannotOpen : List ℕ → Type 0)
-    (failed : R → Bool) (HasNames : List ℕ → List (List ℕ) → Type 0) where
-  -- These are the files of the folder that can be played, from what was read of each, and of each
-  -- of the others a line was told.
-  pub record AreFilesOf {N : Type 0} (HasTold : N → List ℕ → Type 0) (folder : Option (List ℕ))
-      (before after : N)
-      (files : FolderContents) : Type 0 where
+    (failed : R → Bool) (IsStanding : List ℕ → Standing → Type 0)
+    (HasNames : List ℕ → List (List ℕ) → Type 0) where
+  -- These are the files of the folder that can be played, from what was read of each. Of each of
+  -- the others a line was told, where it is asked for with why it is left out.
+  pub record AreFilesOf {N : Type 0} (HasTold : N → List ℕ → Type 0) (explains : Bool)
+      (folder : Option (List ℕ)) (before after : N) (files : FolderContents) : Type 0 where
     pub names : List (List ℕ)
-    pub contents : List (Option (List ℕ))
-    pub read : IsFolder IsOpened HasLeft CannotOpen failed HasNames folder names contents
+    pub contents : List (Result (List ℕ) Standing)
+    pub capitals : List (List ℕ)
+    pub read : IsFolder IsOpened HasLeft CannotOpen failed IsStanding HasNames folder names contents
+        capitals
     pub found : FoundFiles
     pub opened : AreOpened (take MOST_FILES names) contents found
     pub names_are : files.names ≡ found.names
     pub files_are : files.files ≡ map as_played found.files
-    pub told : Took HasTold before (left_out_lines (found.left_out ++ drop MOST_FILES names)) after
+    pub lost : List LostFile
+    pub lost_are : lost ≡ all_lost explains found.left_out names capitals
+    pub told : Took HasTold before (lost_lines explains lost) after
 
   -- The session was run, and the sink took its logs and, where it is asked for, the listing.
   pub record IsRunPrinted {W N : Type 0} (HasTaken : W → List ℕ → Type 0)
       (HasTold : N → List ℕ → Type 0)
       (session : Session) (listed : Bool) (old new : W) (before after : N) : Type 0 where
     pub files : FolderContents
-    pub are : AreFilesOf HasTold (option_map (λ d. d.now) session.dir) before after files
+    pub are : AreFilesOf HasTold false (option_map (λ d. d.now) session.dir) before after files
     pub printed :
         IsSessionPrinted IsOpened HasLeft HasTaken files session.until listed session.scripts.items
         old new
@@ -56,14 +61,13 @@ module _ {R : Type 0} (IsOpened : List ℕ → R → Type 0) (HasLeft : R → Li
       (before after : N) : Type 0 where
     pub between : N
     pub files : FolderContents
-    pub are : AreFilesOf HasTold (option_map (λ d. d.now) session.dir) before between files
+    pub are : AreFilesOf HasTold true (option_map (λ d. d.now) session.dir) before between files
     pub explanation : Explanation
     pub explained :
         IsSessionExplained IsOpened HasLeft HasTaken files session.until listed
         session.scripts.items explanation old new
     pub told : Took HasTold between (explanation_lines session.scripts.items explanation) after
-    pub answered : answer
-        ≡ run_answer (are_none (are.found.left_out ++ drop MOST_FILES are.names)) explanation
+    pub answered : answer ≡ run_answer (are_none are.lost) explanation
 
   -- The sink took the circles of the session that are asked for, and the answer is theirs.
   pub record IsCircleAnswered {W N : Type 0} (HasTaken : W → List ℕ → Type 0)
@@ -71,7 +75,7 @@ module _ {R : Type 0} (IsOpened : List ℕ → R → Type 0) (HasLeft : R → Li
       (session : Session) (question : CircleQuestion) (answer : CircleAnswer) (old new : W)
       (before after : N) : Type 0 where
     pub files : FolderContents
-    pub are : AreFilesOf HasTold (option_map (λ d. d.now) session.dir) before after files
+    pub are : AreFilesOf HasTold false (option_map (λ d. d.now) session.dir) before after files
     pub printed :
         IsCirclePrinted IsOpened HasLeft HasTaken files session.until session.scripts.items question
         answer old new
@@ -80,12 +84,12 @@ module _ {R : Type 0} (IsOpened : List ℕ → R → Type 0) (HasLeft : R → Li
   pub record IsTimeless {N : Type 0} (HasTold : N → List ℕ → Type 0) (session : Session)
       (before after : N) (fault : ProgramFault) : Type 0 where
     pub files : FolderContents
-    pub are : AreFilesOf HasTold (option_map (λ d. d.now) session.dir) before after files
+    pub are : AreFilesOf HasTold false (option_map (λ d. d.now) session.dir) before after files
     pub why : IsOfTime IsOpened HasLeft files session.until session.scripts.items fault
 
-  -- The session was run, and what is recorded of it was written to a path; where it is asked for,
-  -- what the run did not do was told behind the files that are left out. The answer is that of all
-  -- this.
+  -- The session was run, and what is recorded of it was written to a path, or withheld; where it is
+  -- asked for, what the run did not do was told behind the files that are left out. The answer is
+  -- that of all this.
   pub record IsRunRecorded {W N : Type 0} (IsBegun : List ℕ → W → Type 0)
       (HasTaken : W → List ℕ → Type 0)
       (IsStored : List ℕ → W → Type 0) (HasTold : N → List ℕ → Type 0) (session : Session)
@@ -93,23 +97,22 @@ module _ {R : Type 0} (IsOpened : List ℕ → R → Type 0) (HasLeft : R → Li
       (before after : N) : Type 0 where
     pub between : N
     pub files : FolderContents
-    pub are : AreFilesOf HasTold (option_map (λ d. d.now) session.dir) before between files
+    pub are : AreFilesOf HasTold explains (option_map (λ d. d.now) session.dir) before between files
     pub explanation : Explanation
     pub recorded : IsSessionRecorded IsOpened HasLeft IsBegun HasTaken IsStored files session.until
         session.scripts.items recording explanation
     pub told : Took HasTold between (told_where explains session.scripts.items explanation) after
-    pub answered : answer
-        ≡ run_answer (are_none (are.found.left_out ++ drop MOST_FILES are.names)) explanation
+    pub answered : answer ≡ run_answer (are_none are.lost) explanation
 
   -- The session was not recorded, for one of these reasons, once its folder was read.
   pub record IsRecordingStopped {W N : Type 0} (AreOne : List ℕ → List ℕ → Type 0)
       (IsBegun : List ℕ → W → Type 0)
       (writer_failed takes_some : W → Bool) (CannotBegin CannotStore : List ℕ → Type 0)
       (HasTold : N → List ℕ → Type 0)
-      (session : Session) (recording : Recording) (before after : N)
+      (session : Session) (recording : Recording) (explains : Bool) (before after : N)
       (fault : ProgramFault) : Type 0 where
     pub files : FolderContents
-    pub are : AreFilesOf HasTold (option_map (λ d. d.now) session.dir) before after files
+    pub are : AreFilesOf HasTold explains (option_map (λ d. d.now) session.dir) before after files
     pub why :
         IsOfSharing AreOne recording.path.now session.scripts.items
         (option_map (λ d. d.now) session.dir)

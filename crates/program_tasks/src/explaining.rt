@@ -37,7 +37,7 @@ pub fn explain_session<'a, S: FileStore, W: Sink>(
         ⊎ IsOfOutput (IsStuck W.failed W.takes_some out.old out.new) e) }
 {
     let run = run_session(alloc, store, session, files)?;
-    let explanation = Explanation::of_run(alloc, &run)?;
+    let explanation = Explanation::of_run(alloc, &run, &[])?;
     let texts = run.logs(alloc)?;
     let logs = slices_of(alloc, texts.as_slice())?;
     let listing = run.log.listing.as_slice();

@@ -1,22 +1,23 @@
 //! The files of a folder, for a run to play.
 
-ghost use Rattle.std.specs.Prelude.{◌≡◌, ◌≤◌, ◌+◌, ◌++◌, Some, length, take, drop, map, string_bytes, IfOk, IfErr, OnErr};
+ghost use Rattle.std.specs.Prelude.{◌≡◌, ◌≤◌, ◌+◌, ◌++◌, ◌∷◌, [], Some, length, take, map, string_bytes, IfOk, IfErr, OnErr};
 ghost use Rattle.std.specs.Option.{option_map};
 ghost use Rattle.byte_io.specs.Moved.{Took};
 ghost use Rattle.script_text.specs.declared.script.TheConstants.{MOST_FILES};
 ghost use Rattle.program_tasks.specs.Explained.{are_none};
-ghost use Rattle.program_tasks.specs.FolderFiles.{bytes_read, seen_files, AreOpened};
+ghost use Rattle.program_tasks.specs.FolderFiles.{bytes_read, seen_files, seen_lost, AreOpened};
 ghost use Rattle.program_tasks.specs.Faults.{IsOfMemory, IsOfListing};
 ghost use Rattle.program_tasks.specs.Opened.{path_in, IsContent, IsFolder};
 ghost use Rattle.smf_grammar.specs.Played.{as_played};
-ghost use Rattle.program_tasks.specs.Program.{left_out_lines};
+ghost use Rattle.program_tasks.specs.LeftOut.{all_lost, lost_for, lost_line, lost_lines, lost_where};
 
-use crate::names::{midi_files, taken_files};
+use crate::left_out::{LeftOutFile, LeftOutSince, WhyLeftOut};
+use crate::names::{capital_files, midi_files, taken_files};
 use crate::notes::Notes;
 use crate::opening::{FolderFiles, open_files};
 use crate::program_fault::{LeftOut, ProgramFault};
 use byte_io::{DeviceFault, Source, read_to};
-use file_store::FileStore;
+use file_store::{FileStore, Standing};
 use memory::OutOfMemory;
 use seq_session::NamedFiles;
 use std::alloc::Global;
@@ -29,8 +30,11 @@ pub(crate) const MOST_READ: usize = 16_777_217;
 pub struct Folder {
     /// The names that end in `.mid`, in byte order.
     pub names: Vec<String>,
-    /// What each of the files that a run takes holds; none for one that is no regular file or cannot be read.
-    pub contents: Vec<Option<Vec<u8>>>,
+    /// What each of the files that a run takes holds, and of one that is no regular file or cannot be read what stands
+    /// at its path.
+    pub contents: Vec<Result<Vec<u8>, Standing>>,
+    /// The names that end in `.mid` but for capitals, in byte order.
+    pub capitals: Vec<String>,
     ghost as_many: { length contents.items ≡ length (take MOST_FILES names.items) },
 }
 
@@ -42,29 +46,40 @@ impl Folder {
         dir: Option<&'a str>,
     ) -> Result<Folder, ProgramFault<'a>>
         ensures read { IfOk result (λ f. IsFolder S.IsOpened S.Reader.HasLeft S.CannotOpen
-            S.Reader.failed S.HasNames (option_map (λ d. d.now) dir.entry)
-            (map string_bytes f.names.items) (map bytes_read f.contents.items)) }
+            S.Reader.failed S.IsStanding S.HasNames (option_map (λ d. d.now) dir.entry)
+            (map string_bytes f.names.items) (map bytes_read f.contents.items)
+            (map string_bytes f.capitals.items)) }
         ensures fault { IfErr result (IsOfListing S.CannotList
             (option_map (λ d. d.now) dir.entry)) }
     {
         let mut contents = Vec::new(alloc);
         let Some(dir) = dir else {
-            let names = Vec::new(alloc);
-            return Ok(Folder { names, contents });
+            return Ok(Folder {
+                names: Vec::new(alloc),
+                contents,
+                capitals: Vec::new(alloc),
+            });
         };
-        let names = midi_files(names_in(alloc, store, dir)?)?;
+        let entries = names_in(alloc, store, dir)?;
+        let capitals = capital_files(alloc, entries.as_slice())?;
+        let names = midi_files(entries)?;
         let (taken, _) = taken_files(names.as_slice());
         for name in taken {
             contents.push(content_of(alloc, store, dir, name.as_str())?)?;
         }
-        Ok(Folder { names, contents })
+        Ok(Folder {
+            names,
+            contents,
+            capitals,
+        })
     }
 
     /// Opens the files, and tells of each one that is left out: first of those that cannot be played, then of those
-    /// beyond the first 256.
+    /// beyond the first 256. Where `explains` says so it tells why, and then of those whose names have capitals.
     pub fn open<'f, N: Notes>(
         &'f self,
         alloc: Global,
+        explains: bool,
         notes: &mut N,
     ) -> Result<FolderFiles<'f>, ProgramFault<'static>>
         ensures opened { IfOk result (λ o. AreOpened
@@ -73,47 +88,78 @@ impl Folder {
         ensures as_many { IfOk result (λ o. length o.names.items ≡ length o.files.items) }
         ensures few { IfOk result (λ o. length o.names.items ≤ MOST_FILES) }
         ensures told { IfOk result (λ o. Took N.HasTold notes.old
-            (left_out_lines ((seen_files o).left_out
-            ++ map string_bytes (drop MOST_FILES self.now.names.items))) notes.new) }
+            (lost_lines explains (all_lost explains (seen_files o).left_out
+            (map string_bytes self.now.names.items) (map string_bytes self.now.capitals.items)))
+            notes.new) }
         ensures untold { OnErr result (notes.new ≡ notes.old) }
         ensures fault { IfErr result IsOfMemory }
     {
         let (taken, rest) = taken_files(self.names.as_slice());
         let opened = open_files(alloc, taken, self.contents.as_slice())?;
-        tell_unplayable(notes, opened.left_out.as_slice());
-        tell_beyond(notes, rest);
+        tell_unplayable(notes, explains, opened.left_out.as_slice());
+        tell_others(notes, explains, rest, WhyLeftOut::Beyond);
+        tell_capitals(notes, explains, self.capitals.as_slice());
         Ok(opened)
     }
 }
 
 impl Folder {
-    /// Whether none of the files is left out, of which these were opened.
-    pub fn takes_all(&self, opened: &FolderFiles<'_>) -> bool
-        ensures { result ≡ are_none ((seen_files opened.now).left_out
-            ++ map string_bytes (drop MOST_FILES self.now.names.items)) }
+    /// Whether no file is told to be left out, of which these were opened.
+    pub fn takes_all(&self, explains: bool, opened: &FolderFiles<'_>) -> bool
+        ensures { result ≡ are_none (all_lost explains (seen_files opened.now).left_out
+            (map string_bytes self.now.names.items) (map string_bytes self.now.capitals.items)) }
     {
         let (_, rest) = taken_files(self.names.as_slice());
-        opened.left_out.is_empty() && rest.is_empty()
+        if !opened.left_out.is_empty() || !rest.is_empty() {
+            return false;
+        }
+        !explains || self.capitals.is_empty()
+    }
+}
+
+/// Tells of a file that is left out, where `explains` says so with why it is.
+fn tell_one<N: Notes>(notes: &mut N, explains: bool, file: &LeftOutFile<'_>)
+    ensures { Took N.HasTold notes.old (lost_line explains (seen_lost file.now) ++ 10 ∷ [])
+        notes.new }
+{
+    if explains {
+        notes.tell(LeftOutSince(*file));
+    } else {
+        notes.tell(LeftOut(file.name));
     }
 }
 
 /// Tells of the files that cannot be played.
-fn tell_unplayable<N: Notes>(notes: &mut N, names: &[&str])
-    ensures { Took N.HasTold notes.old
-        (left_out_lines (map (λ name. name.now) names.now)) notes.new }
+fn tell_unplayable<N: Notes>(notes: &mut N, explains: bool, files: &[LeftOutFile<'_>])
+    ensures { Took N.HasTold notes.old (lost_lines explains (map seen_lost files.now)) notes.new }
 {
-    if let Some((first, more)) = names.split_first() {
-        notes.tell(LeftOut(first));
-        tell_unplayable(notes, more);
+    if let Some((first, more)) = files.split_first() {
+        tell_one(notes, explains, first);
+        tell_unplayable(notes, explains, more);
     }
 }
 
-/// Tells of the files beyond those that a run takes.
-fn tell_beyond<N: Notes>(notes: &mut N, names: &[String])
-    ensures { Took N.HasTold notes.old (left_out_lines (map string_bytes names.now)) notes.new }
+/// Tells of the files with these names, which are left out for one reason.
+fn tell_others<N: Notes>(notes: &mut N, explains: bool, names: &[String], why: WhyLeftOut)
+    ensures { Took N.HasTold notes.old
+        (lost_lines explains (lost_for why (map string_bytes names.now))) notes.new }
 {
     for name in names {
-        notes.tell(LeftOut(name.as_str()));
+        let file = LeftOutFile {
+            name: name.as_str(),
+            why,
+        };
+        tell_one(notes, explains, &file);
+    }
+}
+
+/// Tells of the files whose names end in `.mid` but for capitals, where `explains` says so.
+fn tell_capitals<N: Notes>(notes: &mut N, explains: bool, names: &[String])
+    ensures { Took N.HasTold notes.old
+        (lost_lines explains (lost_where explains (map string_bytes names.now))) notes.new }
+{
+    if explains {
+        tell_others(notes, explains, names, WhyLeftOut::Capitals);
     }
 }
 
@@ -140,26 +186,26 @@ pub(crate) fn path_in(alloc: Global, dir: &str, name: &str) -> Result<String, Ou
     Ok(format!(in alloc; "{dir}/{name}")?)
 }
 
-/// What a regular file holds, if it can be read, up to one byte more than a file may have.
+/// What a regular file holds, up to one byte more than a file may have; if it cannot be read, what stands there.
 fn content_of<S: FileStore>(
     alloc: Global,
     store: &S,
     dir: &str,
     name: &str,
-) -> Result<Option<Vec<u8>>, ProgramFault<'static>>
+) -> Result<Result<Vec<u8>, Standing>, ProgramFault<'static>>
     ensures read { IfOk result (λ content. IsContent S.IsOpened S.Reader.HasLeft S.CannotOpen
-        S.Reader.failed (path_in dir.now name.now) (bytes_read content)) }
+        S.Reader.failed S.IsStanding (path_in dir.now name.now) (bytes_read content)) }
     ensures fault { IfErr result IsOfMemory }
 {
     let path = path_in(alloc, dir, name)?;
     let Ok(mut source) = store.open_regular(path.as_str()) else {
-        return Ok(None);
+        return Ok(Err(store.look(path.as_str())));
     };
     match read_to(alloc, &mut source, MOST_READ) {
-        Ok(bytes) => Ok(Some(bytes)),
+        Ok(bytes) => Ok(Ok(bytes)),
         Err(_) => {
             if source.has_failed() {
-                return Ok(None);
+                return Ok(Err(store.look(path.as_str())));
             }
             Err(ProgramFault::OutOfMemory)
         }

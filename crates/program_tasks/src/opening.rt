@@ -3,6 +3,8 @@
 ghost use Rattle.std.specs.Prelude.{◌≡◌, ◌≤◌, [], length, map, string_bytes, IfOk, OnOk};
 ghost use Rattle.program_tasks.specs.FolderFiles.{seen_files, bytes_read, IsOpenedAs, AreOpened, GainsFile};
 
+use crate::left_out::{LeftOutFile, WhyLeftOut};
+use file_store::Standing;
 use memory::OutOfMemory;
 use smf_files::{SmfFault, SmfFile};
 use std::alloc::Global;
@@ -14,16 +16,16 @@ pub struct FolderFiles<'f> {
     pub names: Vec<Vec<u8>>,
     /// The files with these names.
     pub files: Vec<SmfFile<'f>>,
-    /// The names of the others.
-    pub left_out: Vec<&'f str>,
+    /// The others.
+    pub left_out: Vec<LeftOutFile<'f>>,
 }
 
-/// Opens the files with these names, from what each holds if it could be read. One that could not be read, or is no
-/// Standard MIDI File, is left out.
+/// Opens the files with these names, from what each holds, and of one that could not be read from what stands at its
+/// path. That one, and one that is no Standard MIDI File, is left out.
 pub fn open_files<'f>(
     alloc: Global,
     names: &'f [String],
-    contents: &'f [Option<Vec<u8>>],
+    contents: &'f [Result<Vec<u8>, Standing>],
 ) -> Result<FolderFiles<'f>, OutOfMemory>
     requires { length names.now ≡ length contents.now }
     ensures opened { IfOk result (λ o.
@@ -56,35 +58,36 @@ impl<'f> FolderFiles<'f> {
         &mut self,
         alloc: Global,
         name: &'f str,
-        content: &'f Option<Vec<u8>>,
+        content: &'f Result<Vec<u8>, Standing>,
     ) -> Result<(), OutOfMemory>
         ensures { OnOk result (GainsFile name.now (bytes_read content.now)
             (seen_files self.old) (seen_files self.new)) }
     {
         match file_of(alloc, content)? {
-            Some(file) => {
+            Ok(file) => {
                 self.names.push(Vec::from_slice(alloc, name.as_bytes())?)?;
                 self.files.push(file)?;
             }
-            None => self.left_out.push(name)?,
+            Err(why) => self.left_out.push(LeftOutFile { name, why })?,
         }
         Ok(())
     }
 }
 
-/// The file that bytes are, if they were read and are one.
+/// The file that bytes are, or why there is none.
 fn file_of<'f>(
     alloc: Global,
-    content: &'f Option<Vec<u8>>,
-) -> Result<Option<SmfFile<'f>>, OutOfMemory>
+    content: &'f Result<Vec<u8>, Standing>,
+) -> Result<Result<SmfFile<'f>, WhyLeftOut>, OutOfMemory>
     ensures { IfOk result (IsOpenedAs (bytes_read content.now)) }
 {
-    let Some(bytes) = content else {
-        return Ok(None);
+    let bytes = match content {
+        Ok(bytes) => bytes,
+        Err(there) => return Ok(Err(WhyLeftOut::Unread(*there))),
     };
     match SmfFile::read(alloc, bytes.as_slice()) {
-        Ok(file) => Ok(Some(file)),
+        Ok(file) => Ok(Ok(file)),
         Err(SmfFault::OutOfMemory) => Err(OutOfMemory),
-        Err(_) => Ok(None),
+        Err(fault) => Ok(Err(WhyLeftOut::Damaged(fault))),
     }
 }

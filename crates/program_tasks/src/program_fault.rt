@@ -2,10 +2,11 @@
 
 ghost use Rattle.std.specs.Prelude.{◌≡◌, ◌≢◌};
 ghost use Rattle.std.specs.Fmt.{WritesOnOk};
-ghost use Rattle.program_tasks.specs.Program.{program_fault_text, told_text, exit_status, is_helped, line_start};
+ghost use Rattle.program_tasks.specs.Program.{program_fault_text, told_text, exit_status, is_helped, line_start, unread_text};
 
 use crate::choice::{STANDARD, Stream};
 use crate::escaped::Escaped;
+use file_store::Standing;
 use memory::OutOfMemory;
 use smf_files::SmfFault;
 use std::alloc::{AllocError, AllocFailed};
@@ -47,6 +48,8 @@ pub enum ProgramFault<'a> {
     CannotRecord,
     /// What is wrong with a Standard MIDI File: its number, its name, and the place or the track.
     Smf(SmfFault),
+    /// A path that cannot be read, and what stands there.
+    Unreadable { path: &'a str, there: Standing },
 }
 
 impl<'a> ProgramFault<'a> {
@@ -96,7 +99,8 @@ impl<'a> ProgramFault<'a> {
             | ProgramFault::CannotWrite(_)
             | ProgramFault::OutOfMemory
             | ProgramFault::CannotRecord
-            | ProgramFault::Smf(_) => 1,
+            | ProgramFault::Smf(_)
+            | ProgramFault::Unreadable { .. } => 1,
         }
     }
 
@@ -119,6 +123,18 @@ impl<'a> ProgramFault<'a> {
                 | ProgramFault::OutIsRead(_)
                 | ProgramFault::GoesBack { .. }
         )
+    }
+}
+
+/// Why a path cannot be read, where what stands there says so.
+fn unread_text(there: Standing) -> &'static str
+    ensures { result.now ≡ unread_text there }
+{
+    match there {
+        Standing::Nothing => ": there is no such file",
+        Standing::Folder => ": it is a folder",
+        Standing::Denied => ": permission is denied",
+        Standing::Special | Standing::File => "",
     }
 }
 
@@ -201,6 +217,11 @@ impl fmt::Display for ProgramFault<'_> {
             ProgramFault::OutOfMemory => f.write_str("out of memory"),
             ProgramFault::CannotRecord => f.write_str("cannot record"),
             ProgramFault::Smf(fault) => write!(f, "{fault}"),
+            ProgramFault::Unreadable { path, there } => {
+                let path = Escaped(path);
+                write!(f, "cannot read {path}")?;
+                f.write_str(unread_text(there))
+            }
         }
     }
 }

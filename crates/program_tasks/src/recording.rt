@@ -6,7 +6,7 @@ ghost use Rattle.script_text.specs.declared.script.TheConstants.{MOST_FILES};
 ghost use Rattle.seq_session.specs.Rising.{AreRising};
 ghost use Rattle.program_tasks.specs.Apart.{IsApart};
 ghost use Rattle.program_tasks.specs.Faults.{IsOfEvents, IsOfScripts, IsOfRefusal, IsOfSharing, IsOfWriting};
-ghost use Rattle.program_tasks.specs.Recorded.{recorded_text, IsSessionRecorded};
+ghost use Rattle.program_tasks.specs.Recorded.{recorded_text, ports_of, is_withheld, IsSessionRecorded};
 ghost use Rattle.program_tasks.specs.Recording.{recording_text};
 ghost use Rattle.port_files.specs.Tracks.{ports_file};
 ghost use Rattle.smf_grammar.specs.Written.{written_file};
@@ -28,6 +28,7 @@ use seq_engine::RunLog;
 use seq_session::NamedFiles;
 use smf_files::{TracksFault, WriteFault};
 use std::alloc::Global;
+use std::slice::from_ref;
 use tempo_clock::TempoMap;
 
 /// What is recorded of a session.
@@ -44,16 +45,40 @@ pub enum Recorded<'r> {
     },
 }
 
+impl Recorded<'_> {
+    /// The ports that are recorded.
+    pub fn ports(&self) -> &[PortAddr]
+        ensures { result.now ≡ ports_of self.now }
+    {
+        match self {
+            Recorded::Stream(port) | Recorded::Port(port) => from_ref(port),
+            Recorded::Ports { ports, .. } => ports,
+        }
+    }
+}
+
 /// What a session is recorded as.
 #[derive(Clone, Copy, Debug)]
 pub struct Recording<'a, 'r> {
     pub what: Recorded<'r>,
     /// The file that is written.
     pub path: &'a str,
+    /// Whether nothing is to be written where a port was never there.
+    pub strict: bool,
+}
+
+impl Recording<'_, '_> {
+    /// Whether nothing is written, since a port was never there.
+    fn is_withheld(&self, explanation: &Explanation) -> bool
+        ensures { result ≡ is_withheld self.now explanation.now }
+    {
+        self.strict && !explanation.absent.is_empty()
+    }
 }
 
 /// Runs the scripts of a session, and writes what is recorded of it to a file. What stands at the path stays until all
-/// else is done; it is no file that the session reads. It gives what the run did not do.
+/// else is done, and for good where the recording is strict and a port of it was never there; it is no file that the
+/// session reads. It gives what the run did not do.
 pub fn record_session<'a, S: FileStore>(
     alloc: Global,
     store: &S,
@@ -85,7 +110,10 @@ pub fn record_session<'a, S: FileStore>(
         return Err(ProgramFault::OutIsRead(recording.path));
     }
     let run = run_session(alloc, store, session, files)?;
-    let explanation = Explanation::of_run(alloc, &run)?;
+    let explanation = Explanation::of_run(alloc, &run, recording.what.ports())?;
+    if recording.is_withheld(&explanation) {
+        return Ok(explanation);
+    }
     let bytes = recorded_bytes(alloc, &run.log, &recording.what)?;
     write_file(alloc, store, recording.path, bytes.as_slice())?;
     Ok(explanation)

@@ -4,7 +4,7 @@ ghost use Rattle.std.specs.Prelude.{◌≡◌};
 ghost use Rattle.program_tasks.specs.Program.{run_status};
 
 /// Whether a run did all that its scripts say: it skipped no line, refused no command, lost no message and left out no
-/// file.
+/// file. A recording is incomplete, too, where a port of it was never there.
 #[derive(Clone, Copy, Debug, PartialEq, Eq)]
 pub enum RunAnswer {
     Complete,

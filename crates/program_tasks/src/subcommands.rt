@@ -39,7 +39,7 @@ pub fn run<'a, S: FileStore, W: Sink, N: Notes>(
     requires rising { AreRising (owners session.now.scripts.items) }
     requires sound { W.failed out.old ≡ false }
     ensures printed { OnOk result (IsRunPrinted S.IsOpened S.Reader.HasLeft S.CannotOpen
-        S.Reader.failed S.HasNames W.HasTaken N.HasTold session.now listed
+        S.Reader.failed S.IsStanding S.HasNames W.HasTaken N.HasTold session.now listed
         out.old out.new notes.old notes.new) }
     ensures fault { IfErr result (λ e.
         IsOfListing S.CannotList (option_map (λ d. d.now) session.now.dir) e
@@ -48,14 +48,14 @@ pub fn run<'a, S: FileStore, W: Sink, N: Notes>(
         ⊎ IsOfOutput (IsStuck W.failed W.takes_some out.old out.new) e)) }
 {
     let folder = Folder::read(alloc, store, session.dir)?;
-    let opened = folder.open(alloc, notes)?;
+    let opened = folder.open(alloc, false, notes)?;
     print_session(alloc, store, session, &named(&opened), listed, out)
 }
 
-/// Runs the scripts of a session and prints its logs, as `run` does, and tells which lines did nothing, and why, and
-/// which clients lost messages. It gives whether the run was complete.
+/// Runs the scripts of a session and prints its logs, as `run` does, and tells which lines did nothing, and why, which
+/// did most likely not what was meant, and which clients lost messages. It gives whether the run was complete.
 ///
-/// Tells first which files of the folder are left out.
+/// Tells first which files of the folder are left out, and why.
 pub fn explain<'a, S: FileStore, W: Sink, N: Notes>(
     alloc: Global,
     store: &S,
@@ -67,7 +67,7 @@ pub fn explain<'a, S: FileStore, W: Sink, N: Notes>(
     requires rising { AreRising (owners session.now.scripts.items) }
     requires sound { W.failed out.old ≡ false }
     ensures explained { IfOk result (λ answer. IsRunExplained S.IsOpened S.Reader.HasLeft S.CannotOpen
-        S.Reader.failed S.HasNames W.HasTaken N.HasTold session.now listed answer
+        S.Reader.failed S.IsStanding S.HasNames W.HasTaken N.HasTold session.now listed answer
         out.old out.new notes.old notes.new) }
     ensures fault { IfErr result (λ e.
         IsOfListing S.CannotList (option_map (λ d. d.now) session.now.dir) e
@@ -76,10 +76,10 @@ pub fn explain<'a, S: FileStore, W: Sink, N: Notes>(
         ⊎ IsOfOutput (IsStuck W.failed W.takes_some out.old out.new) e)) }
 {
     let folder = Folder::read(alloc, store, session.dir)?;
-    let opened = folder.open(alloc, notes)?;
+    let opened = folder.open(alloc, true, notes)?;
     let explanation = explain_session(alloc, store, session, &named(&opened), listed, out)?;
     explanation.tell(session, notes);
-    Ok(explanation.answer(folder.takes_all(&opened)))
+    Ok(explanation.answer(folder.takes_all(true, &opened)))
 }
 
 /// Prints the circles that are asked for of a session, and tells whether each is shut. Nothing is run, but where a
@@ -97,25 +97,26 @@ pub fn circle<'a, S: FileStore, W: Sink, N: Notes>(
     requires rising { AreRising (owners session.now.scripts.items) }
     requires sound { W.failed out.old ≡ false }
     ensures printed { IfOk result (λ answer. IsCircleAnswered S.IsOpened S.Reader.HasLeft S.CannotOpen
-        S.Reader.failed S.HasNames W.HasTaken N.HasTold session.now question answer
+        S.Reader.failed S.IsStanding S.HasNames W.HasTaken N.HasTold session.now question answer
         out.old out.new notes.old notes.new) }
     ensures fault { IfErr result (λ e.
         IsOfListing S.CannotList (option_map (λ d. d.now) session.now.dir) e
         ⊎ (IsOfScripts S.IsOpened S.Reader.HasLeft S.CannotOpen S.Reader.failed
         session.now.scripts.items e
-        ⊎ (IsTimeless S.IsOpened S.Reader.HasLeft S.CannotOpen S.Reader.failed S.HasNames
-        N.HasTold session.now notes.old notes.new e
+        ⊎ (IsTimeless S.IsOpened S.Reader.HasLeft S.CannotOpen S.Reader.failed S.IsStanding
+        S.HasNames N.HasTold session.now notes.old notes.new e
         ⊎ IsOfOutput (IsStuck W.failed W.takes_some out.old out.new) e))) }
 {
     let folder = Folder::read(alloc, store, session.dir)?;
-    let opened = folder.open(alloc, notes)?;
+    let opened = folder.open(alloc, false, notes)?;
     print_circle(alloc, store, session, &named(&opened), question, out)
 }
 
-/// Runs the scripts of a session, and writes what is recorded of it to a file, once all else is done. It gives whether
-/// the run was complete, and where `explains` says so it tells, as `explain` does, what it did not do.
+/// Runs the scripts of a session, and writes what is recorded of it to a file, once all else is done, as
+/// `record_session` does. It gives whether the run was complete, and where `explains` says so it tells, as `explain`
+/// does, what it did not do, and which ports were never there.
 ///
-/// Tells first which files of the folder are left out.
+/// Tells first which files of the folder are left out, and where `explains` says so why.
 pub fn record<'a, S: FileStore, N: Notes>(
     alloc: Global,
     store: &S,
@@ -126,20 +127,20 @@ pub fn record<'a, S: FileStore, N: Notes>(
 ) -> Result<RunAnswer, ProgramFault<'a>>
     requires { AreRising (owners session.now.scripts.items) }
     ensures recorded { IfOk result (λ answer. IsRunRecorded S.IsOpened S.Reader.HasLeft S.CannotOpen
-        S.Reader.failed S.HasNames S.IsBegun S.Writer.HasTaken S.IsStored N.HasTold
+        S.Reader.failed S.IsStanding S.HasNames S.IsBegun S.Writer.HasTaken S.IsStored N.HasTold
         session.now recording.now explains answer notes.old notes.new) }
     ensures fault { IfErr result (λ e.
         IsOfListing S.CannotList (option_map (λ d. d.now) session.now.dir) e
-        ⊎ IsRecordingStopped S.IsOpened S.Reader.HasLeft S.CannotOpen S.Reader.failed S.HasNames
-        S.AreOne S.IsBegun S.Writer.failed S.Writer.takes_some S.CannotBegin S.CannotStore
-        N.HasTold session.now recording.now notes.old notes.new e) }
+        ⊎ IsRecordingStopped S.IsOpened S.Reader.HasLeft S.CannotOpen S.Reader.failed S.IsStanding
+        S.HasNames S.AreOne S.IsBegun S.Writer.failed S.Writer.takes_some S.CannotBegin S.CannotStore
+        N.HasTold session.now recording.now explains notes.old notes.new e) }
 {
     let folder = Folder::read(alloc, store, session.dir)?;
-    let opened = folder.open(alloc, notes)?;
+    let opened = folder.open(alloc, explains, notes)?;
     let files = named(&opened);
     let explanation = record_session(alloc, store, session, &folder, &files, recording)?;
     tell_where(explains, &explanation, session, notes);
-    Ok(explanation.answer(folder.takes_all(&opened)))
+    Ok(explanation.answer(folder.takes_all(explains, &opened)))
 }
 
 /// Tells what a run did not do, where `explains` says so.

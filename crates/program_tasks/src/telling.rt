@@ -1,18 +1,18 @@
 //! The lines that tell what a run did not do.
 
 ghost use Rattle.std.specs.Prelude.{◌≡◌, ◌++◌};
-ghost use Rattle.std.specs.Fmt.{WritesOnOk};
+ghost use Rattle.std.specs.Fmt.{WritesOnOk, decimal};
 ghost use Rattle.node_table.specs.Text.{addr_text};
 ghost use Rattle.node_table.specs.declared.number.Node.TheVariants.{Port};
-ghost use Rattle.program_tasks.specs.Explained.{skipped_since, remedy, place_text, messages_text, channel_text, note_text};
+ghost use Rattle.program_tasks.specs.Explained.{skipped_since, place_text, said_text, tempo_meant, messages_text, channel_text, note_text};
 
 use crate::escaped::Escaped;
 use crate::program_fault::write_start;
+use crate::remedy::write_remedy;
 use node_table::PortAddr;
 use script_text::SkipReason;
 use seq_engine::Loss;
-use seq_session::{Cause, Diagnostic};
-use seq_state::Refusal;
+use seq_session::{Cause, Diagnostic, Slip, SlipOnLine};
 use sounding_notes::SoundingNote;
 use std::fmt;
 
@@ -25,50 +25,6 @@ fn skipped_since(why: SkipReason) -> &'static str
         SkipReason::PastEnd => "its moment lies past the end of the run",
         SkipReason::Late => "its moment lies before that of a line above it",
         SkipReason::TooLong => "the script has more than 1048576 bytes",
-    }
-}
-
-/// What to do about a refusal.
-fn remedy(refusal: Refusal) -> &'static str
-    ensures { result.now ≡ remedy refusal }
-{
-    match refusal {
-        Refusal::NotOpen => "open first",
-        Refusal::AlreadyOpen => "close first",
-        Refusal::BadName => "a name has 1 to 32 visible ASCII characters",
-        Refusal::BadSize => "IN, OUT and MAX are 1 to 2000, and PPQ is 1 to 32767",
-        Refusal::BadRule => {
-            "KINDS is at most 1023, LOW at most HIGH, HIGH at most 127, SHIFT -127 to 127, CHANNEL at most 15"
-        }
-        Refusal::NodeExists => "use another number, or drop the old one",
-        Refusal::NoNode => "make the port or the filter first",
-        Refusal::NoSender => {
-            "the first address names nothing: its client has to make the node first"
-        }
-        Refusal::NoDest => {
-            "the second address names nothing: its client has to make the node first"
-        }
-        Refusal::NotPermitted => {
-            "the capabilities of the two nodes do not allow it: their owners choose them"
-        }
-        Refusal::AlreadyConnected => "the subscription is there already",
-        Refusal::NotConnected => "there is no such subscription",
-        Refusal::SourcesFull => "a node has at most 32 sources: end another subscription first",
-        Refusal::Cycle => "the filters would make a ring: leave out one subscription of it",
-        Refusal::QueueExists => "use another number, or drop the old queue",
-        Refusal::NotYours => "the queue is another client's",
-        Refusal::NoQueue => "make the queue first",
-        Refusal::QueueRunning => "stop the queue first",
-        Refusal::QueueStopped => "the queue is held already",
-        Refusal::NoFile => "no file of this name was taken from the folder of --dir",
-        Refusal::DivisionDiffers => {
-            "make the queue with queuefrom, or with the file's ticks per quarter note"
-        }
-        Refusal::BadTempo => "a tempo is 1 to 16777215, and a queue that counts frames has none",
-        Refusal::BadTime => "now and DUE together are past 18446744073709551615",
-        Refusal::OutFull => {
-            "the output pool is full: wait until something was sent, drop, or open with a greater OUT"
-        }
     }
 }
 
@@ -89,9 +45,9 @@ impl fmt::Display for CauseText {
                 f.write_str("skipped: ")?;
                 f.write_str(skipped_since(why))
             }
-            Cause::Refused(refusal) => {
+            Cause::Refused(refusal, about) => {
                 write!(f, "refused {refusal}: ")?;
-                f.write_str(remedy(refusal))
+                write_remedy(refusal, &about, f)
             }
         }
     }
@@ -127,6 +83,74 @@ impl fmt::Display for DiagnosticLine<'_> {
         write!(f, "{path}")?;
         write_place(self.diagnostic.line, f)?;
         write!(f, ": {cause}")
+    }
+}
+
+/// Microseconds in a minute.
+const MINUTE: u32 = 60_000_000;
+
+/// Writes what a tempo says that was meant as beats per minute.
+fn write_said<W: fmt::Write>(tempo: u32, f: &mut fmt::Formatter<W>) -> fmt::Result
+    ensures { WritesOnOk W.write_str_gives f.old result (said_text tempo) f.new }
+{
+    write!(
+        f,
+        "TEMPO {tempo} is {tempo} microseconds per quarter note: {tempo} beats per minute are "
+    )
+}
+
+/// Writes the microseconds per quarter note at so many beats per minute.
+fn write_meant<W: fmt::Write>(bpm: u32, f: &mut fmt::Formatter<W>) -> fmt::Result
+    ensures { WritesOnOk W.write_str_gives f.old result (decimal (tempo_meant bpm)) f.new }
+{
+    let tempo = MINUTE / bpm.max(1);
+    write!(f, "{tempo}")
+}
+
+/// What was most likely meant, in words.
+#[derive(Clone, Copy, Debug)]
+struct SlipText(Slip);
+
+impl fmt::Display for SlipText {
+    ghost use Rattle.std.specs.Prelude.{Some};
+    ghost use Rattle.program_tasks.specs.Explained.{slip_text};
+
+    ghost output = { λ s. Some (slip_text s.0) };
+
+    fn fmt<W: fmt::Write>(&self, f: &mut fmt::Formatter<W>) -> fmt::Result {
+        match self.0 {
+            Slip::TempoAsBpm(tempo) => {
+                write_said(tempo, f)?;
+                write_meant(tempo, f)
+            }
+            Slip::ChannelsTen => {
+                f.write_str("CHANNELS 10 is channels 2 and 4: channel 10 alone is 512")
+            }
+        }
+    }
+}
+
+/// The line that tells of a line of a script that did most likely not what was meant, with the control characters of
+/// the path escaped.
+#[derive(Clone, Copy, Debug)]
+pub struct SlipLine<'a> {
+    /// The path of the script.
+    pub path: &'a str,
+    pub slip: SlipOnLine,
+}
+
+impl fmt::Display for SlipLine<'_> {
+    ghost use Rattle.std.specs.Prelude.{Some};
+    ghost use Rattle.program_tasks.specs.Explained.{slip_line};
+
+    ghost output = { λ l. Some (slip_line l.path.now l.slip) };
+
+    fn fmt<W: fmt::Write>(&self, f: &mut fmt::Formatter<W>) -> fmt::Result {
+        let path = Escaped(self.path);
+        let slip = SlipText(self.slip.slip);
+        write!(f, "{path}")?;
+        write_place(self.slip.line, f)?;
+        write!(f, ": {slip}")
     }
 }
 
@@ -204,4 +228,21 @@ fn write_channel<W: fmt::Write>(channel: u8, f: &mut fmt::Formatter<W>) -> fmt::
 {
     let number = u16::from(channel) + 1;
     write!(f, "{number}")
+}
+
+/// The line that tells of a port that was never there.
+#[derive(Clone, Copy, Debug)]
+pub struct AbsentLine(pub PortAddr);
+
+impl fmt::Display for AbsentLine {
+    ghost use Rattle.std.specs.Prelude.{Some};
+    ghost use Rattle.program_tasks.specs.Explained.{absent_line};
+
+    ghost output = { λ l. Some (absent_line l.0) };
+
+    fn fmt<W: fmt::Write>(&self, f: &mut fmt::Formatter<W>) -> fmt::Result {
+        write_start(f)?;
+        write_target(&self.0, f)?;
+        f.write_str(" was never there")
+    }
 }

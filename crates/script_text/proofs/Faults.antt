@@ -12,12 +12,12 @@ use Rattle.route_filter.specs.declared.rule_args.RuleArgs.{RuleArgs}
 use Rattle.script_text.specs.declared.line.Fate.TheVariants.{PassedOver, Skipped, Taken}
 use Rattle.script_text.specs.declared.reading.SkipReason.TheVariants.{Unreadable, PastEnd, Late}
 use Rattle.script_text.specs.declared.line_faults.LineFault.{LineFault}
-use Rattle.script_text.specs.declared.line_faults.LineFault.TheVariants.{NoMoment, Wrong, NoMessage, TooMany}
+use Rattle.script_text.specs.declared.line_faults.LineFault.TheVariants.{Wrong, NoMessage, TooMany}
 use Rattle.script_text.specs.declared.line_form.Rest.{Rest}
 use Rattle.script_text.specs.declared.line_form.Rest.TheVariants as rest
 use Rattle.script_text.specs.declared.word_kind.WordKind.{WordKind}
 use Rattle.script_text.specs.declared.word_kind.WordKind.TheVariants as kind
-use Rattle.script_text.specs.LineFaults.{says, Form, forms, rule_kinds, byte_fault, bytes_fault, end_fault, fault_from, form_fault, command_fault, timed_fault, words_fault, line_fault}
+use Rattle.script_text.specs.LineFaults.{says, Form, forms, rule_kinds, wrong_word, moment_fault, byte_fault, bytes_fault, end_fault, fault_from, form_fault, command_fault, timed_fault, words_fault, line_fault}
 use Rattle.script_text.specs.Laws.{FaultLaw}
 use Rattle.script_text.specs.Numbers.{any, only_if, both, u8, u16, u32, u64, shift, node_number, queue_number, caps, hex_byte, hex_bytes, some_bytes, message, addr, queue, due_word}
 use Rattle.script_text.specs.Scripts.{timed_command, fate, fate_of, fate_in_time, is_remark}
@@ -39,9 +39,9 @@ next {A} read more k kinds after h f = record { at = at }
   where
     at : (place : ℕ) (ws : List (List ℕ)) → is_some (fault_from place (k ∷ kinds) after ws) ≡ is_none ((read ▸ more) ws)
     at place [] = refl
-    at place (w ∷ ws) = ap (λ b. is_some (cond b (fault_from (place + 1) kinds after ws) (Some (Wrong place k)))) (h w) ∙ go (read w)
+    at place (w ∷ ws) = ap (λ b. is_some (cond b (fault_from (place + 1) kinds after ws) (Some (wrong_word place w (Wrong place k))))) (h w) ∙ go (read w)
       where
-        go : (o : Option A) → is_some (cond (is_some o) (fault_from (place + 1) kinds after ws) (Some (Wrong place k))) ≡ is_none (option_and_then (λ (t : A × List (List ℕ)). more t.0 t.1) (option_map (λ x. (x, ws)) o))
+        go : (o : Option A) → is_some (cond (is_some o) (fault_from (place + 1) kinds after ws) (Some (wrong_word place w (Wrong place k)))) ≡ is_none (option_and_then (λ (t : A × List (List ℕ)). more t.0 t.1) (option_map (λ x. (x, ws)) o))
         go None = refl
         go (Some x) = (f x).at (place + 1) ws
 
@@ -58,7 +58,7 @@ byte_by_byte : (place : ℕ) (ws : List (List ℕ)) → is_some (byte_fault plac
 byte_by_byte place [] = refl
 byte_by_byte place (w ∷ ws) = go (hex_byte w) (byte_by_byte (place + 1) ws)
   where
-    go : (o : Option ℕ) → is_some (byte_fault (place + 1) ws) ≡ is_none (hex_bytes ws) → is_some (cond (is_some o) (byte_fault (place + 1) ws) (Some (Wrong place kind.Byte))) ≡ is_none (both (λ b bytes. b ∷ bytes) o (hex_bytes ws))
+    go : (o : Option ℕ) → is_some (byte_fault (place + 1) ws) ≡ is_none (hex_bytes ws) → is_some (cond (is_some o) (byte_fault (place + 1) ws) (Some (wrong_word place w (Wrong place kind.Byte)))) ≡ is_none (both (λ b bytes. b ∷ bytes) o (hex_bytes ws))
     go None h = refl
     go (Some b) h = h ∙ map-none (λ bytes. b ∷ bytes) (hex_bytes ws)
 
@@ -85,18 +85,18 @@ one_message make = record { at = λ place ws. go (bytes_fault place ws) (some_by
 channel : {A : Type 0} (make : Option ℕ → A) → Agree (all (maybe u8) make) [] rest.Channel
 channel {A} make = record { at = at }
   where
-    one : (place : ℕ) (o : Option ℕ) → is_some (cond (is_some o) None (Some (Wrong place kind.Number8))) ≡ is_none (option_map make (option_map Some o))
-    one place None = refl
-    one place (Some x) = refl
+    one : (f : LineFault) (o : Option ℕ) → is_some (cond (is_some o) None (Some f)) ≡ is_none (option_map make (option_map Some o))
+    one f None = refl
+    one f (Some x) = refl
 
-    more : (place : ℕ) (b : Bool) → is_some (cond b (Some (TooMany (place + 1))) (Some (Wrong place kind.Number8))) ≡ true
-    more place true = refl
-    more place false = refl
+    more : (f g : LineFault) (b : Bool) → is_some (cond b (Some f) (Some g)) ≡ true
+    more f g true = refl
+    more f g false = refl
 
     at : (place : ℕ) (ws : List (List ℕ)) → is_some (fault_from place [] rest.Channel ws) ≡ is_none (all (maybe u8) make ws)
     at place [] = refl
-    at place (w ∷ []) = one place (u8 w)
-    at place (w ∷ v ∷ ws) = more place (is_some (u8 w))
+    at place (w ∷ []) = one (wrong_word place w (Wrong place kind.Number8)) (u8 w)
+    at place (w ∷ v ∷ ws) = more (wrong_word (place + 1) v (TooMany (place + 1))) (wrong_word place w (Wrong place kind.Number8)) (is_some (u8 w))
 
 -- ---- each row of the table
 
@@ -151,15 +151,15 @@ rows_agree names =
 
 -- ---- a line
 
-looked_up : (rows : List CommandForm) (fs : List Form) → AllSame rows fs → (word : List ℕ) (ws : List (List ℕ)) → is_some (form_fault (find (λ f. bytes_eq f.word word) fs) ws) ≡ is_none (by_word rows word ws)
+looked_up : (rows : List CommandForm) (fs : List Form) → AllSame rows fs → (word : List ℕ) (ws : List (List ℕ)) → is_some (form_fault word (find (λ f. bytes_eq f.word word) fs) ws) ≡ is_none (by_word rows word ws)
 looked_up [] [] same word ws = refl
 looked_up [] (f ∷ fs) same word ws = absurd same
 looked_up (r ∷ rows) [] same word ws = absurd same
 looked_up (r ∷ rows) (f ∷ fs) same word ws =
-    ap (λ x. is_some (form_fault (cond (bytes_eq x word) (Some f) (find (λ g. bytes_eq g.word word) fs)) ws)) (sym same.0.word)
+    ap (λ x. is_some (form_fault word (cond (bytes_eq x word) (Some f) (find (λ g. bytes_eq g.word word) fs)) ws)) (sym same.0.word)
     ∙ go (bytes_eq r.word word) (looked_up rows fs same.1 word ws)
   where
-    go : (b : Bool) → is_some (form_fault (find (λ g. bytes_eq g.word word) fs) ws) ≡ is_none (by_word rows word ws) → is_some (form_fault (cond b (Some f) (find (λ g. bytes_eq g.word word) fs)) ws) ≡ is_none (cond b (r.says ws) (by_word rows word ws))
+    go : (b : Bool) → is_some (form_fault word (find (λ g. bytes_eq g.word word) fs) ws) ≡ is_none (by_word rows word ws) → is_some (form_fault word (cond b (Some f) (find (λ g. bytes_eq g.word word) fs)) ws) ≡ is_none (cond b (r.says ws) (by_word rows word ws))
     go true later = same.0.agree.at 3 ws
     go false later = later
 
@@ -170,7 +170,7 @@ commands_agree names (word ∷ ws) = looked_up (table names) forms (rows_agree n
 timed_agree : (names ws : List (List ℕ)) (w : List ℕ) → is_some (timed_fault (w ∷ ws)) ≡ is_none (timed_command names (w ∷ ws))
 timed_agree names ws w = go (u64 w)
   where
-    go : (o : Option ℕ) → is_some (cond (is_some o) (command_fault ws) (Some NoMoment)) ≡ is_none {T = ℕ × Command} (option_and_then (λ m. option_map (λ c. (m, c)) (command names ws)) o)
+    go : (o : Option ℕ) → is_some (cond (is_some o) (command_fault ws) (Some (moment_fault w))) ≡ is_none {T = ℕ × Command} (option_and_then (λ m. option_map (λ c. (m, c)) (command names ws)) o)
     go None = refl
     go (Some m) = commands_agree names ws ∙ map-none {B = ℕ × Command} (λ c. (m, c)) (command names ws)
 

@@ -10,7 +10,7 @@ use Rattle.script_text.specs.declared.command.TheConstants.{KEYWORDS}
 use Rattle.script_text.specs.declared.line_form.Rest.{Rest}
 use Rattle.script_text.specs.declared.line_faults.LineFault.TheVariants.{UnknownCommand}
 use Rattle.script_text.specs.declared.word_kind.WordKind.{WordKind}
-use Rattle.script_text.specs.LineFaults.{Form, forms, form_of, form_fault, fault_from}
+use Rattle.script_text.specs.LineFaults.{Form, forms, form_of, form_fault, fault_from, wrong_word}
 
 -- the form of a word stands where the word does
 form_found : (word : List ℕ) (k : ℕ) → k ≡ position_or_len (λ w. bytes_eq w.now word) KEYWORDS → slice_get forms k ≡ form_of word
@@ -29,13 +29,13 @@ copied_is (Some x) xs k h e = sym (slice_get_read xs (length xs) k x.now refl (l
 
 -- ---- what is wrong after a word
 
-pub no_form : (o : Option Form) (ws : List (List ℕ)) → None ≡ option_map (λ f. f.kinds) o → Some UnknownCommand ≡ form_fault o ws
-no_form None ws e = refl
-no_form (Some f) ws e = cc
+pub no_form : (w : List ℕ) (o : Option Form) (ws : List (List ℕ)) → None ≡ option_map (λ f. f.kinds) o → Some (wrong_word 2 w UnknownCommand) ≡ form_fault w o ws
+no_form w None ws e = refl
+no_form w (Some f) ws e = cc
 
-pub some_form : (o : Option Form) (kinds : List WordKind) (rest : Rest) (ws : List (List ℕ)) → Some kinds ≡ option_map (λ f. f.kinds) o → Some rest ≡ option_map (λ f. f.rest) o → fault_from 3 kinds rest ws ≡ form_fault o ws
-some_form None kinds rest ws e h = cc
-some_form (Some f) kinds rest ws e h =
+pub some_form : (w : List ℕ) (o : Option Form) (kinds : List WordKind) (rest : Rest) (ws : List (List ℕ)) → Some kinds ≡ option_map (λ f. f.kinds) o → Some rest ≡ option_map (λ f. f.rest) o → fault_from 3 kinds rest ws ≡ form_fault w o ws
+some_form w None kinds rest ws e h = cc
+some_form w (Some f) kinds rest ws e h =
     let k : kinds ≡ f.kinds = cc in
     let r : rest ≡ f.rest = cc in
     ap (λ ks. fault_from 3 ks rest ws) k ∙ ap (λ x. fault_from 3 f.kinds x ws) r

@@ -1,11 +1,11 @@
 -- Definition: Why a line is unreadable, and the words that say so.
-use Rattle.std.specs.Prelude.{ℕ, ◌+◌, Bool, true, if◌then◌else◌, List, [], ◌∷◌, ◌++◌, Option, Some, None, codes}
+use Rattle.std.specs.Prelude.{ℕ, ◌+◌, ◌==◌, ◌&&◌, Bool, true, false, if◌then◌else◌, List, [], ◌∷◌, ◌++◌, Option, Some, None, codes}
 use Rattle.std.specs.Fmt.{decimal}
 use Rattle.std.specs.List.{find}
 use Rattle.std.specs.Option.{is_some, option_or}
 use Rattle.std.specs.Str.{bytes_eq}
 use Rattle.script_text.specs.declared.line_faults.LineFault.{LineFault}
-use Rattle.script_text.specs.declared.line_faults.LineFault.TheVariants.{NoMoment, NoCommand, UnknownCommand, Missing, Wrong, NoMessage, TooMany}
+use Rattle.script_text.specs.declared.line_faults.LineFault.TheVariants.{ByteOrderMark, NoMoment, NoCommand, UnknownCommand, Missing, Wrong, NoMessage, TooMany, Remark}
 use Rattle.script_text.specs.declared.line_form.Rest.{Rest}
 use Rattle.script_text.specs.declared.line_form.Rest.TheVariants.{Nothing, Message, Bytes, Channel}
 use Rattle.script_text.specs.declared.word_kind.WordKind.{WordKind}
@@ -77,18 +77,34 @@ forms =
     ∷ form (codes "pools") [] Nothing
     ∷ []
 
+-- ---- words that are wrong
+
+-- the fault of a wrong word at this place: one that begins as a remark does is told as one
+abbrev pub wrong_word : ℕ → List ℕ → LineFault → LineFault
+wrong_word place word fault = if is_remark word then Remark place else fault
+
+-- whether a word begins with the byte order mark of UTF-8
+abbrev pub has_mark : List ℕ → Bool
+has_mark (a ∷ b ∷ c ∷ word) = (a == 0xEF) && (b == 0xBB) && (c == 0xBF)
+has_mark _ = false
+
+-- the fault of a first word that is no moment
+abbrev pub moment_fault : List ℕ → LineFault
+moment_fault word = if has_mark word then ByteOrderMark else NoMoment
+
 -- ---- the first word that is wrong, of words that stand from a place on
 
 -- no word belongs here
 abbrev pub end_fault : ℕ → List (List ℕ) → Option LineFault
 end_fault place [] = None
-end_fault place (w ∷ words) = Some (TooMany place)
+end_fault place (w ∷ words) = Some (wrong_word place w (TooMany place))
 
 -- bytes belong here
 abbrev pub byte_fault : ℕ → List (List ℕ) → Option LineFault
 byte_fault place [] = None
 byte_fault place (w ∷ words) =
-    if says Byte w then byte_fault (place + 1) words else Some (Wrong place Byte)
+    if says Byte w then byte_fault (place + 1) words
+    else Some (wrong_word place w (Wrong place Byte))
 
 -- one byte or more belong here
 abbrev pub bytes_fault : ℕ → List (List ℕ) → Option LineFault
@@ -105,7 +121,8 @@ message_fault place words =
 abbrev pub channel_fault : ℕ → List (List ℕ) → Option LineFault
 channel_fault place [] = None
 channel_fault place (w ∷ words) =
-    if says Number8 w then end_fault (place + 1) words else Some (Wrong place Number8)
+    if says Number8 w then end_fault (place + 1) words
+    else Some (wrong_word place w (Wrong place Number8))
 
 abbrev pub rest_fault : Rest → ℕ → List (List ℕ) → Option LineFault
 rest_fault Nothing place words = end_fault place words
@@ -118,7 +135,8 @@ abbrev pub fault_from : ℕ → List WordKind → Rest → List (List ℕ) → O
 fault_from place [] rest words = rest_fault rest place words
 fault_from place (k ∷ kinds) rest [] = Some (Missing k)
 fault_from place (k ∷ kinds) rest (w ∷ words) =
-    if says k w then fault_from (place + 1) kinds rest words else Some (Wrong place k)
+    if says k w then fault_from (place + 1) kinds rest words
+    else Some (wrong_word place w (Wrong place k))
 
 -- ---- a line
 
@@ -126,19 +144,20 @@ fault_from place (k ∷ kinds) rest (w ∷ words) =
 abbrev pub form_of : List ℕ → Option Form
 form_of word = find (λ f. bytes_eq f.word word) forms
 
--- the words after a command's begin with the third
-abbrev pub form_fault : Option Form → List (List ℕ) → Option LineFault
-form_fault None words = Some UnknownCommand
-form_fault (Some f) words = fault_from 3 f.kinds f.rest words
+-- of a command's word and its form; the words after it begin with the third
+abbrev pub form_fault : List ℕ → Option Form → List (List ℕ) → Option LineFault
+form_fault word None words = Some (wrong_word 2 word UnknownCommand)
+form_fault word (Some f) words = fault_from 3 f.kinds f.rest words
 
 abbrev pub command_fault : List (List ℕ) → Option LineFault
 command_fault [] = Some NoCommand
-command_fault (word ∷ words) = form_fault (form_of word) words
+command_fault (word ∷ words) = form_fault word (form_of word) words
 
 -- a moment, and a command
 abbrev pub timed_fault : List (List ℕ) → Option LineFault
 timed_fault [] = None
-timed_fault (moment ∷ rest) = if is_some (u64 moment) then command_fault rest else Some NoMoment
+timed_fault (moment ∷ rest) =
+    if is_some (u64 moment) then command_fault rest else Some (moment_fault moment)
 
 -- a line without words has no fault, nor has a remark
 abbrev pub words_fault : List (List ℕ) → Option LineFault
@@ -168,6 +187,8 @@ kind_text File = codes "a file"
 
 -- why a line is unreadable, as it is printed
 abbrev pub line_fault_text : LineFault → List ℕ
+line_fault_text ByteOrderMark =
+    codes "it begins with a byte order mark: save the file as plain UTF-8 or ASCII, without it"
 line_fault_text NoMoment = codes "its first word is no moment in nanoseconds"
 line_fault_text NoCommand = codes "no command follows its moment"
 line_fault_text UnknownCommand = codes "its second word is no command"
@@ -177,3 +198,5 @@ line_fault_text (Wrong place kind) =
 line_fault_text NoMessage = codes "its bytes are not exactly one MIDI message"
 line_fault_text (TooMany place) =
     codes "there are too many words, from word " ++ (decimal place ++ codes " on")
+line_fault_text (Remark place) =
+    codes "a remark has a line of its own: word " ++ (decimal place ++ codes " begins one")

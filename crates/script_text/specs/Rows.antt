@@ -8,7 +8,7 @@ use Rattle.seq_state.specs.declared.input.Command.{Command}
 use Rattle.seq_state.specs.declared.input.Command.TheVariants.{Open, Close, CreatePort, DeletePort, CreateFilter, SetFilter, DeleteFilter, Connect, Disconnect, Bytes, Send, CreateQueue, CreateQueueFrom, DeleteQueue, Start, Stop, Continue, Tempo, QueueStatus, Share, Schedule, Play, DropOutput, Receive, Listen, Unlisten, PoolStatus}
 use Rattle.seq_state.specs.declared.input.DueAt.TheVariants.{Tick, TickAfter, Nanos, NanosAfter}
 use Rattle.seq_state.specs.Step.{port_addr}
-use Rattle.script_text.specs.declared.line_faults.LineFault.TheVariants.{NoMoment, NoCommand, UnknownCommand, Missing, Wrong, NoMessage, TooMany}
+use Rattle.script_text.specs.declared.line_faults.LineFault.TheVariants.{ByteOrderMark, NoMoment, NoCommand, UnknownCommand, Missing, Wrong, NoMessage, TooMany, Remark}
 use Rattle.script_text.specs.declared.reading.Skip.{Skip}
 use Rattle.script_text.specs.declared.reading.SkipReason.{SkipReason}
 use Rattle.script_text.specs.declared.reading.SkipReason.TheVariants.{Unreadable, PastEnd, Late}
@@ -175,7 +175,8 @@ pub record CommandForms : Type 0 where
 
 -- ---- faults
 
--- The first word that is wrong is told, by its place in the line; that of the moment is 1.
+-- The first word that is wrong is told, by its place in the line; that of the moment is 1. A wrong
+-- word that begins with # is told as a remark; a missing word is missing.
 pub record FaultForms : Type 0 where
   pub readable : line_fault (codes "0 open a 8 8") ≡ None
   pub no_words : line_fault (codes " \t\r") ≡ None
@@ -198,12 +199,24 @@ pub record FaultForms : Type 0 where
       line_fault (codes "7 setfilter 0 1 1 0 127 0 256") ≡ Some (Wrong 9 Number8)
   pub two_channels :
       line_fault (codes "7 setfilter 0 1 1 0 127 0 16 16") ≡ Some (TooMany 10)
+  pub marked : line_fault (0xEF ∷ 0xBB ∷ 0xBF ∷ codes "0 close") ≡ Some ByteOrderMark
+  pub marked_remark : line_fault (0xEF ∷ 0xBB ∷ 0xBF ∷ codes "# keys") ≡ Some ByteOrderMark
+  pub part_of_mark : line_fault (0xEF ∷ 0xBB ∷ codes "0 close") ≡ Some NoMoment
+  pub remark_behind : line_fault (codes "0 open synth 10 10 # mine") ≡ Some (Remark 6)
+  pub remark_for_byte : line_fault (codes "0 bytes 0 90 3C # note") ≡ Some (Remark 6)
+  pub remark_for_channel :
+      line_fault (codes "7 setfilter 0 1 1 0 127 0 #16") ≡ Some (Remark 9)
+  pub remark_for_address : line_fault (codes "7 connect 128:p0 #") ≡ Some (Remark 4)
+  pub remark_for_command : line_fault (codes "7 # close") ≡ Some (Remark 2)
+  pub name_as_remark : line_fault (codes "7 open # 8") ≡ Some (Missing Number32)
 
 pub record FaultTexts : Type 0 where
   pub wrong : line_fault_text (Wrong 3 Address) ≡ codes "word 3 is not a node (as 128:p0)"
   pub missing : line_fault_text (Missing Address) ≡ codes "a node (as 128:p0) is missing"
   pub too_many :
       line_fault_text (TooMany 10) ≡ codes "there are too many words, from word 10 on"
+  pub remark :
+      line_fault_text (Remark 6) ≡ codes "a remark has a line of its own: word 6 begins one"
 
 -- ---- scripts
 

@@ -14,6 +14,8 @@ use std::fmt;
 /// Why a line is unreadable. The places of its words count from 1, its moment's.
 #[derive(Clone, Copy, Debug, PartialEq, Eq)]
 pub enum LineFault {
+    /// The first word begins with a byte order mark.
+    ByteOrderMark,
     /// The first word is no moment.
     NoMoment,
     /// No word follows the moment.
@@ -28,6 +30,8 @@ pub enum LineFault {
     NoMessage,
     /// No word belongs at this place or after it.
     TooMany { place: u64 },
+    /// The wrong word at this place begins with `#`, as a remark does.
+    Remark { place: u64 },
 }
 
 impl fmt::Display for LineFault {
@@ -38,6 +42,9 @@ impl fmt::Display for LineFault {
 
     fn fmt<W: fmt::Write>(&self, f: &mut fmt::Formatter<W>) -> fmt::Result {
         match self {
+            LineFault::ByteOrderMark => f.write_str(
+                "it begins with a byte order mark: save the file as plain UTF-8 or ASCII, without it",
+            ),
             LineFault::NoMoment => f.write_str("its first word is no moment in nanoseconds"),
             LineFault::NoCommand => f.write_str("no command follows its moment"),
             LineFault::UnknownCommand => f.write_str("its second word is no command"),
@@ -46,6 +53,9 @@ impl fmt::Display for LineFault {
             LineFault::NoMessage => f.write_str("its bytes are not exactly one MIDI message"),
             LineFault::TooMany { place } => {
                 write!(f, "there are too many words, from word {place} on")
+            }
+            LineFault::Remark { place } => {
+                write!(f, "a remark has a line of its own: word {place} begins one")
             }
         }
     }
@@ -61,9 +71,29 @@ pub fn line_fault(line: &[u8]) -> Option<LineFault>
         return None;
     }
     if number_of(first).is_none() {
-        return Some(LineFault::NoMoment);
+        return Some(moment_fault(first));
     }
     command_fault(&mut words)
+}
+
+/// The fault of a first word that is no moment.
+fn moment_fault(word: &[u8]) -> LineFault
+    ensures { result ≡ faults.moment_fault word.now }
+{
+    if let [0xEF, 0xBB, 0xBF, ..] = word {
+        return LineFault::ByteOrderMark;
+    }
+    LineFault::NoMoment
+}
+
+/// The fault of a wrong word at this place.
+fn wrong_word(place: u64, word: &[u8], fault: LineFault) -> LineFault
+    ensures { result ≡ faults.wrong_word place word.now fault }
+{
+    if let [b'#', ..] = word {
+        return LineFault::Remark { place };
+    }
+    fault
 }
 
 /// What is wrong with the words after a moment.
@@ -74,7 +104,7 @@ fn command_fault(words: &mut Words) -> Option<LineFault>
         return Some(LineFault::NoCommand);
     };
     let Some(form) = form_of(word) else {
-        return Some(LineFault::UnknownCommand);
+        return Some(wrong_word(2, word, LineFault::UnknownCommand));
     };
     words.are_few();
     form_fault(form, words)
@@ -91,7 +121,8 @@ fn form_fault(form: LineForm, words: &mut Words) -> Option<LineFault>
             return Some(LineFault::Missing { kind: *kind });
         };
         if !kind.is_said_by(word) {
-            return Some(LineFault::Wrong { place, kind: *kind });
+            let wrong = LineFault::Wrong { place, kind: *kind };
+            return Some(wrong_word(place, word, wrong));
         }
         place += 1;
     }
@@ -114,8 +145,8 @@ fn rest_fault(rest: Rest, place: u64, words: &mut Words) -> Option<LineFault>
 fn end_fault(place: u64, words: &mut Words) -> Option<LineFault>
     ensures { result ≡ faults.end_fault place words.old }
 {
-    words.word()?;
-    Some(LineFault::TooMany { place })
+    let word = words.word()?;
+    Some(wrong_word(place, word, LineFault::TooMany { place }))
 }
 
 fn message_fault(place: u64, words: &mut Words) -> Option<LineFault>
@@ -140,10 +171,11 @@ fn bytes_fault(place: u64, words: &mut Words) -> Option<LineFault>
     let mut next = place;
     while let Some(word) = words.word() {
         if !WordKind::Byte.is_said_by(word) {
-            return Some(LineFault::Wrong {
+            let wrong = LineFault::Wrong {
                 place: next,
                 kind: WordKind::Byte,
-            });
+            };
+            return Some(wrong_word(next, word, wrong));
         }
         next += 1;
     }
@@ -162,10 +194,11 @@ fn channel_fault(place: u64, words: &mut Words) -> Option<LineFault>
 {
     let word = words.word()?;
     if !WordKind::Number8.is_said_by(word) {
-        return Some(LineFault::Wrong {
+        let wrong = LineFault::Wrong {
             place,
             kind: WordKind::Number8,
-        });
+        };
+        return Some(wrong_word(place, word, wrong));
     }
     end_fault(place + 1, words)
 }

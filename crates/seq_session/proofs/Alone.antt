@@ -54,6 +54,7 @@ pub run_of : (folder : FolderContents) (end : ℕ) (scripts : List Script) (run 
 run_of folder end scripts run s r m p l x = record {
   scripts_are = s;
   reads = r;
+  inputs = ap (λ (n : Merged). n.inputs) m;
   lines = ap (λ (n : Merged). n.lines) m;
   plain = p ∙ ap (λ (n : Merged). plain folder.files n.inputs end) m;
   listing = l ∙ ap (λ (n : Merged). listing_of (state_after folder.files start n.inputs)) m;

@@ -9,3 +9,4 @@ pub mod Alone
 pub mod Ports
 pub mod Later
 pub mod Wrong
+pub mod Named

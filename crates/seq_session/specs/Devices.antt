@@ -144,6 +144,7 @@ pub record IsRunOf (folder : FolderContents) (end : ℕ) (scripts : List Script)
     (run : SessionRun) : Type 0 where
   pub scripts_are : run.scripts ≡ scripts
   pub reads : run.reads ≡ map (script_reading folder end) scripts
+  pub inputs : run.merged.inputs ≡ inputs_of (session folder end scripts)
   pub lines : run.merged.lines ≡ lines_of (session folder end scripts)
   pub plain : run.log.entries ≡ happens folder end scripts
   pub listing : run.log.listing ≡ listing_after folder end scripts

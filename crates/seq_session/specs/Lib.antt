@@ -3,6 +3,9 @@ pub mod Merging
 pub mod Logs
 pub mod AllLogs
 pub mod Diagnostics
+pub mod MadeCaps
+pub mod MadePorts
+pub mod Slips
 pub mod Sessions
 pub mod Blank
 pub mod Devices

@@ -1,6 +1,7 @@
 -- Definition: A session: scripts of clients, run together, and the log of each.
 use Rattle.std.specs.Prelude.{ℕ, ◌==◌, Bool, if◌then◌else◌, List, [], ◌∷◌, map, Option, Some, None}
 use Rattle.std.specs.List.{filter}
+use Rattle.node_table.specs.declared.number.PortAddr.{PortAddr}
 use Rattle.seq_state.specs.declared.log.LogEntry.{LogEntry}
 use Rattle.smf_grammar.specs.Played.{PlayedFile}
 use Rattle.seq_state.specs.State.{start}
@@ -12,10 +13,13 @@ use Rattle.script_text.specs.declared.reading.ScriptRead.{ScriptRead}
 use Rattle.script_text.specs.declared.reading.ScriptInput.{ScriptInput}
 use Rattle.script_text.specs.Scripts.{script}
 use Rattle.seq_session.specs.declared.diagnostic.Diagnostic.{Diagnostic}
+use Rattle.seq_session.specs.declared.slip.SlipOnLine.{SlipOnLine}
 use Rattle.seq_session.specs.declared.source.Script.{Script}
 use Rattle.seq_session.specs.Diagnostics.{diagnostics}
-use Rattle.seq_session.specs.Merging.{inputs_in_order, inputs_of, lines_of}
+use Rattle.seq_session.specs.Merging.{inputs_in_order, inputs_of, lines_of, merge_of}
 use Rattle.seq_session.specs.Logs.{log_text}
+use Rattle.seq_session.specs.MadePorts.{had_port}
+use Rattle.seq_session.specs.Slips.{slips}
 
 -- The files of a run, with their names.
 pub record FolderContents : Type 0 where
@@ -56,7 +60,18 @@ lost_in folder end scripts = losses folder.files (inputs_of (session folder end 
 abbrev pub diagnosed_in : FolderContents → ℕ → List Script → List Diagnostic
 diagnosed_in folder end scripts =
     diagnostics scripts (map (script_reading folder end) scripts)
-    (lines_of (session folder end scripts)) (happens folder end scripts)
+    (merge_of (map (script_reading folder end) scripts)) (happens folder end scripts)
+
+-- the lines that did most likely not what was meant
+abbrev pub slips_in : FolderContents → ℕ → List Script → List SlipOnLine
+slips_in folder end scripts =
+    slips (inputs_of (session folder end scripts)) (lines_of (session folder end scripts))
+    (happens folder end scripts)
+
+-- whether a port was ever there
+abbrev pub has_port : FolderContents → ℕ → List Script → PortAddr → Bool
+has_port folder end scripts port =
+    had_port port (inputs_of (session folder end scripts)) (happens folder end scripts)
 
 -- ---- scripts by client
 

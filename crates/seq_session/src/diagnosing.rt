@@ -1,15 +1,21 @@
 //! The lines of scripts that did nothing, read off a run.
 
-ghost use Rattle.std.specs.Prelude.{◌≡◌, ◌++◌, map, slice_get, OnOk};
-ghost use Rattle.std.specs.List.{flat_map};
-ghost use Rattle.seq_session.specs.Diagnostics.{all_skipped_lines, skipped_line, skip_cause, fault_at, refused_line, refusal_of, refusal_numbered};
+ghost use Rattle.std.specs.Prelude.{◌≡◌, ◌++◌, Option, map, slice_get, OnOk};
+ghost use Rattle.node_table.specs.declared.caps.Caps.{Caps};
+ghost use Rattle.node_table.specs.declared.number.Addr.{Addr};
+ghost use Rattle.seq_session.specs.Diagnostics.{all_skipped_lines, skipped_line, skip_cause, fault_at, about_input, refused_line, refused_lines, refusal_of, refusal_numbered};
+ghost use Rattle.seq_session.specs.MadeCaps.{AreAtPlaces};
 
+use crate::about::About;
 use crate::diagnostic::{Cause, Diagnostic};
+use crate::made_caps::{none_made, note_made};
+use crate::merged::Merged;
+use crate::naming::about;
 use crate::source::Script;
 use memory::OutOfMemory;
-use node_table::ClientId;
+use node_table::{Caps, ClientId};
 use script_text::{LineFault, ScriptRead, Skip, SkipReason, line_fault, lines_of};
-use seq_state::{LogEntry, Refusal, Reply};
+use seq_state::{Input, LogEntry, Refusal, Reply};
 use std::alloc::Global;
 
 /// Adds the lines of the scripts that are skipped, script by script.
@@ -80,15 +86,20 @@ fn fault_at(lines: &[&[u8]], number: u64) -> Option<LineFault>
 
 /// Adds the lines whose commands were refused.
 pub(crate) fn push_all_refused(
+    alloc: Global,
     told: &mut Vec<Diagnostic>,
-    lines: &[u64],
+    merged: &Merged,
     entries: &[LogEntry],
 ) -> Result<(), OutOfMemory>
-    ensures { OnOk result
-        (told.new.items ≡ told.old.items ++ flat_map (refused_line lines.now) entries.now) }
+    ensures { OnOk result (told.new.items
+        ≡ told.old.items ++ refused_lines merged.now.lines merged.now.inputs entries.now) }
 {
+    let lines = merged.lines.as_slice();
+    let inputs = merged.inputs.as_slice();
+    let mut made = none_made(alloc)?;
     for entry in entries {
-        push_refused(told, lines, entry)?;
+        push_refused(told, lines, inputs, made.as_slice(), entry)?;
+        note_made(&mut made, inputs, entry);
     }
     Ok(())
 }
@@ -97,9 +108,13 @@ pub(crate) fn push_all_refused(
 fn push_refused(
     told: &mut Vec<Diagnostic>,
     lines: &[u64],
+    inputs: &[Input],
+    table: &[Option<Caps>],
     entry: &LogEntry,
 ) -> Result<(), OutOfMemory>
-    ensures { OnOk result (told.new.items ≡ told.old.items ++ refused_line lines.now entry.now) }
+    ensures { (made : Addr → Option Caps) → AreAtPlaces made table.now →
+        OnOk result (told.new.items
+        ≡ told.old.items ++ refused_line lines.now inputs.now made entry.now) }
 {
     match entry {
         LogEntry::Delivered(_) => {}
@@ -115,18 +130,30 @@ fn push_refused(
             let Some(refusal) = refusal_of(reply) else {
                 return Ok(());
             };
+            let about = about_at(table, refusal, inputs, *index);
             told.push(Diagnostic {
                 client: *client,
                 line,
-                cause: Cause::Refused(refusal),
+                cause: Cause::Refused(refusal, about),
             })?;
         }
     }
     Ok(())
 }
 
+/// What the refusal of the input at a place is about.
+fn about_at(table: &[Option<Caps>], refusal: Refusal, inputs: &[Input], place: u64) -> About
+    ensures { (made : Addr → Option Caps) → AreAtPlaces made table.now →
+        result ≡ about_input made refusal (slice_get inputs.now place) }
+{
+    match inputs.get(place as usize) {
+        Some(input) => about(table, refusal, input),
+        None => About::Nothing,
+    }
+}
+
 /// The line of the input at a place, if there is one.
-fn line_at(lines: &[u64], place: u64) -> Option<u64>
+pub(crate) fn line_at(lines: &[u64], place: u64) -> Option<u64>
     ensures { result ≡ slice_get lines.now place }
 {
     lines.get(place as usize).copied()

@@ -1,5 +1,6 @@
 //! What there is to say of a line of a script that did nothing.
 
+use crate::about::About;
 use node_table::ClientId;
 use script_text::{LineFault, SkipReason};
 use seq_state::Refusal;
@@ -11,8 +12,8 @@ pub enum Cause {
     Unreadable(LineFault),
     /// It is skipped for another reason.
     Skipped(SkipReason),
-    /// Its command was refused.
-    Refused(Refusal),
+    /// Its command was refused, and this is what that is about.
+    Refused(Refusal, About),
 }
 
 /// A line of a client's script that did nothing.

@@ -4,6 +4,7 @@
 //! a log tells within a closed circle of clients what it tells in the session of the circle's scripts alone.
 #![tactic(auto)]
 
+mod about;
 mod diagnosing;
 mod diagnostic;
 mod fault;
@@ -11,18 +12,24 @@ mod join;
 mod laws;
 mod lines;
 mod log;
+mod made_caps;
+mod made_ports;
 mod merged;
 mod merging;
 mod moment;
 mod named_files;
+mod naming;
 mod parse;
 mod reading;
 mod rows;
 mod session_run;
 mod sessions;
+mod slip;
+mod slips;
 mod source;
 mod writing;
 
+pub use about::{About, Capability};
 pub use diagnostic::{Cause, Diagnostic};
 pub use fault::SessionFault;
 pub use laws::{logs_alone, merges_of_a_circle, readings_are_sorted, sessions_are_timed};
@@ -35,4 +42,5 @@ pub use rows::worked_logs;
 pub use script_text::{MOST_FILES, MOST_SCRIPT, ScriptInput, ScriptRead, Skip, SkipReason};
 pub use session_run::SessionRun;
 pub use sessions::{run_scripts, run_sessions};
+pub use slip::{Slip, SlipOnLine};
 pub use source::{Script, ScriptSource, clients_rise, logs_are_open, readers_are_sound};

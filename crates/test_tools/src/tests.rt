@@ -1,11 +1,14 @@
 //! The tools of the program, through their public calls.
 
+mod absent_ports;
 mod circles;
 mod circles_of_scripts;
 mod dump;
 mod failing_devices;
 mod faults;
 mod grids;
+mod left_out;
 mod recording;
+mod refusals;
 mod sessions;
 mod streams;

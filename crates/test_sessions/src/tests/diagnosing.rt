@@ -1,8 +1,8 @@
-//! What a run says of lines that did nothing, worked out by hand.
+//! What a run says of lines that did nothing, or most likely not what was meant, worked out by hand.
 
 use agenda_heap::HeapAgenda;
 use byte_io::MemSource;
-use node_table::ClientId;
+use node_table::{Addr, ClientId, Node, PortAddr, PortNo};
 use script_text::{LineFault, WordKind};
 use seq_engine::Loss;
 use seq_session::*;
@@ -44,8 +44,16 @@ fn skipped(number: u8, line: u64, why: SkipReason) -> Result<Diagnostic, Fail> {
     told(number, line, Cause::Skipped(why))
 }
 
-fn refused(number: u8, line: u64, refusal: Refusal) -> Result<Diagnostic, Fail> {
-    told(number, line, Cause::Refused(refusal))
+fn refused(number: u8, line: u64, refusal: Refusal, about: About) -> Result<Diagnostic, Fail> {
+    told(number, line, Cause::Refused(refusal, about))
+}
+
+/// The address of a port.
+fn port(number: u8, port: u8) -> Result<Addr, Fail> {
+    Ok(Addr {
+        client: client(number)?,
+        node: Node::Port(PortNo::new(port).ok_or("a port number")?),
+    })
 }
 
 #[test]
@@ -64,9 +72,9 @@ fn tells_of_skipped_lines_and_then_of_refusals(rt: HostRuntime) -> Result<(), Fa
         skipped(128, 5, SkipReason::Late)?,
         skipped(128, 6, SkipReason::PastEnd)?,
         told(129, 4, Cause::Unreadable(caps_missing))?,
-        refused(129, 2, Refusal::AlreadyOpen)?,
-        refused(129, 3, Refusal::NoNode)?,
-        refused(128, 4, Refusal::NoSender)?,
+        refused(129, 2, Refusal::AlreadyOpen, About::Nothing)?,
+        refused(129, 3, Refusal::NoNode, About::Node(port(129, 3)?))?,
+        refused(128, 4, Refusal::NoSender, About::Node(port(128, 0)?))?,
     ];
     assert!(rt; found.as_slice() == expected.as_slice());
     Ok(())
@@ -93,5 +101,60 @@ fn tells_what_was_lost(rt: HostRuntime) -> Result<(), Fail> {
     }];
     assert!(rt; run.log.losses.as_slice() == expected.as_slice());
     assert!(rt; run.diagnostics(rt.alloc())?.is_empty());
+    Ok(())
+}
+
+/// Tempos and channels as they are often meant and seldom said, and lines like them that are refused.
+const SLIPS: &str = "0 open keys 8 8\n0 queue 0 480 120\n0 queue 1 480 999\n0 queue 2 480 1000\n\
+    1 tempo 128:q0 1\n1 tempo 128:q0 0\n1 tempo 128:q7 120\n2 filter 0 99 10 1023 0 127 0\n\
+    2 filter 1 99 512 1023 0 127 0\n2 filter 0 99 10 1023 0 127 0\n";
+
+/// So does another client, at the moment of the first tempos.
+const MORE_SLIPS: &str =
+    "0 open synth 8 8\n0 filter 3 99 1 1023 0 127 0\n1 setfilter 3 10 1023 0 127 0\n\
+    1 setfilter 4 10 1023 0 127 0\n";
+
+fn slipped(number: u8, line: u64, slip: Slip) -> Result<SlipOnLine, Fail> {
+    Ok(SlipOnLine {
+        client: client(number)?,
+        line,
+        slip,
+    })
+}
+
+#[test]
+fn tells_of_slips_in_the_order_of_the_run(rt: HostRuntime) -> Result<(), Fail> {
+    let run = ran(rt.alloc(), SLIPS, MORE_SLIPS)?;
+    let found = run.slips(rt.alloc())?;
+    let expected = [
+        slipped(128, 2, Slip::TempoAsBpm(120))?,
+        slipped(128, 3, Slip::TempoAsBpm(999))?,
+        slipped(128, 5, Slip::TempoAsBpm(1))?,
+        slipped(129, 3, Slip::ChannelsTen)?,
+        slipped(128, 8, Slip::ChannelsTen)?,
+    ];
+    assert!(rt; found.as_slice() == expected.as_slice());
+    Ok(())
+}
+
+#[test]
+fn knows_which_ports_were_there(rt: HostRuntime) -> Result<(), Fail> {
+    // The first client drops its port, and the second asks for one before it is open.
+    let first = "0 open keys 8 8\n0 port 0 out 33\n5 close\n";
+    let second = "0 port 0 in 66\n1 open synth 8 8\n1 port 1 in 66\n";
+    let run = ran(rt.alloc(), first, second)?;
+    for (number, port, there) in [
+        (128, 0, true),
+        (128, 1, false),
+        (129, 0, false),
+        (129, 1, true),
+        (130, 0, false),
+    ] {
+        let addr = PortAddr {
+            client: client(number)?,
+            port: PortNo::new(port).ok_or("a port number")?,
+        };
+        assert!(rt; run.had_port(addr) == there);
+    }
     Ok(())
 }

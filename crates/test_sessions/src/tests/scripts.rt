@@ -1,7 +1,7 @@
 //! The line of each command, and lines that are skipped. Scripts of the greatest length are in the sessions.
 
 use node_table::ClientId;
-use script_text::{ScriptRead, Skip, SkipReason, parse_script};
+use script_text::{ScriptRead, Skip, SkipReason, line_fault, parse_script};
 use seq_state::Command;
 use std::alloc::Global;
 use std::process::Abort;
@@ -138,6 +138,47 @@ fn reasons_have_their_texts(rt: HostRuntime) -> Result<(), Fail> {
     ];
     for (why, text) in reasons {
         assert!(rt; why.to_string(rt.alloc())?.as_str() == text);
+    }
+    Ok(())
+}
+
+/// Lines that can't be read, and why.
+const FAULTS: &[(&[u8], &str)] = &[
+    (
+        b"\xEF\xBB\xBF0 open synth 10 10",
+        "it begins with a byte order mark: save the file as plain UTF-8 or ASCII, without it",
+    ),
+    (
+        b"\xEF\xBB\xBF",
+        "it begins with a byte order mark: save the file as plain UTF-8 or ASCII, without it",
+    ),
+    (
+        b"\xEF\xBB0 open synth 10 10",
+        "its first word is no moment in nanoseconds",
+    ),
+    (
+        b"0 open synth 10 10 # mine",
+        "a remark has a line of its own: word 6 begins one",
+    ),
+    (
+        b"0 bytes 0 90 3C # note",
+        "a remark has a line of its own: word 6 begins one",
+    ),
+    (
+        b"0 open synth 10 10 mine # 1",
+        "there are too many words, from word 6 on",
+    ),
+    (b"0 open # 10", "a number up to 4294967295 is missing"),
+];
+
+#[test]
+fn tells_why_a_line_is_unreadable(rt: HostRuntime) -> Result<(), Fail> {
+    for (line, text) in FAULTS {
+        let fault = line_fault(line).ok_or("a fault")?;
+        assert!(rt;
+            format!(in rt.alloc(); "{fault}")?.as_str() == *text,
+            "at {text}"
+        );
     }
     Ok(())
 }

@@ -3,7 +3,7 @@
 ghost use Rattle.std.specs.Prelude.{◌≡◌, IfOk, false};
 
 use byte_io::{DeviceFault, MemSink, MemSource};
-use file_store::FileStore;
+use file_store::{FileStore, Standing};
 use memory::OutOfMemory;
 use node_table::ClientId;
 use program_tasks::{
@@ -44,6 +44,8 @@ impl FileStore for MemFiles {
 
     ghost CannotOpen = { λ _. Unit {0} };
 
+    ghost IsStanding = { λ _ _. Unit {0} };
+
     ghost CannotList = { λ _. Unit {0} };
 
     ghost HasNames = { λ _ _. Unit {0} };
@@ -73,6 +75,14 @@ impl FileStore for MemFiles {
         self.open(path)
     }
 
+    fn look(&self, path: &str) -> Standing {
+        if self.open(path).is_ok() {
+            Standing::File
+        } else {
+            Standing::Nothing
+        }
+    }
+
     fn names(&self, _alloc: Global, _folder: &str) -> Result<Vec<String>, DeviceFault> {
         Err(DeviceFault::Broken)
     }
@@ -94,8 +104,8 @@ impl FileStore for MemFiles {
 
 /// Counts the lines that it is told.
 #[derive(Drop)]
-struct Counted {
-    lines: u64,
+pub(super) struct Counted {
+    pub(super) lines: u64,
 }
 
 impl Notes for Counted {

@@ -2,11 +2,12 @@
 
 use node_table::{ClientId, PortAddr, PortNo};
 use program_tasks::{
-    DiagnosticLine, FaultLine, LossLine, ProgramFault, STANDARD, SoundingLine, Stream, Task, Tool,
+    AbsentLine, DiagnosticLine, FaultLine, LossLine, ProgramFault, STANDARD, SlipLine,
+    SoundingLine, Stream, Task, Tool,
 };
 use script_text::{LineFault, WordKind};
 use seq_engine::Loss;
-use seq_session::{Cause, Diagnostic, SkipReason};
+use seq_session::{About, Cause, Diagnostic, SkipReason, Slip, SlipOnLine};
 use seq_state::Refusal;
 use smf_files::SmfFault;
 use sounding_notes::SoundingNote;
@@ -205,8 +206,9 @@ fn tells_of_lines_that_did_nothing(rt: HostRuntime) -> Result<(), Fail> {
         (
             "synth.txt",
             7,
-            Cause::Refused(Refusal::NoDest),
-            "synth.txt:7: refused 9 NoDest: the second address names nothing: its client has to make the node first",
+            Cause::Refused(Refusal::DivisionDiffers, About::Nothing),
+            "synth.txt:7: refused 21 DivisionDiffers: make the queue with queuefrom, or with the file's ticks per \
+                quarter note",
         ),
     ] {
         let diagnostic = Diagnostic {
@@ -217,6 +219,47 @@ fn tells_of_lines_that_did_nothing(rt: HostRuntime) -> Result<(), Fail> {
         let line = DiagnosticLine { path, diagnostic };
         assert!(rt; format!(in rt.alloc(); "{line}")?.as_str() == text);
     }
+    Ok(())
+}
+
+#[test]
+fn tells_of_lines_that_are_most_likely_slips(rt: HostRuntime) -> Result<(), Fail> {
+    let client = ClientId::new(128).ok_or("a client number")?;
+    for (path, line, slip, text) in [
+        (
+            "keys.txt",
+            3,
+            Slip::TempoAsBpm(120),
+            "keys.txt:3: TEMPO 120 is 120 microseconds per quarter note: 120 beats per minute are 500000",
+        ),
+        (
+            "keys.txt",
+            10,
+            Slip::TempoAsBpm(999),
+            "keys.txt:10: TEMPO 999 is 999 microseconds per quarter note: 999 beats per minute are 60060",
+        ),
+        (
+            "a\nb",
+            4,
+            Slip::ChannelsTen,
+            "a\\nb:4: CHANNELS 10 is channels 2 and 4: channel 10 alone is 512",
+        ),
+    ] {
+        let slip = SlipOnLine { client, line, slip };
+        let line = SlipLine { path, slip };
+        assert!(rt; format!(in rt.alloc(); "{line}")?.as_str() == text);
+    }
+    Ok(())
+}
+
+#[test]
+fn tells_of_ports_that_were_never_there(rt: HostRuntime) -> Result<(), Fail> {
+    let line = AbsentLine(PortAddr {
+        client: ClientId::new(129).ok_or("a client number")?,
+        port: PortNo::new(15).ok_or("a port number")?,
+    });
+    let text = "midiseq: 129:p15 was never there";
+    assert!(rt; format!(in rt.alloc(); "{line}")?.as_str() == text);
     Ok(())
 }
 

@@ -3,12 +3,15 @@
 ghost use Rattle.std.specs.Prelude.{◌≡◌, IfOk, false};
 
 use byte_io::MemSink;
+use file_store::Standing;
 use memory::OutOfMemory;
 use node_table::{ClientId, PortAddr, PortNo};
 use program_tasks::{
-    EndWord, FolderFiles, ProgramFault, ScriptWord, client_named, midi_files, open_files,
-    port_named, ports_named, print_logs, scripts_named, taken_files, time_named, until_named,
+    EndWord, FolderFiles, LeftOutFile, ProgramFault, ScriptWord, WhyLeftOut, capital_files,
+    client_named, midi_files, open_files, port_named, ports_named, print_logs, scripts_named,
+    taken_files, time_named, until_named,
 };
+use smf_files::SmfFault;
 use std::alloc::Global;
 use std::process::Abort;
 use std::test::Fail;
@@ -201,6 +204,26 @@ fn keeps_midi_files_in_byte_order(rt: HostRuntime) -> Result<(), Fail> {
 }
 
 #[test]
+fn keeps_endings_in_capitals_apart(rt: HostRuntime) -> Result<(), Fail> {
+    let names = [
+        "b.Mid",
+        "a.mid",
+        "a.MID",
+        "é.miD",
+        ".MID",
+        "MID",
+        "a.MIDI",
+        "a.MID.txt",
+        "",
+        "é.mid",
+    ];
+    let entries = owned(rt.alloc(), &names)?;
+    let files = capital_files(rt.alloc(), entries.as_slice())?;
+    check_names(&rt, files.as_slice(), &[".MID", "a.MID", "b.Mid", "é.miD"]);
+    Ok(())
+}
+
+#[test]
 fn takes_256_files(rt: HostRuntime) -> Result<(), Fail> {
     let mut names = owned(rt.alloc(), &["z.mid"])?;
     for _turn in 0..256 {
@@ -217,16 +240,19 @@ fn takes_256_files(rt: HostRuntime) -> Result<(), Fail> {
 }
 
 /// A file whose one track has nothing but its end.
-const SHORT: &[u8; 26] =
+pub(super) const SHORT: &[u8; 26] =
     b"MThd\x00\x00\x00\x06\x00\x00\x00\x01\x01\xE0MTrk\x00\x00\x00\x04\x00\xFF\x2F\x00";
 
-/// What each file of a folder holds, where it could be read.
-fn contents(alloc: Global, files: &[Option<&[u8]>]) -> Result<Vec<Option<Vec<u8>>>, Fail> {
+/// What a file of a folder holds, and where it could not be read what stands there.
+type Content = Result<Vec<u8>, Standing>;
+
+/// What each file of a folder holds.
+fn contents(alloc: Global, files: &[Result<&[u8], Standing>]) -> Result<Vec<Content>, Fail> {
     let mut contents = Vec::new(alloc);
     for file in files {
         let content = match file {
-            Some(bytes) => Some(Vec::from_slice(alloc, bytes)?),
-            None => None,
+            Ok(bytes) => Ok(Vec::from_slice(alloc, bytes)?),
+            Err(there) => Err(*there),
         };
         contents.push(content)?;
     }
@@ -241,8 +267,12 @@ fn check_opened(rt: &impl Abort, opened: &FolderFiles<'_>) {
         assert!(rt; name.as_slice() == wanted.as_bytes());
     }
     assert!(rt; opened.left_out.len() == 2);
-    for (name, wanted) in opened.left_out.iter().zip(["b.mid", "c.mid"]) {
-        assert!(rt; *name == wanted);
+    let others = [
+        ("b.mid", WhyLeftOut::Unread(Standing::Folder)),
+        ("c.mid", WhyLeftOut::Damaged(SmfFault::ShortHeader)),
+    ];
+    for (file, (name, why)) in opened.left_out.iter().zip(others) {
+        assert!(rt; *file == LeftOutFile { name, why });
     }
 }
 
@@ -250,7 +280,7 @@ fn check_four(
     rt: &impl Abort,
     alloc: Global,
     names: &[String],
-    contents: &[Option<Vec<u8>>],
+    contents: &[Content],
 ) -> Result<(), Fail> {
     if names.len() != contents.len() {
         return Err("a name for each file")?;
@@ -263,7 +293,12 @@ fn check_four(
 fn leaves_out_what_is_no_file(rt: HostRuntime) -> Result<(), Fail> {
     let alloc = rt.alloc();
     let names = owned(alloc, &["a.mid", "b.mid", "c.mid", "d.mid"])?;
-    let files = [Some(&SHORT[..]), None, Some(&b"MThd"[..]), Some(&SHORT[..])];
+    let files = [
+        Ok(&SHORT[..]),
+        Err(Standing::Folder),
+        Ok(&b"MThd"[..]),
+        Ok(&SHORT[..]),
+    ];
     let contents = contents(alloc, &files)?;
     check_four(&rt, alloc, names.as_slice(), contents.as_slice())
 }

@@ -1,14 +1,14 @@
 use Rattle.std.proofs.Common.{◌≡◌, ◌≤◌, length, map, ap, sym, ◌∙◌, arith}
 use Rattle.std.specs.Prelude.{string_bytes}
 use Rattle.std.proofs.lemmas.List.{length-map}
-use Rattle.program_tasks.specs.FolderFiles.{seen_files, bytes_read}
+use Rattle.program_tasks.specs.FolderFiles.{seen_files, seen_lost, bytes_read}
 use Rattle.program_tasks.proofs.Found.{opens_first, next_opened, all_opened, many_opened, few_opened}
 use Rattle.program_tasks.proofs.opening.open_files.Goals as goal
 
 pub loop-place-init : goal.loop-place-init
 loop-place-init c =
     let new = c.new-opened.ensures in
-    opens_first _ _ (seen_files c.new-opened.result) (ap (map (λ name. name.items)) new.names) new.files (ap (map (λ name. name.now)) new.left_out)
+    opens_first _ _ (seen_files c.new-opened.result) (ap (map (λ name. name.items)) new.names) new.files (ap (map seen_lost) new.left_out)
 
 pub loop-place-preserved : goal.loop-place-preserved
 loop-place-preserved c =

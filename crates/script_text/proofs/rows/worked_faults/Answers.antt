@@ -25,6 +25,15 @@ returns-clause-faults c = record {
   no_due = refl;
   no_channel = refl;
   two_channels = refl;
+  marked = refl;
+  marked_remark = refl;
+  part_of_mark = refl;
+  remark_behind = refl;
+  remark_for_byte = refl;
+  remark_for_channel = refl;
+  remark_for_address = refl;
+  remark_for_command = refl;
+  name_as_remark = refl;
 }
 
 pub returns-clause-texts : goal.returns-clause-texts
@@ -33,4 +42,5 @@ returns-clause-texts c = record {
   wrong = refl;
   missing = refl;
   too_many = refl;
+  remark = refl;
 }

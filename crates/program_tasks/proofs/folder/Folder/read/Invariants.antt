@@ -7,5 +7,5 @@ use Rattle.program_tasks.proofs.folder.Folder.read.Given as goal
 abbrev pub invariant-loop-name : goal.invariant-loop-name
 invariant-loop-name g l = record {
   as_many : length l.contents.items ≡ l.name-index;
-  read : AreContents g.S.FileStore.IsOpened g.S.Reader.Source.HasLeft g.S.FileStore.CannotOpen g.S.Reader.Source.failed l.dir (map string_bytes (take l.name-index l.taken)) (map bytes_read l.contents.items);
+  read : AreContents g.S.FileStore.IsOpened g.S.Reader.Source.HasLeft g.S.FileStore.CannotOpen g.S.Reader.Source.failed g.S.FileStore.IsStanding l.dir (map string_bytes (take l.name-index l.taken)) (map bytes_read l.contents.items);
 }
