@@ -1,6 +1,5 @@
 //! The tools of the program, through their public calls.
 
-mod absent_ports;
 mod circles;
 mod circles_of_scripts;
 mod dump;
