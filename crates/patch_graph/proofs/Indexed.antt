@@ -157,7 +157,7 @@ only_one x xs s t d h =
 distinct_rest : (x : Edge × ℕ) (xs : List (Edge × ℕ)) → is_distinct (edges_of (x ∷ xs)) ≡ true → is_distinct (edges_of xs) ≡ true
 distinct_rest x xs d = both_right (not (has_edge (edges_of xs) x.0.source x.0.target)) (is_distinct (edges_of xs)) d
 
-age_above : (k : ℕ) (xs : List (Edge × ℕ)) (next : ℕ) (s t : Addr) (n : ℕ) → IsRising k xs next → lookup (is_edge s t) xs ≡ Some n → k ≤ n
+pub age_above : (k : ℕ) (xs : List (Edge × ℕ)) (next : ℕ) (s t : Addr) (n : ℕ) → IsRising k xs next → lookup (is_edge s t) xs ≡ Some n → k ≤ n
 age_above k [] next s t n h e = absurd (no e)
   where
     no : ◌≡◌ {A = Option ℕ} None (Some n) → ⊥

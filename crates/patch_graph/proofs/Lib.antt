@@ -12,3 +12,5 @@ pub mod Walked
 pub mod Ended
 pub mod Made
 pub mod Closed
+pub mod Stood
+pub mod Stepped

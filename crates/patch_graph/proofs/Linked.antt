@@ -48,7 +48,7 @@ module _ {X : Type 0} where
       ap (λ b. cond b (x ∷ without_age age xs) (without_age age xs)) (not_age x.1 age (λ e. omega (arith, h.0, e, l)))
       ∙ ap (λ ys. x ∷ ys) (none_below age (x.1 + 1) xs next (omega (arith, h.0, l)) h.1)
 
-  at_least : (k : ℕ) (xs : List (X × ℕ)) (next i : ℕ) (d : X × ℕ) → IsRising k xs next → i < length xs → k ≤ (get_or xs i d).1
+  pub at_least : (k : ℕ) (xs : List (X × ℕ)) (next i : ℕ) (d : X × ℕ) → IsRising k xs next → i < length xs → k ≤ (get_or xs i d).1
   at_least k [] next i d h l = absurd (omega arith)
   at_least k (x ∷ xs) next zero d h l = h.0
   at_least k (x ∷ xs) next (suc i) d h l = let rest : x.1 + 1 ≤ (get_or xs i d).1 = at_least (x.1 + 1) xs next i d h.1 (omega arith) in omega (arith, h.0)

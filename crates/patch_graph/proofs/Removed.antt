@@ -10,6 +10,7 @@ use Rattle.node_table.specs.declared.number.Addr.{Addr}
 use Rattle.node_table.specs.declared.number.Node.{Node}
 use Rattle.node_table.specs.declared.number.Node.TheVariants.{Port, Filter}
 use Rattle.patch_graph.specs.declared.edge.Edge.{Edge}
+use Rattle.patch_graph.specs.declared.edge.Origin.{Origin}
 use Rattle.patch_graph.specs.Edges.{edge, is_edge, has_edge, without_edge, touches, touches_client, ends_at_client}
 use Rattle.patch_graph.specs.Index.{targets_of, origins_of, LosesOne, HasPlace}
 use Rattle.patch_graph.proofs.Lists.{and_both, not_by, not_true, refuted, filter-none, filter-outside, list_any-filter}
@@ -241,10 +242,10 @@ module _ (client row : ℕ) (edges : List Edge) (is : client ≡ 128 + row) (h :
 -- ---- a source at a time
 
 -- an edge to the node that was there is gone
-pub loses_source : (old new : List Edge) (node : Addr) (source : Option Addr) → is_some source ≡ true → IfSome source (λ s. has_edge old s node ≡ true) → IfSome source (λ s. new ≡ without_edge old s node) → LosesOne node old new
+pub loses_source : (old new : List Edge) (node : Addr) (from : Option Origin) → is_some from ≡ true → IfSome from (λ o. has_edge old o.source node ≡ true) → IfSome from (λ o. new ≡ without_edge old o.source node) → LosesOne node old new
 loses_source old new node None some there rest = absurd (false≢true some)
-loses_source old new node (Some s) some there rest = (edge s node, there, or_true (same node s) (same node node) (same-refl node), rest)
+loses_source old new node (Some o) some there rest = (edge o.source node, there, or_true (same node o.source) (same node node) (same-refl node), rest)
 
-pub where_none : {P : Type 0} (source : Option Addr) → is_some source ≡ false → IfNone source P → P
+pub where_none : {X : Type 0} {P : Type 0} (o : Option X) → is_some o ≡ false → IfNone o P → P
 where_none None none p = p
-where_none (Some s) none p = absurd (false≢true (sym none))
+where_none (Some x) none p = absurd (false≢true (sym none))

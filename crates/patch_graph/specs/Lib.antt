@@ -3,6 +3,7 @@ pub mod Paths
 pub mod Chains
 pub mod Index
 pub mod Aged
+pub mod Search
 pub mod Found
 pub mod Cursor
 pub mod Codes

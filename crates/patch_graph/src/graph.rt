@@ -1,8 +1,8 @@
 //! The graph of subscriptions.
 
-ghost use Rattle.std.specs.Prelude.{◌≡◌, ◌≤◌, ◌<◌, ◌==◌, ◌↔◌, ℕ, true, false, not, List, [], ◌∷◌, ◌++◌, length, map, slice_index_or, slice_set, OnOk, OnErr, IfOk, IfSome, IfNone, IsErrOf, IsTrue};
+ghost use Rattle.std.specs.Prelude.{◌≡◌, ◌≤◌, ◌<◌, ◌==◌, ◌↔◌, ℕ, true, false, not, is_some, Some, List, [], ◌∷◌, ◌++◌, length, map, slice_get, slice_index_or, slice_set, OnOk, OnErr, IfOk, IfSome, IfNone, IsErrOf, IsTrue};
 ghost use Rattle.std.specs.Bool.{OnTrue, OnFalse};
-ghost use Rattle.std.specs.List.{filter, list_any, zip};
+ghost use Rattle.std.specs.List.{filter, list_any, position, zip};
 ghost use Rattle.std.specs.List.Sorted.{IsPermutation, IsNonDecreasingBy};
 ghost use Rattle.std.specs.Map.{lookup};
 ghost use Rattle.node_table.specs.Addresses.{same};
@@ -15,7 +15,7 @@ ghost use Rattle.patch_graph.specs.Found.{with_filters};
 ghost use Rattle.patch_graph.specs.Index.{targets_of, origins_of, LosesOne};
 ghost use Rattle.patch_graph.specs.Aged.{IsRising, all_of, youngest};
 
-use crate::edge::Edge;
+use crate::edge::{Edge, Origin};
 use crate::fault::EdgeFault;
 use crate::found::Found;
 use crate::links::{Links, join};
@@ -103,28 +103,36 @@ fn pop_at(lists: &mut [Links], node: &Addr) -> Option<(Addr, u64)>
     lists[place_of(node)].pop()
 }
 
-/// Removes the edge of an age at the place of a node.
-fn remove_at(lists: &mut [Links], node: &Addr, age: u64)
+/// Removes the edge of an age at the place of a node, and gives where it stood there.
+fn remove_at(lists: &mut [Links], node: &Addr, age: u64) -> Option<usize>
     requires { length lists.old ≡ places }
     ensures { (row place : ℕ) × IsPlace node.now row place
         × (lists.new ≡ slice_set lists.old place
-        (filter (λ x. not (x.1 == age)) (slice_index_or lists.old place []))) }
+        (filter (λ x. not (x.1 == age)) (slice_index_or lists.old place [])))
+        × (result ≡ position (λ x. x.1 == age) (slice_index_or lists.old place [])) }
 {
-    lists[place_of(node)].remove(age);
+    lists[place_of(node)].remove(age)
 }
 
-/// Removes an edge at the places of both its ends.
-fn unlink(targets: &mut [Links], sources: &mut [Links], source: &Addr, target: &Addr, age: u64)
+/// Removes an edge at the places of both its ends, and gives where it stood among those of its source.
+fn unlink(
+    targets: &mut [Links],
+    sources: &mut [Links],
+    source: &Addr,
+    target: &Addr,
+    age: u64,
+) -> Option<usize>
     requires { (length targets.old ≡ places) × (length sources.old ≡ places) }
     ensures onward { (row place : ℕ) × IsPlace source.now row place
         × (targets.new ≡ slice_set targets.old place
-        (filter (λ x. not (x.1 == age)) (slice_index_or targets.old place []))) }
+        (filter (λ x. not (x.1 == age)) (slice_index_or targets.old place [])))
+        × (result ≡ position (λ x. x.1 == age) (slice_index_or targets.old place [])) }
     ensures back { (row place : ℕ) × IsPlace target.now row place
         × (sources.new ≡ slice_set sources.old place
         (filter (λ x. not (x.1 == age)) (slice_index_or sources.old place []))) }
 {
-    remove_at(targets, source, age);
     remove_at(sources, target, age);
+    remove_at(targets, source, age)
 }
 
 /// Adds an edge at the places of both its ends.
@@ -283,12 +291,23 @@ impl PatchGraph {
         ensures there { result ≡ has_edge self.old source.now target.now }
         ensures rest { self.new ≡ without_edge self.old source.now target.now }
     {
+        self.part(source, target).is_some()
+    }
+
+    /// Removes an edge, and gives where its target stood among those of its source. It takes no memory.
+    pub fn part(&mut self, source: &Addr, target: &Addr) -> Option<usize>
+        ensures there { is_some result ≡ has_edge self.old source.now target.now }
+        ensures rest { self.new ≡ without_edge self.old source.now target.now }
+        ensures place { IfSome result (λ place.
+            slice_get (targets_of self.old source.now) place ≡ Some target.now) }
+        ensures kept { IfNone result (self.new ≡ self.old) }
+    {
         let Some(age) = age_at(&self.sources, target, source) else {
-            return false;
+            return None;
         };
-        unlink(&mut self.targets, &mut self.sources, source, target, age);
+        let place = unlink(&mut self.targets, &mut self.sources, source, target, age).unwrap();
         self.count -= 1;
-        true
+        Some(place)
     }
 
     /// Removes the youngest edge that begins at a node, and says whether there was one.
@@ -309,12 +328,14 @@ impl PatchGraph {
         true
     }
 
-    /// Removes the youngest edge that ends at a node, and gives the node at which it began. It takes no memory.
-    pub fn pop_source(&mut self, target: &Addr) -> Option<Addr>
-        ensures there { IfSome result (λ source.
-            has_edge self.old source target.now ≡ true) }
-        ensures rest { IfSome result (λ source.
-            self.new ≡ without_edge self.old source target.now) }
+    /// Removes the youngest edge that ends at a node, and gives where it began. It takes no memory.
+    pub fn pop_source(&mut self, target: &Addr) -> Option<Origin>
+        ensures there { IfSome result (λ from.
+            has_edge self.old from.source target.now ≡ true) }
+        ensures rest { IfSome result (λ from.
+            self.new ≡ without_edge self.old from.source target.now) }
+        ensures place { IfSome result (λ from.
+            slice_get (targets_of self.old from.source) from.place ≡ Some target.now) }
         ensures none { IfNone result (origins_of self.old target.now ≡ []) }
         ensures kept { IfNone result (self.new ≡ self.old) }
     {
@@ -324,9 +345,9 @@ impl PatchGraph {
         let Some((source, age)) = pop_at(&mut self.sources, target) else {
             return None;
         };
-        remove_at(&mut self.targets, &source, age);
+        let place = remove_at(&mut self.targets, &source, age).unwrap();
         self.count -= 1;
-        Some(source)
+        Some(Origin { source, place })
     }
 
     /// Removes the edges that begin or end at a node, and looks at no others but those of its neighbours. It takes no

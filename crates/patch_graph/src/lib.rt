@@ -10,8 +10,9 @@ mod laws;
 mod links;
 mod path;
 mod route;
+mod search;
 
-pub use edge::Edge;
+pub use edge::{Edge, Origin};
 pub use fault::EdgeFault;
 pub use graph::{MOST_SOURCES, PatchGraph};
 pub use laws::joined_is_reached;

@@ -1,13 +1,13 @@
 //! What stands at one place of the tables of a graph.
 
 ghost use Rattle.std.specs.Prelude.{◌≡◌, ◌==◌, ◌<◌, ◌-◌, ◌≤◌, ℕ, not, List, [], ◌∷◌, ◌++◌, length, map, drop, slice_index, vec_len, vec_capacity, OnOk, OnErr, IfOk, IfSome, IfNone};
-ghost use Rattle.std.specs.List.{filter};
-ghost use Rattle.std.specs.List.Sorted.{IsNonDecreasing};
+ghost use Rattle.std.specs.List.{filter, position};
 ghost use Rattle.std.specs.Map.{lookup};
 ghost use Rattle.node_table.specs.Addresses.{same};
 ghost use Rattle.patch_graph.specs.Aged.{IsRising, youngest};
 
 use crate::closing::{close_downward, close_upward};
+use crate::search::place_of_age;
 use memory::OutOfMemory;
 use node_table::Addr;
 use std::alloc::Global;
@@ -37,15 +37,6 @@ impl Model for Links {
     ghost invariant = { λ l. (length l.ages.items ≡ length l.nodes.items)
         × (l.first ≤ length l.nodes.items)
         × IsRising 0 (zip (drop l.first l.nodes.items) (drop l.first l.ages.items)) (2 ^ 64) };
-}
-
-/// Where an age stands among ages that rise.
-fn place_of_age(ages: &[u64], age: u64) -> Option<usize>
-    requires { IsNonDecreasing ages.now }
-    ensures there { IfSome result (λ i. (i < length ages.now) × (slice_index ages.now i ≡ age)) }
-    ensures none { IfNone result ((i : ℕ) → i < length ages.now → slice_index ages.now i ≡ age → ⊥) }
-{
-    ages.binary_search(&age).ok()
 }
 
 /// Moves what stands from a place on to the beginning, and leaves out the rest.
@@ -163,12 +154,13 @@ impl Links {
         Some((node, age))
     }
 
-    /// Removes the edge of an age. It takes no memory.
-    pub fn remove(&mut self, age: u64)
-        ensures { self.new ≡ filter (λ x. not (x.1 == age)) self.old }
+    /// Removes the edge of an age, and gives the place where it stood. It takes no memory.
+    pub fn remove(&mut self, age: u64) -> Option<usize>
+        ensures rest { self.new ≡ filter (λ x. not (x.1 == age)) self.old }
+        ensures place { result ≡ position (λ x. x.1 == age) self.old }
     {
         let Some(before) = place_of_age(self.ages(), age) else {
-            return;
+            return None;
         };
         let place = self.first + before;
         if before < self.nodes.len() - place {
@@ -177,6 +169,7 @@ impl Links {
         } else {
             close_downward(&mut self.nodes, &mut self.ages, place);
         }
+        Some(before)
     }
 
     /// Adds all of them to a vector.

@@ -1,7 +1,7 @@
 -- What goes with a node, or with a client, and what stays of others.
-use Rattle.std.proofs.Common.{◌≡◌, ℕ, Bool, true, false, eqb, cond, List, [], ◌∷◌, map, length, Option, Some, None, refl, sym, ap, subst, ◌∙◌, arith}
+use Rattle.std.proofs.Common.{◌≡◌, ℕ, Bool, true, false, eqb, cond, List, [], ◌∷◌, map, length, Option, refl, sym, ap, ◌∙◌, arith}
 use Rattle.std.proofs.lemmas.Bool.Decides.{nat_tests}
-use Rattle.std.specs.Prelude.{not, ◌||◌, ◌<◌, IfSome, slice_get}
+use Rattle.std.specs.Prelude.{not, ◌||◌, ◌<◌}
 use Rattle.std.specs.List.{filter, list_any}
 use Rattle.std.specs.Ordering.{nat_cmp}
 use Rattle.std.specs.FinMap.{FinMap}
@@ -84,12 +84,6 @@ none-into (e ∷ es) a none = by (same a e.target) none (λ n. none-into es a n)
         (b || list_any (λ x. same a x.target) es) ≡ false
     by true n more = absurd (no-cons e.source (map (λ (x : Edge). x.source) (filter (λ x. same a x.target) es)) n)
     by false n more = more n
-
--- the place that is known of the node from which the edge came
-pub known-there : (edges : List Edge) (node source : Addr) (known : Option (Addr × ℕ)) (place : Option ℕ) → IfSome place (λ i. known ≡ Some (source, i)) →
-    IfSome known (λ k. slice_get (targets_of edges k.0) k.1 ≡ Some node) → IfSome place (λ i. slice_get (targets_of edges source) i ≡ Some node)
-known-there edges node source known None is there = tt
-known-there edges node source known (Some i) is there = subst (λ o. IfSome o (λ k. slice_get (targets_of edges k.0) k.1 ≡ Some node)) is there
 
 pub into-length : (old new : List Edge) (e : Edge) → new ≡ without_edge old e.source e.target → has_edge old e.source e.target ≡ true → length new < length old
 into-length old new e is there = loses_length e.source old new (e, there, ap (λ b. b || same e.source e.target) (same-refl e.source), is)

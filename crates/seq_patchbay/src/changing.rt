@@ -55,7 +55,7 @@ impl Patchbay {
         ensures err { OnErr result (self.new ≡ self.old) }
     {
         self.graph.add(source, target)?;
-        self.ways.join(&self.clients, &self.graph, &source, &target);
+        self.ways.join(&source);
         Ok(())
     }
 
@@ -64,8 +64,8 @@ impl Patchbay {
         ensures clients { self.new.clients ≡ self.old.clients }
         ensures graph { self.new.graph ≡ without_edge self.old.graph source.now target.now }
     {
-        let place = self.ways.place_among(&self.graph, source, target);
-        self.graph.disconnect(source, target);
-        self.ways.part(&self.graph, source, target, place);
+        if let Some(place) = self.graph.part(source, target) {
+            self.ways.part(&self.graph, source, target, place);
+        }
     }
 }

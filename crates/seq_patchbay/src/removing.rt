@@ -1,12 +1,12 @@
 //! Nodes and clients that go with their subscriptions: the ways that hang on others stay known.
 
-ghost use Rattle.std.specs.Prelude.{◌≡◌, false, not, [], Some, None, IfSome, slice_get};
+ghost use Rattle.std.specs.Prelude.{◌≡◌, false, not, [], None};
 ghost use Rattle.std.specs.Bool.{OnTrue, OnFalse};
 ghost use Rattle.std.specs.FinMap.{get};
 ghost use Rattle.std.specs.List as list;
 ghost use Rattle.std.specs.List.{list_any};
 ghost use Rattle.node_table.specs.Addresses.{same};
-ghost use Rattle.patch_graph.specs.Index.{targets_of, origins_of, LosesOne};
+ghost use Rattle.patch_graph.specs.Index.{origins_of, LosesOne};
 ghost use Rattle.patch_graph.specs.Edges.{touches, touches_client, ends_at_client};
 ghost use Rattle.seq_state.specs.Effect.{with_change, put_port, put_filter};
 ghost use Rattle.seq_state.specs.Step.{port_addr, filter_addr};
@@ -14,16 +14,7 @@ ghost use Rattle.seq_clients.specs.Roster.{with_client, with_pool};
 
 use crate::patchbay::Patchbay;
 use node_table::{Addr, ClientId, FilterNo, MOST_FILTERS, MOST_PORTS, Node, PortNo};
-
-/// The place that is known, if it is among the targets of this node.
-fn place_from(known: Option<(Addr, usize)>, source: &Addr) -> Option<usize>
-    ensures { IfSome result (λ place. known ≡ Some (source.now, place)) }
-{
-    match known {
-        Some((from, place)) if from == *source => Some(place),
-        _ => None,
-    }
-}
+use patch_graph::Origin;
 
 impl Patchbay {
     /// Closes a client, with its subscriptions. It takes no memory.
@@ -92,24 +83,11 @@ impl Patchbay {
         ensures none { OnFalse result (origins_of self.old.graph node.now ≡ []) }
         ensures kept { OnFalse result (self.new.graph ≡ self.old.graph) }
     {
-        let known = self.known_place(node);
-        let Some(source) = self.graph.pop_source(node) else {
+        let Some(Origin { source, place }) = self.graph.pop_source(node) else {
             return false;
         };
-        let place = place_from(known, &source);
         self.ways.part(&self.graph, &source, node, place);
         true
-    }
-
-    /// From where the youngest subscription to a node comes, and where the node stands among the targets there, if the
-    /// ways from there are kept.
-    fn known_place(&self, node: &Addr) -> Option<(Addr, usize)>
-        ensures { IfSome result
-            (λ k. slice_get (targets_of self.now.graph k.0) k.1 ≡ Some node.now) }
-    {
-        let source = self.graph.origins(node).last()?;
-        let place = self.ways.place_among(&self.graph, source, node)?;
-        Some((*source, place))
     }
 
     /// Ends the subscriptions to a client's nodes, as `end_into` does.

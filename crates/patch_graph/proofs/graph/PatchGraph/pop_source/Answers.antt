@@ -6,6 +6,7 @@ use Rattle.patch_graph.proofs.Linked.{without_age}
 use Rattle.patch_graph.proofs.Made.{written, unwritten}
 use Rattle.patch_graph.proofs.Indexed.{there_by_age, last_back, no_back, whole_by_count, none_by_count, same_tables}
 use Rattle.patch_graph.proofs.Gathered.{taken, closed, aged-is}
+use Rattle.patch_graph.proofs.Stood.{some_place, target_there}
 use Rattle.patch_graph.proofs.graph.PatchGraph.pop_source.Goals as goal
 
 pub pop_at-requires : goal.pop_at-requires
@@ -13,6 +14,12 @@ pop_at-requires c = ap length c.deref_mut.ensures.value ∙ (whole_by_count _ _ 
 
 pub remove_at-requires : goal.remove_at-requires
 remove_at-requires c = ap length c.deref_mut-2.ensures.value ∙ (whole_by_count _ _ _ _ _ c.self.invariant c.if-self-eq0.false).0
+
+pub unwrap-place-requires : goal.unwrap-place-requires
+unwrap-place-requires c =
+    some_place _ _ _ _ _ _ c.in-Some.source c.args.target.now c.in-Some.age _ _ _ c.self.invariant
+    (last_back _ _ _ _ _ c.self.invariant c.in-Some.source c.args.target.now c.in-Some.age _ _ _ _ c.pop_at.ensures.2 c.deref_mut.ensures.value c.pop_at.ensures.3 c.in-Some.is)
+    c.remove_at.ensures.2 c.deref_mut-2.ensures.value c.self.view_is c.remove_at.ensures.4
 
 pub overflow_sub-self : goal.overflow_sub-self
 overflow_sub-self c = omega (arith, c.if-self-eq0.false)
@@ -48,3 +55,9 @@ returns-clause-rest c =
     (written c.self.inside.targets.len c.remove_at.ensures.1 c.self.inside.targets.items _ _ (λ xs. without_age c.in-Some.age (get_or xs c.remove_at.ensures.1 [])) c.self.inside.targets.ok.0 c.deref_mut-2.ensures.value c.remove_at.ensures.3)
     (written c.self.inside.sources.len c.in-Some.ensures.1 c.self.inside.sources.items _ _ (λ xs. without_age c.in-Some.age (get_or xs c.in-Some.ensures.1 [])) c.self.inside.sources.ok.0 c.deref_mut.ensures.value c.in-Some.ensures.4)).1
     ∙ ap (λ es. without_edge es c.in-Some.source c.args.target.now) c.self.view_is
+
+pub returns-clause-place : goal.returns-clause-place
+returns-clause-place c =
+    target_there _ _ _ _ _ _ c.in-Some.source c.args.target.now c.in-Some.age _ _ _ c.self.invariant
+    (last_back _ _ _ _ _ c.self.invariant c.in-Some.source c.args.target.now c.in-Some.age _ _ _ _ c.pop_at.ensures.2 c.deref_mut.ensures.value c.pop_at.ensures.3 c.in-Some.is)
+    c.remove_at.ensures.2 c.deref_mut-2.ensures.value c.self.view_is c.remove_at.ensures.4 c.unwrap-place.result c.unwrap-place.ensures

@@ -4,6 +4,7 @@ use Rattle.node_table.specs.declared.number.Addr.{Addr}
 use Rattle.patch_graph.specs.Aged.{IsRising}
 use Rattle.patch_graph.proofs.Linked.{rising_ages, rising-filter, without_age, no_age, zip-halves, halves_long}
 use Rattle.patch_graph.proofs.Closed.{stands, gone_upward, gone_downward}
+use Rattle.patch_graph.proofs.Stood.{link_position, no_link_position}
 use Rattle.patch_graph.proofs.links.Links.remove.Goals as goal
 
 abbrev ages_of : List (Addr × ℕ) → List ℕ
@@ -15,8 +16,8 @@ place_of_age-requires c i j d l m =
     subst (λ vs. get_or vs i d ≤ get_or vs j d) (sym c.ages.ensures)
     (rising_ages 0 (map (λ x. x.0) xs) (ages_of xs) (2 ^ 64) i j d (halves_long xs) (subst (λ ys. IsRising 0 ys (2 ^ 64)) (c.self.view_is ∙ sym (zip-halves xs)) c.self.invariant.2) l (subst (λ vs. j < length vs) c.ages.ensures m))
 
-pub returns-in_default : goal.returns-in_default
-returns-in_default c =
+pub returns-in_default-clause-rest : goal.returns-in_default-clause-rest
+returns-in_default-clause-rest c =
     let xs : List (Addr × ℕ) = c.args.self.now in
     sym (zip-halves xs)
     ∙ no_age (map (λ x. x.0) xs) (ages_of xs) c.args.age (λ i l e. c.in_default.ensures.none i (subst (λ vs. i < length vs) (sym c.ages.ensures) l) (ap (λ vs. get_or vs i 0) c.ages.ensures ∙ e))
@@ -59,10 +60,26 @@ invariant_of-self-else-before-len c =
       subst (λ xs. IsRising 0 xs (2 ^ 64)) (sym (gone_downward c.self.inside.nodes.items c.self.inside.ages.items c.args.self.now c.ages.result.now c.self.inside.first c.in-Some.before c.args.age (2 ^ 64) c.self.invariant.0 c.self.view_is c.self.invariant.2 c.ages.ensures c.in-Some.ensures.there.0 c.in-Some.ensures.there.1 c.close_downward.new.nodes.items c.close_downward.new.ages.items c.close_downward.ensures.nodes c.close_downward.ensures.ages)) (rising-filter _ 0 _ (2 ^ 64) (subst (λ xs. IsRising 0 xs (2 ^ 64)) c.self.view_is c.self.invariant.2)),
     )
 
-pub returns-then-before-len : goal.returns-then-before-len
-returns-then-before-len c =
+pub returns-then-before-len-clause-rest : goal.returns-then-before-len-clause-rest
+returns-then-before-len-clause-rest c =
     gone_upward c.self.inside.nodes.items c.self.inside.ages.items c.args.self.now c.ages.result.now c.self.inside.first c.in-Some.before c.args.age (2 ^ 64) c.self.invariant.0 c.self.view_is c.self.invariant.2 c.ages.ensures c.in-Some.ensures.there.0 c.in-Some.ensures.there.1 c.close_upward.new.nodes.items c.close_upward.new.ages.items c.close_upward.ensures.node_count c.close_upward.ensures.age_count c.close_upward.ensures.nodes c.close_upward.ensures.ages
 
-pub returns-else-before-len : goal.returns-else-before-len
-returns-else-before-len c =
+pub returns-else-before-len-clause-rest : goal.returns-else-before-len-clause-rest
+returns-else-before-len-clause-rest c =
     gone_downward c.self.inside.nodes.items c.self.inside.ages.items c.args.self.now c.ages.result.now c.self.inside.first c.in-Some.before c.args.age (2 ^ 64) c.self.invariant.0 c.self.view_is c.self.invariant.2 c.ages.ensures c.in-Some.ensures.there.0 c.in-Some.ensures.there.1 c.close_downward.new.nodes.items c.close_downward.new.ages.items c.close_downward.ensures.nodes c.close_downward.ensures.ages
+
+pub returns-in_default-clause-place : goal.returns-in_default-clause-place
+returns-in_default-clause-place c =
+    sym (no_link_position c.args.self.now c.args.age (λ i l e. c.in_default.ensures.none i (subst (λ vs. i < length vs) (sym c.ages.ensures) l) (ap (λ vs. get_or vs i 0) c.ages.ensures ∙ e)))
+
+pub returns-then-before-len-clause-place : goal.returns-then-before-len-clause-place
+returns-then-before-len-clause-place c =
+    sym (link_position c.args.self.now c.in-Some.before c.args.age (2 ^ 64) (subst (λ xs. IsRising 0 xs (2 ^ 64)) c.self.view_is c.self.invariant.2)
+    (subst (λ vs. c.in-Some.before < length vs) c.ages.ensures c.in-Some.ensures.there.0)
+    (sym (ap (λ vs. get_or vs c.in-Some.before 0) c.ages.ensures) ∙ c.in-Some.ensures.there.1))
+
+pub returns-else-before-len-clause-place : goal.returns-else-before-len-clause-place
+returns-else-before-len-clause-place c =
+    sym (link_position c.args.self.now c.in-Some.before c.args.age (2 ^ 64) (subst (λ xs. IsRising 0 xs (2 ^ 64)) c.self.view_is c.self.invariant.2)
+    (subst (λ vs. c.in-Some.before < length vs) c.ages.ensures c.in-Some.ensures.there.0)
+    (sym (ap (λ vs. get_or vs c.in-Some.before 0) c.ages.ensures) ∙ c.in-Some.ensures.there.1))

@@ -8,4 +8,6 @@ invariant_of-self c =
     subst (λ es. AreWaysKept s.clients.clients es s.ways) (sym c.in_err-add.ensures.err) c.self.invariant
 
 pub invariant_of-self-2 : goal.invariant_of-self-2
-invariant_of-self-2 c = c.join.ensures c.self.inside.graph c.in_ok-add.ensures.ok c.self.invariant
+invariant_of-self-2 c =
+    let s = c.self.inside in
+    subst (λ es. AreWaysKept s.clients.clients es c.join.new.self) (sym c.in_ok-add.ensures.ok) (c.join.ensures s.clients.clients s.graph c.args.target c.self.invariant)

@@ -1,13 +1,10 @@
-use Rattle.std.proofs.Common.{◌≡◌, Some, ap, sym, subst, ◌∙◌}
-use Rattle.std.specs.Prelude.{IfSome, slice_get}
+use Rattle.std.proofs.Common.{ap, sym, subst, ◌∙◌}
 use Rattle.node_table.specs.Addresses.{same}
-use Rattle.patch_graph.specs.Index.{targets_of}
 use Rattle.patch_graph.specs.Edges.{edge, has_edge, without_edge}
 use Rattle.patch_graph.proofs.Same.{same-refl}
 use Rattle.patch_graph.proofs.Removed.{or_true}
 use Rattle.seq_sending.specs.Table.{AreWaysKept}
 use Rattle.seq_patchbay.specs.Network.{Network}
-use Rattle.seq_patchbay.proofs.Gone.{known-there}
 use Rattle.seq_patchbay.proofs.patchbay.Patchbay.end_youngest_into.Goals as goal
 
 pub invariant_of-self : goal.invariant_of-self
@@ -16,15 +13,12 @@ invariant_of-self c = subst (λ es. AreWaysKept c.self.inside.clients.clients es
 pub invariant_of-self-2 : goal.invariant_of-self-2
 invariant_of-self-2 c =
     let s = c.self.inside in
-    c.part.ensures s.clients.clients s.graph c.in-Some.ensures.rest
-    (known-there s.graph c.args.node.now c.in-Some.source c.known_place-known.result c.place_from-place.result c.place_from-place.ensures
-    (subst (λ (n : Network). IfSome c.known_place-known.result (λ k. slice_get (targets_of n.graph k.0) k.1 ≡ Some c.args.node.now)) (sym c.self.view_is) c.known_place-known.ensures))
-    c.self.invariant
+    c.part.ensures s.clients.clients s.graph c.in-Some.ensures.rest c.in-Some.ensures.place c.self.invariant
 
 pub returns-clause-gone : goal.returns-clause-gone
 returns-clause-gone c =
     let n = c.args.node.now in
-    let s = c.in-Some.source in (
+    let s = c.in-Some.field-0.source in (
       edge s n,
       ap (λ (x : Network). has_edge x.graph s n) (sym c.self.view_is) ∙ c.in-Some.ensures.there,
       or_true (same n s) (same n n) (same-refl n),
