@@ -1,11 +1,14 @@
 -- Ways stay the same, where all that they hang on does.
-use Rattle.std.proofs.Common.{◌≡◌, if◌then◌else◌, ℕ, zero, suc, ◌+◌, ◌-◌, Bool, true, false, eqb, ◌||◌, List, [], ◌∷◌, ◌++◌, length, Some, refl, sym, ap, subst, ◌∙◌, arith}
+use Rattle.std.proofs.Common.{◌≡◌, if◌then◌else◌, ℕ, zero, suc, ◌+◌, ◌-◌, ◌<◌, ◌≤◌, Bool, true, false, cond, eqb, leb, ltb, ◌&&◌, ◌||◌, List, [], ◌∷◌, ◌++◌, length, take, Option, Some, refl, sym, ap, subst, ◌∙◌, arith}
 use Rattle.std.specs.Option.{option_to_list}
-use Rattle.std.specs.List.{AllByRecursion, flat_map, remove}
+use Rattle.std.specs.Prelude.{slice_get}
+use Rattle.std.specs.List.{AllByRecursion, filter, flat_map, remove}
 use Rattle.std.specs.Ordering.{nat_cmp}
 use Rattle.std.specs.FinMap
 use Rattle.std.specs.FinMap.{FinMap}
 use Rattle.std.proofs.lemmas.Bool.{eqb-true}
+use Rattle.std.proofs.lemmas.Bool.Decides.{nat_tests}
+use Rattle.std.proofs.lemmas.Option.{none-some}
 use Rattle.node_table.specs.Addresses.{is_filter}
 use Rattle.node_table.specs.declared.number.Addr.{Addr}
 use Rattle.node_table.specs.declared.number.Node.{Node}
@@ -18,9 +21,10 @@ use Rattle.seq_state.specs.State.{Client}
 use Rattle.seq_state.specs.Copies.{filter_at, passed_by, copy}
 use Rattle.seq_sending.specs.Carrying.{of_some, copies_by, copies_to, copies_onward}
 use Rattle.seq_sending.specs.Changes.{AgreeOn, AgreeOnFilters}
-use Rattle.seq_sending.specs.Reach.{is_among, LeadWithin, LeadsWithin}
+use Rattle.seq_sending.specs.Reach.{is_among, is_passed, LeadWithin, LeadsWithin, LeadInOrder}
 use Rattle.seq_sending.specs.Table.{AreWaysThrough}
 use Rattle.seq_sending.specs.Ways.{copies_on, copies_along, IsWay, AreWays, AreWaysTo, PartsFrom}
+use Rattle.seq_sending.specs.declared.reach.Passed.{Passed}
 use Rattle.seq_sending.specs.declared.ways.Way.{Way}
 use Rattle.seq_sending.specs.declared.ways.Way.TheVariants.{Straight, Filtered, Parting, Nowhere}
 use Rattle.seq_sending.proofs.Onward.{of-same, ways-all}
@@ -63,12 +67,67 @@ or-true : (P : Type 0) (b c : Bool) → (b || c) ≡ true → (b ≡ true → P)
 or-true P true c e first next = first refl
 or-true P false c e first next = next e
 
-pub among-more : (P : ℕ → Type 0) (clients : List ℕ) (client : ℕ) → ((c : ℕ) → is_among clients c ≡ true → P c) → P client → (c : ℕ) → is_among (clients ++ client ∷ []) c ≡ true → P c
-among-more P [] client each its c among = or-true (P c) (eqb client c) false among (λ e. subst P (eqb-true client c e) its) (λ e. absurd (none-among c e))
-among-more P (x ∷ clients) client each its c among =
-    or-true (P c) (eqb x c) (is_among (clients ++ client ∷ []) c) among
-    (λ e. each c (ap (λ b. b || is_among clients c) e))
-    (among-more P clients client (λ y e. each y (ap (λ b. eqb x y || b) e ∙ or-right (eqb x y))) its c)
+pub among-more : (P : ℕ → Type 0) (passed : List Passed) (one : Passed) → ((c : ℕ) → is_among passed c ≡ true → P c) → P one.client → (c : ℕ) → is_among (passed ++ one ∷ []) c ≡ true → P c
+among-more P [] one each its c among = or-true (P c) (eqb one.client c) false among (λ e. subst P (eqb-true one.client c e) its) (λ e. absurd (none-among c e))
+among-more P (x ∷ passed) one each its c among =
+    or-true (P c) (eqb x.client c) (is_among (passed ++ one ∷ []) c) among
+    (λ e. each c (ap (λ b. b || is_among passed c) e))
+    (among-more P passed one (λ y e. each y (ap (λ b. eqb x.client y || b) e ∙ or-right (eqb x.client y))) its c)
+
+-- ---- those that the ways up to one lead through
+
+-- they are among all
+pub passed-among : (passed : List Passed) (way c : ℕ) → is_passed passed way c ≡ true → is_among passed c ≡ true
+passed-among [] way c e = e
+passed-among (x ∷ passed) way c e =
+    or-true (is_among (x ∷ passed) c ≡ true) (eqb x.client c && leb x.way way) (is_passed passed way c) e
+    (λ k. ap (λ b. b || is_among passed c) (left (eqb x.client c) (leb x.way way) k))
+    (λ k. ap (λ b. eqb x.client c || b) (passed-among passed way c k) ∙ or-right (eqb x.client c))
+  where
+    left : (b d : Bool) → (b && d) ≡ true → b ≡ true
+    left true d k = refl
+    left false d k = k
+
+pub passed-kept : (passed more : List Passed) (way c : ℕ) → is_passed passed way c ≡ true → is_passed (passed ++ more) way c ≡ true
+passed-kept [] more way c e = absurd (no e)
+  where
+    no : false ≡ true → ⊥
+    no e = cc
+passed-kept (x ∷ passed) more way c e =
+    or-true (is_passed (x ∷ passed ++ more) way c ≡ true) (eqb x.client c && leb x.way way) (is_passed passed way c) e
+    (λ k. ap (λ b. b || is_passed (passed ++ more) way c) k)
+    (λ k. ap (λ b. (eqb x.client c && leb x.way way) || b) (passed-kept passed more way c k) ∙ or-right (eqb x.client c && leb x.way way))
+
+pub passed-noted : (passed : List Passed) (one : Passed) → is_passed (passed ++ one ∷ []) one.way one.client ≡ true
+passed-noted [] one = itself one.client one.way
+  where
+    itself : (c w : ℕ) → ((eqb c c && leb w w) || false) ≡ true
+    itself c w = grind (arith, nat_tests)
+passed-noted (x ∷ passed) one =
+    ap (λ b. (eqb x.client one.client && leb x.way one.way) || b) (passed-noted passed one) ∙ or-right (eqb x.client one.client && leb x.way one.way)
+
+-- and stay, where those are left out that a later way is the first to pass
+pub passed-before : (passed : List Passed) (place way c : ℕ) → way < place → is_passed passed way c ≡ true → is_passed (filter (λ x. ltb x.way place) passed) way c ≡ true
+passed-before [] place way c l e = e
+passed-before (x ∷ passed) place way c l e =
+    or-true (is_passed (filter (λ y. ltb y.way place) (x ∷ passed)) way c ≡ true) (eqb x.client c && leb x.way way) (is_passed passed way c) e
+    (λ k.
+    ap (λ b. is_passed (cond b (x ∷ filter (λ y. ltb y.way place) passed) (filter (λ y. ltb y.way place) passed)) way c) (early (eqb x.client c) x.way k)
+    ∙ ap (λ b. b || is_passed (filter (λ y. ltb y.way place) passed) way c) k)
+    (λ k. step (ltb x.way place) (passed-before passed place way c l k))
+  where
+    early : (b : Bool) (w : ℕ) → (b && leb w way) ≡ true → ltb w place ≡ true
+    early true w k = grind (arith, nat_tests)
+    early false w k = absurd (no k)
+      where
+        no : false ≡ true → ⊥
+        no e = cc
+
+    step : (b : Bool) → is_passed (filter (λ y. ltb y.way place) passed) way c ≡ true → is_passed (cond b (x ∷ filter (λ y. ltb y.way place) passed) (filter (λ y. ltb y.way place) passed)) way c ≡ true
+    step true k = ap (λ b. (eqb x.client c && leb x.way way) || b) k ∙ or-right (eqb x.client c && leb x.way way)
+    step false k = k
+
+-- ---- at more nodes
 
 leads-more : (P Q : ℕ → Type 0) → ((c : ℕ) → P c → Q c) → (edges : List Edge) (n : ℕ) → ((nodes : List Addr) → LeadWithin P edges n nodes → LeadWithin Q edges n nodes) → (a : Addr) →
     LeadsWithin P edges n a → LeadsWithin Q edges n a
@@ -108,9 +167,66 @@ pub within-one-more : (P : ℕ → Type 0) (edges : List Edge) (n : ℕ) (nodes 
     LeadWithin P edges (n + 1) (nodes ++ node ∷ [])
 within-one-more P edges n nodes node all its = within-suc P edges n (nodes ++ node ∷ []) (all-one-more (LeadsWithin P edges n) nodes node (suc-within P edges n nodes all) its)
 
-within-each : (P : ℕ → Type 0) (edges : List Edge) (nodes : List Addr) → LeadWithin P edges hops nodes → AllByRecursion (LeadsWithin P edges (hops - 1)) nodes
-unfolding LeadWithin hops
-within-each P edges nodes within = within
+-- ---- in the order of the ways
+
+module _ {X : Type 0} where
+  some-is : (x y : X) → ◌≡◌ {A = Option X} (Some x) (Some y) → x ≡ y
+  some-is x y e = cc
+
+  pub at-more : (P : ℕ → X → Type 0) (xs : List X) (new : X) → ((i : ℕ) (x : X) → slice_get xs i ≡ Some x → P i x) → P (length xs) new → (i : ℕ) (x : X) → slice_get (xs ++ new ∷ []) i ≡ Some x → P i x
+  at-more P [] new each its zero x e = subst (P 0) (some-is new x e) its
+  at-more P [] new each its (suc i) x e = absurd (none-some x e)
+  at-more P (y ∷ xs) new each its zero x e = each zero x e
+  at-more P (y ∷ xs) new each its (suc i) x e = at-more (λ j z. P (suc j) z) xs new (λ j z f. each (suc j) z f) its i x e
+
+  pub taken-at : (xs : List X) (n i : ℕ) (x : X) → slice_get (take n xs) i ≡ Some x → (slice_get xs i ≡ Some x) × (i < n)
+  taken-at xs zero i x e = absurd (none-some x e)
+  taken-at [] (suc n) i x e = absurd (none-some x e)
+  taken-at (y ∷ xs) (suc n) zero x e = (e, omega arith)
+  taken-at (y ∷ xs) (suc n) (suc i) x e = let rest : (slice_get xs i ≡ Some x) × (i < n) = taken-at xs n i x e in (rest.0, omega (arith, rest.1))
+
+  -- the first of what is left, where what goes stood behind them, and where it stood among them
+  pub taken-behind : (xs : List X) (n i : ℕ) → n ≤ i → take n (remove xs i) ≡ take n xs
+  taken-behind xs zero i l = refl
+  taken-behind [] (suc n) zero l = refl
+  taken-behind [] (suc n) (suc i) l = refl
+  taken-behind (x ∷ xs) (suc n) zero l = absurd (omega (arith, l))
+  taken-behind (x ∷ xs) (suc n) (suc i) l = ap (λ ys. x ∷ ys) (taken-behind xs n i (omega (arith, l)))
+
+  pub taken-from : (xs : List X) (n i : ℕ) → i ≤ n → take n (remove xs i) ≡ remove (take (n + 1) xs) i
+  taken-from xs n i within = go xs n i within ∙ ap (λ k. remove (take k xs) i) (let e : suc n ≡ n + 1 = omega arith in e)
+    where
+      go : (xs : List X) (n i : ℕ) → i ≤ n → take n (remove xs i) ≡ remove (take (suc n) xs) i
+      go [] zero zero l = refl
+      go [] zero (suc i) l = refl
+      go [] (suc n) zero l = refl
+      go [] (suc n) (suc i) l = refl
+      go (x ∷ xs) n zero l = refl
+      go (x ∷ xs) zero (suc i) l = absurd (omega (arith, l))
+      go (x ∷ xs) (suc n) (suc i) l = ap (λ ys. x ∷ ys) (go xs n i (omega (arith, l)))
+
+leads-weaker : (P Q : ℕ → Type 0) → ((c : ℕ) → P c → Q c) → (edges : List Edge) (n : ℕ) (a : Addr) → LeadsWithin P edges n a → LeadsWithin Q edges n a
+leads-weaker P Q more edges n a its = leads-more P Q more edges n (λ ts w. within-more P Q more edges n ts w) a its
+
+pub order-anyone : (P : ℕ → ℕ → Type 0) → ((way c : ℕ) → P way c) → (edges : List Edge) (nodes : List Addr) → LeadInOrder P edges nodes
+order-anyone P each edges nodes way node e filter = (each way node.client, within-anyone (P way) (each way) edges (hops - 1) (targets_of edges node))
+
+pub order-none : (P : ℕ → ℕ → Type 0) (edges : List Edge) (nodes : List Addr) → LeadInOrder P edges (take 0 nodes)
+order-none P edges nodes way node e = absurd (none-some node e)
+
+-- of the first of them
+pub order-front : (P : ℕ → ℕ → Type 0) (edges : List Edge) (nodes : List Addr) (n : ℕ) → LeadInOrder P edges nodes → LeadInOrder P edges (take n nodes)
+order-front P edges nodes n order way node e = order way node (taken-at nodes n way node e).0
+
+pub order-weaker : (P Q : ℕ → ℕ → Type 0) (edges : List Edge) (nodes : List Addr) (n : ℕ) → ((way c : ℕ) → way < n → P way c → Q way c) → LeadInOrder P edges (take n nodes) → LeadInOrder Q edges (take n nodes)
+order-weaker P Q edges nodes n more order way node e =
+    leads-weaker (P way) (Q way) (λ c p. more way c (taken-at nodes n way node e).1 p) edges (hops - 1) node (order way node e)
+
+-- of one more, where the ways may pass more
+pub order-more : (P Q : ℕ → ℕ → Type 0) (edges : List Edge) (nodes : List Addr) (node : Addr) → ((way c : ℕ) → P way c → Q way c) → LeadInOrder P edges nodes → LeadsWithin (Q (length nodes)) edges (hops - 1) node →
+    LeadInOrder Q edges (nodes ++ node ∷ [])
+order-more P Q edges nodes node more order its =
+    at-more (λ way a. LeadsWithin (Q way) edges (hops - 1) a) nodes node (λ way a e. leads-weaker (P way) (Q way) (more way) edges (hops - 1) a (order way a e)) its
 
 -- ---- from node to node
 
@@ -174,25 +290,31 @@ module _ (P : ℕ → Type 0) (clients others : FinMap nat_cmp Client) (edges ot
     way-agrees node message (Parting from) parts within = node-agrees from message (subst (LeadsWithin P edges (hops - 1)) (sym parts) within)
     way-agrees node message Nowhere parts within = refl
 
-  to-each : (nodes : List Addr) (ways : List Way) → AreWaysTo clients edges nodes ways → AllByRecursion (LeadsWithin P edges (hops - 1)) nodes → AreWaysTo others other_edges nodes ways
-  to-each [] [] each within = record {}
-  to-each [] (way ∷ ways) each within = absurd each
-  to-each (node ∷ nodes) [] each within = absurd each
-  to-each (node ∷ nodes) (way ∷ ways) each within = (
-    (
-      (λ moment message is.
-          sym (way-agrees moment node message way each.0.1 within.0) ∙ each.0.0 moment message is ∙ node-agrees moment node message within.0),
-      each.0.1,
-    ),
-    to-each nodes ways each.1 within.1,
-  )
+to-each : (P : ℕ → ℕ → Type 0) (clients others : FinMap nat_cmp Client) (edges other_edges : List Edge) → ((way : ℕ) → AgreeOnFilters (P way) clients others edges other_edges) → (nodes : List Addr) (ways : List Way) →
+    AreWaysTo clients edges nodes ways → LeadInOrder P edges nodes → AreWaysTo others other_edges nodes ways
+to-each P clients others edges other_edges agree [] [] each within = record {}
+to-each P clients others edges other_edges agree [] (way ∷ ways) each within = absurd each
+to-each P clients others edges other_edges agree (node ∷ nodes) [] each within = absurd each
+to-each P clients others edges other_edges agree (node ∷ nodes) (way ∷ ways) each within =
+    let its : LeadsWithin (P 0) edges (hops - 1) node = within 0 node refl in (
+      (
+        (λ moment message is.
+            sym (way-agrees (P 0) clients others edges other_edges (agree 0) moment node message way each.0.1 its) ∙ each.0.0 moment message is
+            ∙ node-agrees (P 0) clients others edges other_edges (agree 0) moment node message its),
+        each.0.1,
+      ),
+      to-each (λ w. P (suc w)) clients others edges other_edges (λ w. agree (suc w)) nodes ways each.1 (λ w a e. within (suc w) a e),
+    )
 
-  -- the ways to nodes stay the ways to them
-  pub through-agrees : (nodes : List Addr) (ways : List Way) → AreWaysThrough P clients edges nodes ways → AreWaysThrough P others other_edges nodes ways
-  through-agrees nodes ways are = record {
-    each = to-each nodes ways are.each (within-each P edges nodes are.within);
-    within = within-agrees hops nodes are.within;
-  }
+-- the ways to nodes stay the ways to them
+pub through-agrees : (P : ℕ → ℕ → Type 0) (clients others : FinMap nat_cmp Client) (edges other_edges : List Edge) → ((way : ℕ) → AgreeOnFilters (P way) clients others edges other_edges) → (nodes : List Addr) (ways : List Way) →
+    AreWaysThrough P clients edges nodes ways → AreWaysThrough P others other_edges nodes ways
+through-agrees P clients others edges other_edges agree nodes ways are = record {
+  each = to-each P clients others edges other_edges agree nodes ways are.each are.within;
+  within = λ way node e.
+      leads-agrees (P way) clients others edges other_edges (agree way) (hops - 1)
+      (λ ts w. within-agrees (P way) clients others edges other_edges (agree way) (hops - 1) ts w) node (are.within way node e);
+}
 
 -- ---- ways
 
@@ -223,7 +345,7 @@ ways-count clients edges (n ∷ nodes) [] each = absurd each
 ways-count clients edges (n ∷ nodes) (w ∷ ways) each = ap suc (ways-count clients edges nodes ways each.1)
 
 -- a way less, and its node
-ways-removed : (clients : FinMap nat_cmp Client) (edges : List Edge) (nodes : List Addr) (ways : List Way) (i : ℕ) → AreWaysTo clients edges nodes ways → AreWaysTo clients edges (remove nodes i) (remove ways i)
+pub ways-removed : (clients : FinMap nat_cmp Client) (edges : List Edge) (nodes : List Addr) (ways : List Way) (i : ℕ) → AreWaysTo clients edges nodes ways → AreWaysTo clients edges (remove nodes i) (remove ways i)
 ways-removed clients edges [] [] zero each = each
 ways-removed clients edges [] [] (suc i) each = each
 ways-removed clients edges [] (w ∷ ways) i each = absurd each
@@ -231,29 +353,11 @@ ways-removed clients edges (n ∷ nodes) [] i each = absurd each
 ways-removed clients edges (n ∷ nodes) (w ∷ ways) zero each = each.1
 ways-removed clients edges (n ∷ nodes) (w ∷ ways) (suc i) each = (each.0, ways-removed clients edges nodes ways i each.1)
 
-all-removed : {X : Type 0} (Q : X → Type 0) (xs : List X) (i : ℕ) → AllByRecursion Q xs → AllByRecursion Q (remove xs i)
-all-removed Q [] zero all = all
-all-removed Q [] (suc i) all = all
-all-removed Q (x ∷ xs) zero all = all.1
-all-removed Q (x ∷ xs) (suc i) all = (all.0, all-removed Q xs i all.1)
-
-within-removed : (P : ℕ → Type 0) (edges : List Edge) (nodes : List Addr) (i : ℕ) → LeadWithin P edges hops nodes → LeadWithin P edges hops (remove nodes i)
-unfolding LeadWithin hops
-within-removed P edges nodes i within = all-removed (LeadsWithin P edges (hops - 1)) nodes i within
-
-pub through-removed : (P : ℕ → Type 0) (clients : FinMap nat_cmp Client) (edges : List Edge) (nodes : List Addr) (ways : List Way) (i : ℕ) → AreWaysThrough P clients edges nodes ways →
-    AreWaysThrough P clients edges (remove nodes i) (remove ways i)
-through-removed P clients edges nodes ways i are = record {
-  each = ways-removed clients edges nodes ways i are.each;
-  within = within-removed P edges nodes i are.within;
-}
-
 -- one node more, to which the ways may lead through filters of more clients
-pub through-one-more : (P Q : ℕ → Type 0) (clients : FinMap nat_cmp Client) (edges : List Edge) (nodes : List Addr) (ways more_ways : List Way) (node : Addr) → ((c : ℕ) → P c → Q c) →
-    AreWaysThrough P clients edges nodes ways → (AreWaysTo clients edges nodes ways → AreWaysTo clients edges (nodes ++ node ∷ []) more_ways) → LeadsWithin Q edges (hops - 1) node →
+pub through-one-more : (P Q : ℕ → ℕ → Type 0) (clients : FinMap nat_cmp Client) (edges : List Edge) (nodes : List Addr) (ways more_ways : List Way) (node : Addr) → ((way c : ℕ) → P way c → Q way c) →
+    AreWaysThrough P clients edges nodes ways → (AreWaysTo clients edges nodes ways → AreWaysTo clients edges (nodes ++ node ∷ []) more_ways) → LeadsWithin (Q (length ways)) edges (hops - 1) node →
     AreWaysThrough Q clients edges (nodes ++ node ∷ []) more_ways
-unfolding hops
 through-one-more P Q clients edges nodes ways more_ways node more are each its = record {
   each = each are.each;
-  within = within-one-more Q edges (hops - 1) nodes node (within-more P Q more edges hops nodes are.within) its;
+  within = order-more P Q edges nodes node more are.within (subst (λ n. LeadsWithin (Q n) edges (hops - 1) node) (ways-count clients edges nodes ways are.each) its);
 }

@@ -16,7 +16,7 @@ use Rattle.seq_sending.specs.Carrying.{copies_to}
 use Rattle.seq_sending.specs.Barren.{AreBarren}
 use Rattle.seq_sending.specs.Rooms.{AreAt}
 use Rattle.seq_sending.specs.declared.barren.Mark.{Mark}
-use Rattle.seq_sending.proofs.Known.{each-more}
+use Rattle.seq_sending.proofs.Agreeing.{at-more}
 use Rattle.seq_sending.proofs.OneMoment.{each-at, to-at}
 use Rattle.seq_sending.proofs.Rooms.{Pools, cut_law, onward_law}
 
@@ -40,7 +40,7 @@ module _ {M : Type 0} (bytes : M → List ℕ) (clients : FinMap nat_cmp Client)
 
   -- one mark more
   pub one-more : (pools : Pools) (marks : List (Mark M)) (new : Mark M) → AreBarren bytes clients edges moment pools marks → copies_with_room pools (of_mark new) ≡ [] → AreBarren bytes clients edges moment pools (marks ++ new ∷ [])
-  one-more pools marks new are e = each-more (λ k. copies_with_room pools (of_mark k) ≡ []) marks new are e
+  one-more pools marks new are e = at-more (λ _ k. copies_with_room pools (of_mark k) ≡ []) marks new are e
 
 -- nothing was delivered where the log is no longer
 pub no-longer : (out out' now : List Delivery) → out' ≡ out ++ now → length out' ≡ length out → now ≡ []

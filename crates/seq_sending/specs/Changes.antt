@@ -37,8 +37,8 @@ last_change changes c = slice_index_or changes.last (c - first_client) 0
 
 -- none of these clients changed after the first `at` changes
 abbrev pub AreUnchanged : Changes → ℕ → Through → Type 0
-AreUnchanged changes at (These clients) =
-    (c : ℕ) → is_among clients.items c ≡ true → last_change changes c ≤ at
+AreUnchanged changes at (These passed) =
+    (c : ℕ) → is_among passed.items c ≡ true → last_change changes c ≤ at
 AreUnchanged changes at Anyone = changes.count ≤ at
 
 -- after the first `at` changes nothing changed on which the ways from a client's port hang

@@ -5,7 +5,7 @@ ghost use Rattle.node_table.specs.Numbers.{most_clients};
 ghost use Rattle.seq_sending.specs.Changes.{last_change, IsCurrent};
 ghost use Rattle.seq_sending.specs.Reach.{is_among};
 
-use crate::reach::Through;
+use crate::reach::{Passed, Through};
 use node_table::{ClientId, MOST_CLIENTS, row_of};
 
 /// How often a rule or a subscription has changed, and which of the changes was the last of each client: of its rules,
@@ -46,19 +46,19 @@ impl Changes {
             return false;
         }
         match through {
-            Through::These(clients) => self.are_unchanged(at, clients.as_slice()),
+            Through::These(passed) => self.are_unchanged(at, passed.as_slice()),
             Through::Anyone => self.count <= at,
         }
     }
 
     /// Whether none of these clients changed after the first `at` changes.
     #[inline]
-    fn are_unchanged(&self, at: u64, clients: &[ClientId]) -> bool
-        ensures { result ≡ true → (c : ℕ) → is_among clients.now c ≡ true
+    fn are_unchanged(&self, at: u64, passed: &[Passed]) -> bool
+        ensures { result ≡ true → (c : ℕ) → is_among passed.now c ≡ true
             → last_change self.now c ≤ at }
     {
-        for client in clients {
-            if self.last[row_of(*client)] > at {
+        for other in passed {
+            if self.last[row_of(other.client)] > at {
                 return false;
             }
         }

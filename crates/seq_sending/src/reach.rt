@@ -1,8 +1,8 @@
 //! How far ways lead, and through whose filters.
 
-ghost use Rattle.std.specs.Prelude.{◌≡◌, ◌≢◌, ℕ, ◌+◌, true, IfOk, OnOk};
-ghost use Rattle.patch_graph.specs.Paths.{hops};
-ghost use Rattle.seq_sending.specs.Reach.{is_among, MayLeadThrough, LeadWithin, LeadsWithin};
+ghost use Rattle.std.specs.Prelude.{◌≡◌, ◌≢◌, ◌≤◌, ℕ, ◌+◌, true, nat_lt, length, take, IfOk, OnOk};
+ghost use Rattle.std.specs.List.{filter};
+ghost use Rattle.seq_sending.specs.Reach.{is_passed, MayLeadThrough, LeadWithin, LeadsWithin, LeadInOrder};
 
 use memory::OutOfMemory;
 use node_table::{Addr, ClientId};
@@ -24,25 +24,33 @@ pub(crate) enum Extent {
 pub(crate) const MOST_UNCOUNTED: usize = 128;
 
 /// The most nodes that a walk without marks comes to.
-const MOST_WALKED: usize = 8_192;
+pub(crate) const MOST_WALKED: usize = 8_192;
+
+/// A client through whose filters ways lead, and the first of them that does.
+#[derive(Clone, Copy, Debug)]
+pub(crate) struct Passed {
+    pub(crate) client: ClientId,
+    /// Its place among the ways.
+    pub(crate) way: usize,
+}
 
 /// The clients through whose filters ways lead.
 #[derive(Drop)]
 pub(crate) enum Through {
     /// These, each of them once.
-    These(Vec<ClientId>),
+    These(Vec<Passed>),
     /// Anyone: the ways are too many to look.
     Anyone,
 }
 
 impl Through {
     /// Their room, for others.
-    pub(crate) fn emptied(self, alloc: Global) -> Vec<ClientId> {
+    pub(crate) fn emptied(self, alloc: Global) -> Vec<Passed> {
         match self {
-            Through::These(clients) => {
-                let mut clients = clients;
-                clients.clear();
-                clients
+            Through::These(passed) => {
+                let mut passed = passed;
+                passed.clear();
+                passed
             }
             Through::Anyone => Vec::new(alloc),
         }
@@ -71,79 +79,122 @@ pub(crate) struct Reach {
     pub(crate) through: Through,
 }
 
-/// Notes that ways lead through filters of a client.
-fn note(clients: &mut Vec<ClientId>, client: ClientId) -> Result<(), OutOfMemory>
-    ensures noted { OnOk result (is_among clients.new.items client ≡ true) }
-    ensures kept { (c : ℕ) → is_among clients.old.items c ≡ true
-        → is_among clients.new.items c ≡ true }
+/// Whether a client is one of those that the ways up to one of them lead through.
+fn is_passed(passed: &[Passed], way: usize, client: ClientId) -> bool
+    ensures { result ≡ is_passed passed.now way client }
 {
-    if clients.contains(&client) {
+    passed
+        .iter()
+        .any(|other| other.client == client && other.way <= way)
+}
+
+/// Notes that a way leads through filters of a client.
+fn note(passed: &mut Vec<Passed>, way: usize, client: ClientId) -> Result<(), OutOfMemory>
+    ensures noted { OnOk result (is_passed passed.new.items way client ≡ true) }
+    ensures kept { (w c : ℕ) → is_passed passed.old.items w c ≡ true
+        → is_passed passed.new.items w c ≡ true }
+{
+    if is_passed(passed, way, client) {
         return Ok(());
     }
-    clients.push(client)?;
+    passed.push(Passed { client, way })?;
     Ok(())
 }
 
-/// What is left of a number of nodes after those to which ways of at most `hops` subscriptions lead, whatever the
-/// filters let through. It notes whose filters these are, as long as any are left.
+/// Leaves those that some way before this place leads through.
+pub(crate) fn leave_before(passed: &mut Vec<Passed>, place: usize)
+    ensures { passed.new.items ≡ filter (λ x. nat_lt x.way place) passed.old.items }
+{
+    passed.retain(|other| other.way < place);
+}
+
+/// What is left of a number of nodes after those to which a way leads on, along at most `hops` subscriptions, whatever
+/// the filters let through. It notes whose filters these are, as long as any are left.
 #[cycle(look)]
 fn look_at_all(
     graph: &PatchGraph,
     hops: usize,
     nodes: &[Addr],
     most: usize,
-    clients: &mut Vec<ClientId>,
+    passed: &mut Vec<Passed>,
+    way: usize,
 ) -> Result<usize, OutOfMemory>
     ensures within { IfOk result (λ left. left ≢ 0 →
-        LeadWithin (λ c. is_among clients.new.items c ≡ true) graph.now (hops + 1) nodes.now) }
-    ensures kept { (c : ℕ) → is_among clients.old.items c ≡ true
-        → is_among clients.new.items c ≡ true }
+        LeadWithin (λ c. is_passed passed.new.items way c ≡ true) graph.now (hops + 1) nodes.now) }
+    ensures kept { (w c : ℕ) → is_passed passed.old.items w c ≡ true
+        → is_passed passed.new.items w c ≡ true }
 {
     let mut left = most;
     for node in nodes {
         if left == 0 {
             return Ok(0);
         }
-        left = look_at(graph, hops, node, left - 1, clients)?;
+        left = look_at(graph, hops, node, left - 1, passed, way)?;
     }
     Ok(left)
 }
 
-/// The same of one node, where ways of at most `hops` subscriptions lead on from it.
+/// The same of one node, where a way of at most `hops` subscriptions leads on from it.
 #[cycle(look)]
 pub(crate) fn look_at(
     graph: &PatchGraph,
     hops: usize,
     node: &Addr,
     most: usize,
-    clients: &mut Vec<ClientId>,
+    passed: &mut Vec<Passed>,
+    way: usize,
 ) -> Result<usize, OutOfMemory>
     ensures within { IfOk result (λ left. left ≢ 0 →
-        LeadsWithin (λ c. is_among clients.new.items c ≡ true) graph.now hops node.now) }
-    ensures kept { (c : ℕ) → is_among clients.old.items c ≡ true
-        → is_among clients.new.items c ≡ true }
+        LeadsWithin (λ c. is_passed passed.new.items way c ≡ true) graph.now hops node.now) }
+    ensures kept { (w c : ℕ) → is_passed passed.old.items w c ≡ true
+        → is_passed passed.new.items w c ≡ true }
 {
     if !node.is_filter() {
         return Ok(most);
     }
-    note(clients, node.client)?;
+    note(passed, way, node.client)?;
     if hops == 0 {
         return Ok(most);
     }
-    look_at_all(graph, hops - 1, graph.targets(node), most, clients)
+    look_at_all(graph, hops - 1, graph.targets(node), most, passed, way)
+}
+
+/// What is left of a number of nodes after those to which the ways lead from this place on, each to one of the nodes
+/// that a port is joined to.
+pub(crate) fn look_from(
+    graph: &PatchGraph,
+    nodes: &[Addr],
+    first: usize,
+    most: usize,
+    passed: &mut Vec<Passed>,
+) -> Result<usize, OutOfMemory>
+    requires { first ≤ length nodes.now }
+    ensures { IfOk result (λ left. left ≢ 0 →
+        LeadInOrder (λ way c. is_passed passed.old.items way c ≡ true) graph.now
+        (take first nodes.now) →
+        LeadInOrder (λ way c. is_passed passed.new.items way c ≡ true) graph.now nodes.now) }
+{
+    let mut left = most;
+    for way in first..nodes.len() {
+        if left == 0 {
+            return Ok(0);
+        }
+        left = look_at(graph, HOPS - 1, &nodes[way], left - 1, passed, way)?;
+    }
+    Ok(left)
 }
 
 /// How far ways lead from these nodes on, to which a port is joined. The clients are put into the room that is given.
 pub(crate) fn reach_of(
-    room: Vec<ClientId>,
+    room: Vec<Passed>,
     graph: &PatchGraph,
     nodes: &[Addr],
 ) -> Result<Reach, OutOfMemory>
     ensures { IfOk result
-        (λ reach. LeadWithin (MayLeadThrough reach.through) graph.now hops nodes.now) }
+        (λ reach. LeadInOrder (MayLeadThrough reach.through) graph.now nodes.now) }
 {
-    let mut clients = room;
-    let left = look_at_all(graph, HOPS - 1, nodes, MOST_WALKED, &mut clients)?;
+    let mut passed = room;
+    let left = look_from(graph, nodes, 0, MOST_WALKED, &mut passed)?;
     if left == 0 {
         return Ok(Reach {
             nodes: MOST_WALKED,
@@ -152,6 +203,6 @@ pub(crate) fn reach_of(
     }
     Ok(Reach {
         nodes: MOST_WALKED.saturating_sub(left),
-        through: Through::These(clients),
+        through: Through::These(passed),
     })
 }

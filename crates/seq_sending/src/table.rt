@@ -9,14 +9,13 @@ ghost use Rattle.patch_graph.specs.declared.edge.Edge.{Edge};
 ghost use Rattle.seq_state.specs.State.{Client};
 ghost use Rattle.seq_state.specs.Step.{pools_after, copies_with_room};
 ghost use Rattle.seq_sending.specs.Changes.{AgreeBut};
-ghost use Rattle.seq_sending.specs.Reach.{MayLeadThrough};
-ghost use Rattle.seq_sending.specs.Table.{AreWaysFound, AreEarlier, AreWaysThrough, AreWaysKept};
+ghost use Rattle.seq_sending.specs.Table.{AreWaysSoFar, AreWaysFound, AreEarlier, AreWaysKept, IsKnownSoFar, IsSlotFound};
 ghost use Rattle.seq_sending.specs.Ways.{AreWays, spread_all};
 ghost use Rattle.seq_sending.specs.declared.ways.Way.{Way};
 
 use crate::changes::{Changes, all_at};
 use crate::kept_counts::CountTable;
-use crate::reach::{Reach, Through, reach_of};
+use crate::reach::{Passed, Reach, Through, reach_of};
 use crate::sending::send_each;
 use crate::ways::{Way, Ways, ways_to};
 use memory::OutOfMemory;
@@ -33,6 +32,8 @@ pub(crate) struct Found {
     pub(crate) at: u64,
     pub(crate) through: Through,
     pub(crate) ways: Ways,
+    /// To how many nodes no way is known yet: the port was joined to them since it sent, so they are the last.
+    pub(crate) newer: usize,
 }
 
 /// The ways from the ports that have sent, and the counts of their messages.
@@ -51,7 +52,7 @@ pub struct WayTable {
 
 impl Found {
     /// Its room, for others.
-    fn emptied(self, alloc: Global) -> (Vec<Way>, Vec<ClientId>)
+    fn emptied(self, alloc: Global) -> (Vec<Way>, Vec<Passed>)
         ensures { result.0.items ≡ [] }
     {
         (self.ways.emptied(), self.through.emptied(alloc))
@@ -69,7 +70,7 @@ fn make_place(places: &mut Vec<Option<Found>>, place: usize) -> Result<(), OutOf
     Ok(())
 }
 
-/// The ways from a port, where nothing changed on which they hang.
+/// The ways from a port, where nothing changed on which they hang, and it was joined to no node since.
 #[inline]
 fn known<'t>(places: &'t [Option<Found>], changes: &Changes, source: &Addr) -> Option<&'t Ways>
     ensures { (clients : map.FinMap nat_cmp Client) (edges : List Edge)
@@ -77,7 +78,8 @@ fn known<'t>(places: &'t [Option<Found>], changes: &Changes, source: &Addr) -> O
         → IfSome result (λ ways. AreWays clients edges (targets_of edges source.now) ways.now) }
 {
     match places.get(place_of(source)) {
-        Some(Some(found)) if changes.is_current(found.at, source.client, &found.through) => {
+        Some(Some(found))
+            if found.newer == 0 && changes.is_current(found.at, source.client, &found.through) => {
             Some(&found.ways)
         }
         _ => None,
@@ -86,7 +88,10 @@ fn known<'t>(places: &'t [Option<Found>], changes: &Changes, source: &Addr) -> O
 
 /// Takes what stands at a place out of a table: what is known of the others stays.
 fn take(places: &mut Vec<Option<Found>>, place: usize) -> Option<Found>
-    ensures { (clients : map.FinMap nat_cmp Client) (edges : List Edge) (changes : Changes)
+    ensures taken { (clients : map.FinMap nat_cmp Client) (edges : List Edge) (changes : Changes)
+        → AreWaysFound clients edges changes places.old.items
+        → IsSlotFound clients edges changes place result }
+    ensures left { (clients : map.FinMap nat_cmp Client) (edges : List Edge) (changes : Changes)
         → AreWaysFound clients edges changes places.old.items
         → AreWaysFound clients edges changes places.new.items }
 {
@@ -103,8 +108,7 @@ fn keep_ways(
     found: Found,
 ) -> Result<(), OutOfMemory>
     ensures { (clients : map.FinMap nat_cmp Client) (edges : List Edge) (changes : Changes)
-        → AreWaysThrough (MayLeadThrough found.through) clients edges
-        (targets_of edges source.now) found.ways
+        → AreWaysSoFar clients edges (targets_of edges source.now) found
         → found.at ≤ changes.count → AreWaysFound clients edges changes places.old.items
         → AreWaysFound clients edges changes places.new.items }
 {
@@ -114,27 +118,42 @@ fn keep_ways(
     Ok(())
 }
 
-/// Finds the ways from a port, in the room that is given.
+/// Finds the ways from a port, of which something was known or nothing: what is current stays known.
 fn find(
-    room: (Vec<Way>, Vec<ClientId>),
+    known: Option<Found>,
+    alloc: Global,
     clients: &Clients,
     graph: &PatchGraph,
     changes: &Changes,
     source: &Addr,
 ) -> Result<Found, OutOfMemory>
-    requires { room.0.items ≡ [] }
+    requires { IsKnownSoFar clients.now.clients graph.now changes.now source.now known }
     ensures at { IfOk result (λ found. found.at ≡ changes.now.count) }
-    ensures ways { IfOk result (λ found. AreWaysThrough (MayLeadThrough found.through)
-        clients.now.clients graph.now (targets_of graph.now source.now) found.ways) }
+    ensures all { IfOk result (λ found. found.newer ≡ 0) }
+    ensures ways { let targets = targets_of graph.now source.now in
+        IfOk result (λ found. AreWaysSoFar clients.now.clients graph.now targets found) }
 {
     let targets = graph.targets(source);
-    let (ways, through) = room;
+    let (ways, through) = match known {
+        Some(found) => {
+            let mut found = found;
+            if changes.is_current(found.at, source.client, &found.through)
+                && found.catch_up(clients, graph, targets)
+            {
+                found.at = changes.count;
+                return Ok(found);
+            }
+            found.emptied(alloc)
+        }
+        None => (Vec::new(alloc), Vec::new(alloc)),
+    };
     let Reach { nodes, through } = reach_of(through, graph, targets)?;
     let ways = ways_to(ways, clients, graph, targets, nodes)?;
     Ok(Found {
         at: changes.count,
         through,
         ways,
+        newer: 0,
     })
 }
 
@@ -194,12 +213,8 @@ impl WayTable {
         if graph.targets(source).is_empty() {
             return Ok(());
         }
-        // What is known no more gives its room.
-        let room = match take(&mut self.places, place_of(source)) {
-            Some(found) => found.emptied(alloc),
-            None => (Vec::new(alloc), Vec::new(alloc)),
-        };
-        let found = find(room, clients, graph, changes, source)?;
+        let known = take(&mut self.places, place_of(source));
+        let found = find(known, alloc, clients, graph, changes, source)?;
         let ways = &found.ways;
         send_each(
             alloc, clients, graph, moment, source, ways, messages, counts, out,

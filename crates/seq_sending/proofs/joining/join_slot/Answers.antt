@@ -1,24 +1,21 @@
-use Rattle.std.proofs.Common.{sym, subst, ◌∙◌}
+use Rattle.std.proofs.Common.{◌++◌, ◌∷◌, [], refl, sym, ap, subst}
+use Rattle.patch_graph.specs.Edges.{edge}
 use Rattle.patch_graph.specs.Index.{targets_of}
-use Rattle.seq_sending.specs.Reach.{MayLeadThrough}
-use Rattle.seq_sending.specs.Table.{IsWayFound, IsSlotFound, AreWaysThrough}
-use Rattle.seq_sending.proofs.Joined.{here-changed, agree-added, its-added}
+use Rattle.seq_sending.specs.Changes.{IsCurrent}
+use Rattle.seq_sending.specs.Table.{IsWayFound, IsSlotFound, AreWaysSoFar}
+use Rattle.seq_sending.specs.declared.table.Found.{Found}
+use Rattle.seq_sending.proofs.Joined.{here-changed, agree-added, its-added, one-newer}
 use Rattle.seq_sending.proofs.Known.{some-is}
 use Rattle.seq_sending.proofs.joining.join_slot.Goals as goal
-use Rattle.seq_sending.proofs.joining.join_slot.Goals.{then-is_current, else-is_current}
 
 pub returns-else-not-known : goal.returns-else-not-known
-returns-else-not-known c edges row place at port is kept found e = elim c.if-is_current.branch [
-  | then-is_current w ↦
-      let a = c.args in
-      let cs = a.clients.now.clients in
-      let g = a.graph.now in
-      let s = a.source.now in
-      let new = w.join.new.self in
-      subst (IsWayFound cs g a.changes.now place) (some-is new found (sym w.slot-is ∙ e))
-      (here-changed cs edges g a.changes.now s row place at (agree-added cs edges g s a.target.now port is) c.in-Some.found new
-      (subst (IsSlotFound cs edges a.changes.now place) c.in-Some.is kept) (c.is_current.ensures w.if-is_current.true) w.join.ensures.at
-      (λ ways. subst (λ ts. AreWaysThrough (MayLeadThrough new.through) cs g ts new.ways) (its-added cs edges g s a.target.now port is)
-      (w.join.ensures.ways (sym w.known-is ∙ c.if-not-known.false) (targets_of edges s) ways)))
-  | else-is_current w ↦ cc
-]
+returns-else-not-known c clients edges changes s target row place at port kept found e =
+    let g = edges ++ edge s target ∷ [] in
+    let was = c.in-Some.found in
+    let new = c.join-known.new.self in
+    let is = c.join-known.ensures c.if-not-known.false in
+    subst (IsWayFound clients g changes place) (some-is new found e)
+    (here-changed clients edges g changes s row place at (agree-added clients edges g s target port refl) was new
+    (subst (IsSlotFound clients edges changes place) c.in-Some.is kept) (ap (λ (x : Found). x.at) is)
+    (subst (λ (x : Found). IsCurrent changes x.at s.client x.through → IsCurrent changes was.at s.client was.through) (sym is) (λ now. now))
+    (λ ways. subst (λ ts. AreWaysSoFar clients g ts new) (its-added clients edges g s target port refl) (one-newer clients g (targets_of edges s) target was new is ways)))

@@ -1,35 +1,23 @@
-use Rattle.std.proofs.Common.{◌≡◌, Bool, List, length, sym, ap, subst, ◌∙◌, arith}
-use Rattle.std.specs.Prelude.{not}
-use Rattle.std.specs.List.{filter, remove}
-use Rattle.node_table.specs.Addresses.{same}
-use Rattle.node_table.specs.declared.number.Addr.{Addr}
+use Rattle.std.proofs.Common.{◌-◌, length, take, ap, refl, ◌∙◌, arith}
 use Rattle.patch_graph.specs.Index.{targets_of}
-use Rattle.patch_graph.specs.Paths.{hops}
-use Rattle.patch_graph.proofs.Same.{same-refl}
-use Rattle.seq_sending.specs.Reach.{LeadWithin, MayLeadThrough}
-use Rattle.seq_sending.specs.Ways.{AreWaysTo}
-use Rattle.seq_sending.proofs.Agreeing.{through-removed, ways-count}
-use Rattle.seq_sending.proofs.Edged.{filter-one}
+use Rattle.seq_sending.proofs.Joined.{one-less, one-newer-less}
 use Rattle.seq_sending.proofs.table.Found.part.Goals as goal
+
+pub returns-then-place-known-clause-ways : goal.returns-then-place-known-clause-ways
+returns-then-place-known-clause-ways c known clients nodes at left are =
+    let a = c.args in
+    let told = ap length c.targets-targets.ensures in
+    let sum = c.in-Some.ensures.1 in
+    one-newer-less nodes (targets_of a.graph.now a.source.now) a.place a.target.now at left clients a.graph.now a.self.now _
+    (omega (arith, told, sum, c.len-known.ensures, c.if-nodes-targets.false)) are (omega (arith, c.len-known.ensures, c.if-place-known.true))
+    (omega (arith, sum, c.if-place-known.true, c.if-place-nodes.false)) refl
 
 pub returns-clause-ways : goal.returns-clause-ways
 returns-clause-ways c known clients nodes at left are =
     let a = c.args in
-    let g = a.graph.now in
-    let was = a.self.now in
-    let targets : List Addr = targets_of g a.source.now in
-    let f : Addr → Bool = λ x. not (same a.target.now x) in
-    let count = ways-count clients g nodes was.ways are.each in
     let told = ap length c.targets-targets.ensures in
-    let few = ap length left in
-    let its : filter f nodes ≡ remove nodes a.place =
-    filter-one f nodes a.place a.target.now at (ap not (same-refl a.target.now)) (omega (arith, count, told, few, c.len.ensures, c.if-len-targets.false)) in
-    let gone = through-removed (MayLeadThrough was.through) clients g nodes was.ways a.place are in
-    let rest : remove nodes a.place ≡ targets = sym its ∙ sym left in
-    let ways = c.remove.ensures ∙ ap (λ ws. remove ws a.place) c.look_again.ensures.ways in
-    record {
-      each = subst (λ ts. AreWaysTo clients g ts c.remove.new.self) rest (subst (AreWaysTo clients g (remove nodes a.place)) (sym ways) gone.each);
-      within =
-          subst (LeadWithin (MayLeadThrough c.look_again.new.self.through) g hops) c.targets-targets.ensures
-          (c.in-Some.ensures.through (subst (LeadWithin (MayLeadThrough was.through) g hops) (rest ∙ sym c.targets-targets.ensures) gone.within));
-    }
+    let sum = c.in-Some.ensures.1 in
+    one-less nodes (targets_of a.graph.now a.source.now) a.place a.target.now at left clients a.graph.now a.self.now c.take_out.new.self
+    (omega (arith, told, sum, c.len-known.ensures, c.if-nodes-targets.false)) are _
+    (ap (λ n. take (n - 1) c.targets-targets.result.now) c.len-known.ensures ∙ ap (take (length a.self.now.ways - 1)) c.targets-targets.ensures)
+    (omega (arith, c.len-known.ensures, c.if-place-known.false)) c.take_out.ensures.newer (c.take_out.ensures.ways known) (c.take_out.ensures.through known)

@@ -2,7 +2,7 @@ use Rattle.std.proofs.Common.{◌≡◌, ◌++◌, length, append-nil, sym, ap, 
 use Rattle.std.proofs.lemmas.Bool.{eqb-true}
 use Rattle.patch_graph.specs.Index.{targets_of}
 use Rattle.seq_state.specs.Step.{pools_after, copies_with_room}
-use Rattle.seq_sending.proofs.Agreeing.{ways-are}
+use Rattle.seq_sending.proofs.Known.{all-known}
 use Rattle.seq_sending.proofs.Onward.{none-to-nobody}
 use Rattle.seq_sending.proofs.table.WayTable.send_all.Goals as goal
 
@@ -26,7 +26,7 @@ returns-in_err-found-clause-kept c =
     let a = c.args in
     record {
       rows = c.requires.rows;
-      ways = c.take.ensures a.clients.now.clients a.graph.now a.self.now.changes c.requires.ways;
+      ways = c.take-known.ensures.left a.clients.now.clients a.graph.now a.self.now.changes c.requires.ways;
       counts = c.requires.counts;
     }
 
@@ -35,7 +35,7 @@ returns-in_err-send_each-clause-kept c =
     let a = c.args in
     record {
       rows = c.requires.rows;
-      ways = c.take.ensures a.clients.now.clients a.graph.now a.self.now.changes c.requires.ways;
+      ways = c.take-known.ensures.left a.clients.now.clients a.graph.now a.self.now.changes c.requires.ways;
       counts = c.send_each-2.ensures.counts;
     }
 
@@ -46,11 +46,17 @@ returns-clause-kept c =
     record {
       rows = c.requires.rows;
       ways = c.keep_ways.ensures r a.graph.now a.self.now.changes c.in_ok-found.ensures.ways (omega (arith, c.in_ok-found.ensures.at))
-          (c.take.ensures r a.graph.now a.self.now.changes c.requires.ways);
+          (c.take-known.ensures.left r a.graph.now a.self.now.changes c.requires.ways);
       counts = c.in_ok-send_each.ensures.counts;
     }
 
 pub send_each-requires-2-clause-ways : goal.send_each-requires-2-clause-ways
 send_each-requires-2-clause-ways c =
     let a = c.args in
-    ways-are a.clients.now.clients a.graph.now (targets_of a.graph.now a.source.now) c.in_ok-found.found.ways c.in_ok-found.ensures.ways.each
+    all-known a.clients.now.clients a.graph.now (targets_of a.graph.now a.source.now) c.in_ok-found.found c.in_ok-found.ensures.all c.in_ok-found.ensures.ways
+
+pub find-requires : goal.find-requires
+find-requires c found e current =
+    let a = c.args in
+    let at = c.place_of.ensures.place in
+    (c.take-known.ensures.taken a.clients.now.clients a.graph.now a.self.now.changes c.requires.ways found e).ways a.source.now at.0 at.1 current
