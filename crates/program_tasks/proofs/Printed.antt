@@ -1,26 +1,12 @@
 -- What is printed of a session.
 use Rattle.std.proofs.Common.{◌≡◌, ℕ, Bool, true, false, List, [], ◌∷◌, ◌++◌, ◌∙◌, map, drop, get_or, refl, sym, ap}
 use Rattle.std.specs.List.{flat_map}
-use Rattle.byte_io.specs.Memory.{MemOutput}
 use Rattle.seq_session.specs.declared.source.Script.{Script}
-use Rattle.seq_session.specs.Devices.{Wrote}
 use Rattle.seq_session.specs.Sessions.{FolderContents, log_of, all_logs, listing_after}
 use Rattle.program_tasks.specs.declared.words.ScriptWord.{ScriptWord}
 use Rattle.program_tasks.specs.LogsPrinted.{headed_log, logs_text, printed_text, listing_where}
 use Rattle.program_tasks.specs.Opened.{AreOfFiles}
 use Rattle.program_tasks.specs.Printed.{session_text}
-use Rattle.program_tasks.specs.Sessions.{AreEmpty}
-
--- empty logs have what was written to them
-pub logged : (olds news : List MemOutput) (texts : List (List ℕ)) → AreEmpty olds → Wrote (λ (s : MemOutput) (bytes : List ℕ). s.taken ≡ bytes) olds news texts → map (λ l. l.taken) news ≡ texts
-logged [] [] [] e w = refl
-logged [] [] (t ∷ texts) e w = absurd w
-logged [] (n ∷ news) [] e w = absurd w
-logged [] (n ∷ news) (t ∷ texts) e w = absurd w
-logged (o ∷ olds) [] [] e w = absurd w
-logged (o ∷ olds) [] (t ∷ texts) e w = absurd w
-logged (o ∷ olds) (n ∷ news) [] e w = absurd w
-logged (o ∷ olds) (n ∷ news) (t ∷ texts) e w = ap (λ x. x ∷ map (λ l. l.taken) news) (w.0 [] e.0) ∙ ap (λ xs. t ∷ xs) (logged olds news texts e.1 w.1)
 
 module _ {R : Type 0} (IsOpened : List ℕ → R → Type 0) (HasLeft : R → List ℕ → Type 0) where
   -- the logs below their clients' numbers

@@ -1,8 +1,8 @@
 -- Definition: What is printed of a session.
 use Rattle.std.specs.Prelude.{◌≡◌, ℕ, Bool, true, false, List, ◌++◌, map}
 use Rattle.std.specs.List.{flat_map}
-use Rattle.byte_io.specs.Memory.{MemOutput}
 use Rattle.byte_io.specs.Moved.{Took}
+use Rattle.seq_session.specs.declared.session_logs.SessionLogs.{SessionLogs}
 use Rattle.seq_session.specs.declared.source.Script.{Script}
 use Rattle.seq_session.specs.Sessions.{FolderContents, log_of, all_logs, listing_after}
 use Rattle.program_tasks.specs.declared.words.ScriptWord.{ScriptWord}
@@ -31,13 +31,13 @@ pub record IsSessionPrinted {R W : Type 0} (IsOpened : List ℕ → R → Type 0
   pub read : AreOfFiles IsOpened HasLeft words scripts
   pub took : Took HasTaken old (session_text folder end listed scripts) new
 
--- The scripts were read from the files that the words name, and each log, and the listing, has what
--- the session of just these says.
+-- The scripts were read from the files that the words name, and the logs and the listing are those
+-- of the session of just these.
 pub record IsSessionLogged {R : Type 0} (IsOpened : List ℕ → R → Type 0)
     (HasLeft : R → List ℕ → Type 0)
-    (folder : FolderContents) (end : ℕ) (words : List ScriptWord) (logs : List MemOutput)
-    (listing : MemOutput) : Type 0 where
+    (folder : FolderContents) (end : ℕ) (words : List ScriptWord) (made : SessionLogs)
+    : Type 0 where
   pub scripts : List Script
   pub read : AreOfFiles IsOpened HasLeft words scripts
-  pub logged : map (λ l. l.taken) logs ≡ all_logs folder end scripts
-  pub listing_is : listing.taken ≡ listing_after folder end scripts
+  pub logs : map (λ l. l.items) made.logs ≡ all_logs folder end scripts
+  pub listing : made.listing ≡ listing_after folder end scripts

@@ -8,7 +8,7 @@ ghost use Rattle.tool_text.specs.Faults.{blames_sink};
 ghost use Rattle.program_tasks.specs.LogsPrinted.{client_heading, headed_log, logs_text, printed_text, IsOfPrinting};
 
 use crate::words::ScriptWord;
-use byte_io::{MemSink, Sink};
+use byte_io::Sink;
 use memory::OutOfMemory;
 use node_table::ClientId;
 use std::alloc::Global;
@@ -99,17 +99,6 @@ fn push_client(line: &mut Vec<u8>, client: ClientId) -> Result<(), OutOfMemory>
     push_decimal(line, u64::from(client.number()))?;
     line.push(b'\n')?;
     Ok(())
-}
-
-/// What each log has taken.
-pub(crate) fn taken_of<'l>(alloc: Global, logs: &'l [MemSink]) -> Result<Vec<&'l [u8]>, OutOfMemory>
-    ensures { IfOk result (λ v. map (λ t. t.now) v.items ≡ map (λ l. l.taken) logs.now) }
-{
-    let mut texts = Vec::new(alloc);
-    for log in logs {
-        texts.push(log.bytes())?;
-    }
-    Ok(texts)
 }
 
 /// The bytes of each text.

@@ -5,17 +5,17 @@ ghost use Rattle.byte_io.specs.Moved.{Took};
 ghost use Rattle.seq_session.specs.Rising.{AreRising};
 ghost use Rattle.program_tasks.specs.Faults.{IsOfMemory, IsOfScripts, IsOfOutput, IsStuck};
 ghost use Rattle.program_tasks.specs.LogsPrinted.{listing_where, printed_text};
-ghost use Rattle.program_tasks.specs.Printed.{IsSessionPrinted, IsSessionLogged};
-ghost use Rattle.program_tasks.specs.Sessions.{owners, MayBeRun};
+ghost use Rattle.program_tasks.specs.Printed.{IsSessionPrinted};
+ghost use Rattle.program_tasks.specs.Sessions.{owners};
 
 use crate::choice::STANDARD;
-use crate::logs::{print_logs, taken_of};
+use crate::logs::{print_logs, slices_of};
 use crate::program_fault::ProgramFault;
+use crate::running::log_session;
 use crate::session::Session;
-use agenda_heap::HeapAgenda;
-use byte_io::{MemSink, Sink};
+use byte_io::Sink;
 use file_store::FileStore;
-use seq_session::{NamedFiles, run_sessions};
+use seq_session::NamedFiles;
 use std::alloc::Global;
 use tool_text::ToolFault;
 
@@ -38,19 +38,10 @@ pub fn print_session<'a, S: FileStore, W: Sink>(
         session.now.scripts.items e
         ⊎ IsOfOutput (IsStuck W.failed W.takes_some out.old out.new) e) }
 {
-    let mut all = session.logs(alloc)?;
-    let logs = all.as_mut_slice();
-    let mut listing = MemSink::new(alloc, 0)?;
-    run(alloc, store, session, files, logs, &mut listing)?;
-    let texts = taken_of(alloc, logs)?;
-    print_texts(
-        alloc,
-        session,
-        texts.as_slice(),
-        listing.bytes(),
-        listed,
-        out,
-    )
+    let made = log_session(alloc, store, session, files)?;
+    let logs = slices_of(alloc, made.logs.as_slice())?;
+    let listing = made.listing.as_slice();
+    print_texts(alloc, session, logs.as_slice(), listing, listed, out)
 }
 
 /// Prints the log of each script's client, and the listing where `listed` says so.
@@ -73,37 +64,5 @@ pub(crate) fn print_texts<'a, W: Sink>(
         Ok(()) => Ok(()),
         Err(ToolFault::OutOfMemory) => Err(ProgramFault::OutOfMemory),
         Err(_) => Err(ProgramFault::CannotWrite(STANDARD)),
-    }
-}
-
-/// Runs the scripts into logs and a listing.
-fn run<'a, S: FileStore>(
-    alloc: Global,
-    store: &S,
-    session: &Session<'a>,
-    files: &NamedFiles<'_, '_>,
-    logs: &mut [MemSink],
-    listing: &mut MemSink,
-) -> Result<(), ProgramFault<'a>>
-    requires { MayBeRun session.now.scripts.items logs.old listing.old }
-    ensures logged { OnOk result (IsSessionLogged S.IsOpened S.Reader.HasLeft
-        files.now session.now.until session.now.scripts.items logs.new listing.new) }
-    ensures fault { IfErr result (IsOfScripts S.IsOpened S.Reader.HasLeft S.CannotOpen
-        S.Reader.failed session.now.scripts.items) }
-{
-    let mut sources = session.open(alloc, store)?;
-    let agenda = HeapAgenda::new(alloc);
-    let until = session.until;
-    match run_sessions(
-        alloc,
-        sources.as_mut_slice(),
-        files,
-        agenda,
-        until,
-        logs,
-        listing,
-    ) {
-        Ok(()) => Ok(()),
-        Err(fault) => Err(session.fault_of(fault)),
     }
 }

@@ -1,19 +1,18 @@
 //! The scripts of a session, their logs and the faults of both.
 
-ghost use Rattle.std.specs.Prelude.{◌≡◌, Some, None, length, map, IfOk, IfErr, IfSome, IsSome};
+ghost use Rattle.std.specs.Prelude.{◌≡◌, Some, None, map, IfOk, IfErr, IfSome, IsSome};
 ghost use Rattle.seq_session.specs.Rising.{AreRising};
-ghost use Rattle.seq_session.specs.Devices.{clients, AreSound, AreOpen, reader_of, IsAmong};
+ghost use Rattle.seq_session.specs.Devices.{clients, AreSound, reader_of, IsAmong};
 ghost use Rattle.program_tasks.specs.Words.{scripts_named, scripts_seen, IsOfWords};
 ghost use Rattle.program_tasks.specs.Explained.{path_for};
-ghost use Rattle.program_tasks.specs.Faults.{IsOfMemory, IsOfOpening};
+ghost use Rattle.program_tasks.specs.Faults.{IsOfOpening};
 ghost use Rattle.program_tasks.specs.Opened.{AreSourcesOf};
-ghost use Rattle.program_tasks.specs.Sessions.{owners, AreEmpty, IsToldAs};
+ghost use Rattle.program_tasks.specs.Sessions.{owners, IsToldAs};
 ghost use Rattle.program_tasks.specs.Times.{end_said, IsNoEnd};
 
 use crate::end_word::EndWord;
 use crate::program_fault::ProgramFault;
 use crate::words::{ScriptWord, scripts_named};
-use byte_io::MemSink;
 use file_store::FileStore;
 use node_table::ClientId;
 use seq_session::{ScriptSource, SessionFault};
@@ -91,21 +90,7 @@ impl<'a> Session<'a> {
         ""
     }
 
-    /// A log in memory for each script.
-    pub fn logs(&self, alloc: Global) -> Result<Vec<MemSink>, ProgramFault<'a>>
-        ensures as_many { IfOk result (λ v. length v.items ≡ length self.now.scripts.items) }
-        ensures open { IfOk result (λ v. AreOpen (λ l. l.broken) v.items) }
-        ensures empty { IfOk result (λ v. AreEmpty v.items) }
-        ensures fault { IfErr result IsOfMemory }
-    {
-        let mut logs = Vec::new(alloc);
-        for _script in &self.scripts {
-            logs.push(MemSink::new(alloc, 0)?)?;
-        }
-        Ok(logs)
-    }
-
-    /// A log is kept in memory, so that its fault is out of memory.
+    /// Before anything is written a session stops where a script cannot be read, or for lack of memory.
     pub fn fault_of(&self, fault: SessionFault) -> ProgramFault<'a>
         requires { IfSome (reader_of fault) (λ k. IsAmong k (owners self.now.scripts.items)) }
         ensures { IsToldAs self.now.scripts.items fault result }

@@ -3,3 +3,4 @@ pub mod Lasting
 pub mod Heard
 pub mod Idle
 pub mod Lost
+pub mod Ending

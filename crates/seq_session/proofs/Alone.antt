@@ -9,6 +9,7 @@ use Rattle.seq_state.specs.Step.{plain, state_after}
 use Rattle.seq_engine.specs.Ending.{listing_of}
 use Rattle.seq_engine.specs.Losses.{losses}
 use Rattle.byte_io.specs.Moved.{Took, TookPart}
+use Rattle.script_text.specs.declared.reading.ScriptRead.{ScriptRead}
 use Rattle.script_text.proofs.Read.{script-client}
 use Rattle.seq_session.specs.declared.fault.SessionFault.{SessionFault}
 use Rattle.seq_session.specs.declared.fault.SessionFault.TheVariants.{OutOfMemory, Read, Write, WriteListing}
@@ -17,11 +18,11 @@ use Rattle.seq_session.specs.declared.session_run.SessionRun.{SessionRun}
 use Rattle.seq_session.specs.declared.source.Script.{Script}
 use Rattle.seq_session.specs.declared.source.ScriptSource.{ScriptSource}
 use Rattle.seq_session.specs.Rising.{RiseFrom, AreRising}
-use Rattle.seq_session.specs.Merging.{merge_of}
+use Rattle.seq_session.specs.Merging.{lines_of, merge_of}
 use Rattle.seq_session.specs.Logs.{log_text}
-use Rattle.seq_session.specs.AllLogs.{clients_read}
-use Rattle.seq_session.specs.Sessions.{FolderContents, script_reading, happens, log_of, all_logs, listing_after, script_clients, script_for}
-use Rattle.seq_session.specs.Devices.{clients, AreRead, AreOpen, Wrote, AreAlone, IsSession, IsRunOf, log_of_fault, IsReading, LogsTell}
+use Rattle.seq_session.specs.AllLogs.{clients_read, logs_of}
+use Rattle.seq_session.specs.Sessions.{FolderContents, script_reading, session, happens, log_of, all_logs, listing_after, script_clients, script_for}
+use Rattle.seq_session.specs.Devices.{clients, AreRead, AreOpen, Wrote, AreTextsAlone, AreAlone, IsSession, IsRunOf, log_of_fault, IsReading, LogsTell}
 use Rattle.seq_session.proofs.Blamed.{none_told}
 use Rattle.seq_session.proofs.Isolated.{log_law}
 
@@ -37,6 +38,14 @@ each_text : (folder : FolderContents) (end : ℕ) (lines : List ℕ) (entries : 
     map (λ r. log_text r lines entries) (map (script_reading folder end) scripts) ≡ map (λ s. log_text (script_reading folder end s) lines entries) scripts
 each_text folder end lines entries [] = refl
 each_text folder end lines entries (s ∷ scripts) = ap (λ ts. log_text (script_reading folder end s) lines entries ∷ ts) (each_text folder end lines entries scripts)
+
+-- the logs of what was merged are those of the scripts
+pub logs_merged : (folder : FolderContents) (end : ℕ) (scripts : List Script) (reads : List ScriptRead) (merged : Merged) → reads ≡ map (script_reading folder end) scripts → merged ≡ merge_of (map (script_reading folder end) scripts) →
+    logs_of reads merged.lines (plain folder.files merged.inputs end) ≡ all_logs folder end scripts
+logs_merged folder end scripts reads merged r m =
+    ap (λ rs. logs_of rs merged.lines (plain folder.files merged.inputs end)) r
+    ∙ ap (λ (n : Merged). logs_of (map (script_reading folder end) scripts) n.lines (plain folder.files n.inputs end)) m
+    ∙ each_text folder end (lines_of (session folder end scripts)) (happens folder end scripts) scripts
 
 pub logs_made : (folder : FolderContents) (end : ℕ) (scripts : List Script) (run : SessionRun) → IsRunOf folder end scripts run →
     map (λ r. log_text r run.merged.lines run.log.entries) run.reads ≡ all_logs folder end scripts
@@ -79,6 +88,14 @@ own_scripts : (scripts : List Script) → AreRising (script_clients scripts) →
 own_scripts [] r = tt
 own_scripts (s ∷ scripts) r =
     (ap (λ b. cond b (Some s) (script_for s.client scripts)) (eq-eqb s.client s.client refl), later_scripts s s.client scripts scripts (omega arith) r (own_from s.client scripts r))
+
+module _ (folder : FolderContents) (end : ℕ) (scripts : List Script) (rise : AreRising (script_clients scripts)) where
+  texts_alone : (owners : List Script) → AllByRecursion (λ x. script_for x.client scripts ≡ Some x) owners → AreTextsAlone folder end scripts owners (map (log_of folder end scripts) owners)
+  texts_alone [] own = tt
+  texts_alone (s ∷ owners) own = (λ member closed. log_law folder end s member scripts rise own.0 closed, texts_alone owners own.1)
+
+  pub all_texts_alone : (texts : List (List ℕ)) → texts ≡ all_logs folder end scripts → AreTextsAlone folder end scripts scripts texts
+  all_texts_alone texts same = subst (AreTextsAlone folder end scripts scripts) (sym same) (texts_alone scripts (own_scripts scripts rise))
 
 module _ {W : Type 0} (folder : FolderContents) (end : ℕ) (HasTaken : W → List ℕ → Type 0) (scripts : List Script) (rise : AreRising (script_clients scripts)) where
   each_alone : (owners : List Script) (olds news : List W) → AllByRecursion (λ x. script_for x.client scripts ≡ Some x) owners → Wrote HasTaken olds news (map (log_of folder end scripts) owners) → AreAlone folder end HasTaken scripts owners olds news

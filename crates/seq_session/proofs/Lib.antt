@@ -3,9 +3,12 @@ pub mod Texts
 pub mod Blanking
 pub mod Isolated
 pub mod Seats
+pub mod SoFar
+pub mod Turns
 pub mod Joining
 pub mod Blamed
 pub mod Alone
+pub mod Streamed
 pub mod Ports
 pub mod Later
 pub mod Wrong

@@ -1,15 +1,17 @@
 -- The logs of all clients, entry by entry.
-use Rattle.std.proofs.Common.{◌≡◌, ℕ, zero, suc, ◌+◌, ◌≤◌, ◌<◌, Bool, true, false, not, cond, eqb, List, [], ◌∷◌, ◌++◌, map, length, take, get_or, slice_set, Some, None, refl, sym, ap, ◌∙◌, arith, append-nil, append_assoc}
+use Rattle.std.proofs.Common.{◌≡◌, ℕ, zero, suc, ◌+◌, ◌≤◌, ◌<◌, Bool, true, false, not, cond, eqb, List, [], ◌∷◌, ◌++◌, map, length, take, get_or, slice_set, Some, None, refl, sym, ap, subst, ◌∙◌, arith, append-nil, append_assoc}
 use Rattle.std.specs.Prelude.{slice_get}
 use Rattle.std.specs.List.{position_or_len}
 use Rattle.std.proofs.lemmas.Bool.{eqb-true, eq-eqb, ne_eqb, true≢false, false≢true}
-use Rattle.std.proofs.lemmas.List.{take_more}
+use Rattle.std.proofs.lemmas.List.{take_more, map-append}
+use Rattle.seq_state.specs.declared.log.Delivery.{Delivery}
 use Rattle.seq_state.specs.declared.log.LogEntry.{LogEntry}
 use Rattle.seq_state.specs.declared.log.LogEntry.TheVariants.{Delivered, Replied}
+use Rattle.seq_state.specs.declared.log.Reply.{Reply}
 use Rattle.seq_state.proofs.Lists.{flat_map-append}
 use Rattle.script_text.specs.declared.reading.ScriptRead.{ScriptRead}
 use Rattle.seq_session.specs.Rising.{RiseFrom, AreRising}
-use Rattle.seq_session.specs.AllLogs.{clients_read, hearer, with_text}
+use Rattle.seq_session.specs.AllLogs.{clients_read, hearer, logs_of, TellMore, with_text}
 use Rattle.seq_session.specs.Logs.{entry_text, entries_text, log_text, skips_text, delivery_line, reply_text}
 
 -- ---- one text of several
@@ -103,15 +105,51 @@ not_heard : (lines : List ℕ) (e : LogEntry) (c : ℕ) → eqb (hearer e) c ≡
 not_heard lines (Delivered d) c h = ap (λ b. cond b (delivery_line d) []) h
 not_heard lines (Replied place moment client reply) c h = ap (λ b. cond b (reply_text moment (slice_get lines place) reply) []) h
 
-log_more : (lines : List ℕ) (entries : List LogEntry) (i : ℕ) (e : LogEntry) → i < length entries → e ≡ get_or entries i e → (r : ScriptRead) → log_text r lines (take (i + 1) entries) ≡ log_text r lines (take i entries) ++ entry_text r.client lines e
-log_more lines entries i e l h r =
-    ap (log_text r lines) (take_more entries i e l ∙ ap (λ x. take i entries ++ x ∷ []) (sym h))
-    ∙ ap (λ t. skips_text r.skips ++ t) (flat_map-append (entry_text r.client lines) (take i entries) (e ∷ []) ∙ ap (λ t. entries_text r.client lines (take i entries) ++ t) (append-nil (entry_text r.client lines e)))
-    ∙ sym (append_assoc (skips_text r.skips) (entries_text r.client lines (take i entries)) (entry_text r.client lines e))
+log_more : (lines : List ℕ) (entries : List LogEntry) (e : LogEntry) (r : ScriptRead) → log_text r lines (entries ++ e ∷ []) ≡ log_text r lines entries ++ entry_text r.client lines e
+log_more lines entries e r =
+    ap (λ t. skips_text r.skips ++ t) (flat_map-append (entry_text r.client lines) entries (e ∷ []) ∙ ap (λ t. entries_text r.client lines entries ++ t) (append-nil (entry_text r.client lines e)))
+    ∙ sym (append_assoc (skips_text r.skips) (entries_text r.client lines entries) (entry_text r.client lines e))
 
-pub one_entry : (lines : List ℕ) (entries : List LogEntry) (i : ℕ) (e : LogEntry) (reads : List ScriptRead) (old new : List (List ℕ)) (seat h : ℕ) → i < length entries → e ≡ get_or entries i e → AreRising (clients_read reads) → h ≡ hearer e →
-    seat ≡ position_or_len (λ r. eqb r.client h) reads → old ≡ map (λ r. log_text r lines (take i entries)) reads → new ≡ with_text old seat (entry_text h lines e) → new ≡ map (λ r. log_text r lines (take (i + 1) entries)) reads
-one_entry lines entries i e reads old new seat h l at rise hear s o n =
-    n ∙ ap (λ ts. with_text ts seat (entry_text h lines e)) o
-    ∙ ap (λ k. with_text (map (λ r. log_text r lines (take i entries)) reads) k (entry_text h lines e)) s
-    ∙ seat_more (λ r. log_text r lines (take i entries)) (λ r. log_text r lines (take (i + 1) entries)) (λ c. entry_text c lines e) h (log_more lines entries i e l at) (λ c k. not_heard lines e c (ap (λ x. eqb x c) (sym hear) ∙ k)) reads rise
+pub heard_more : (reads : List ScriptRead) (lines : List ℕ) (e : LogEntry) (olds news : List (List ℕ)) (seat : ℕ) (more : List ℕ) → AreRising (clients_read reads) → seat ≡ position_or_len (λ r. eqb r.client (hearer e)) reads →
+    entry_text (hearer e) lines e ≡ more → news ≡ with_text olds seat more → TellMore reads lines (e ∷ []) olds news
+heard_more reads lines e olds news seat more rise s m n = λ entries o.
+    n ∙ ap (λ ts. with_text ts seat more) o
+    ∙ ap (λ k. with_text (logs_of reads lines entries) k more) s
+    ∙ ap (with_text (logs_of reads lines entries) (position_or_len (λ r. eqb r.client (hearer e)) reads)) (sym m)
+    ∙ seat_more (λ r. log_text r lines entries) (λ r. log_text r lines (entries ++ e ∷ [])) (λ c. entry_text c lines e) (hearer e) (log_more lines entries e) (not_heard lines e) reads rise
+
+-- what a client hears of is told to it
+pub delivery_heard : (lines : List ℕ) (d : Delivery) → entry_text d.target.client lines (Delivered d) ≡ delivery_line d
+delivery_heard lines d = ap (λ b. cond b (delivery_line d) []) (eq-eqb d.target.client d.target.client refl)
+
+pub reply_heard : (lines : List ℕ) (place moment client : ℕ) (reply : Reply) → entry_text client lines (Replied place moment client reply) ≡ reply_text moment (slice_get lines place) reply
+reply_heard lines place moment client reply = ap (λ b. cond b (reply_text moment (slice_get lines place) reply) []) (eq-eqb client client refl)
+
+-- ---- several entries more
+
+-- where nothing happens, the logs are the skipped lines
+pub no_entries : (reads : List ScriptRead) (lines : List ℕ) → map (λ r. skips_text r.skips) reads ≡ logs_of reads lines []
+no_entries [] lines = refl
+no_entries (r ∷ reads) lines =
+    ap (λ t. t ∷ map (λ r. skips_text r.skips) reads) (sym (append-nil (skips_text r.skips))) ∙ ap (λ ts. log_text r lines [] ∷ ts) (no_entries reads lines)
+
+module _ (reads : List ScriptRead) (lines : List ℕ) where
+  pub tell_none : (texts : List (List ℕ)) → TellMore reads lines [] texts texts
+  tell_none texts = λ entries o. o ∙ ap (logs_of reads lines) (sym (append-nil entries))
+
+  pub tell_both : (first second : List LogEntry) (olds mids news : List (List ℕ)) → TellMore reads lines first olds mids → TellMore reads lines second mids news → TellMore reads lines (first ++ second) olds news
+  tell_both first second olds mids news f s = λ entries o. s (entries ++ first) (f entries o) ∙ ap (logs_of reads lines) (append_assoc entries first second)
+
+  -- an entry more of a list
+  pub tell_next : (entries : List LogEntry) (i : ℕ) (e : LogEntry) (olds news : List (List ℕ)) → i < length entries → e ≡ get_or entries i e →
+      olds ≡ logs_of reads lines (take i entries) → TellMore reads lines (e ∷ []) olds news → news ≡ logs_of reads lines (take (i + 1) entries)
+  tell_next entries i e olds news l at o more =
+      more (take i entries) o ∙ ap (logs_of reads lines) (sym (take_more entries i e l ∙ ap (λ x. take i entries ++ x ∷ []) (sym at)))
+
+  -- a delivery more
+  pub tell_next_delivery : (ds : List Delivery) (i : ℕ) (d : Delivery) (olds mids news : List (List ℕ)) → i < length ds → d ≡ get_or ds i d →
+      TellMore reads lines (map Delivered (take i ds)) olds mids → TellMore reads lines (Delivered d ∷ []) mids news → TellMore reads lines (map Delivered (take (i + 1) ds)) olds news
+  tell_next_delivery ds i d olds mids news l at f s =
+      subst (λ es. TellMore reads lines es olds news)
+      (sym (ap (map Delivered) (take_more ds i d l ∙ ap (λ x. take i ds ++ x ∷ []) (sym at)) ∙ map-append Delivered (take i ds) (d ∷ [])))
+      (tell_both (map Delivered (take i ds)) (Delivered d ∷ []) olds mids news f s)

@@ -9,6 +9,7 @@ pub mod Slips
 pub mod Sessions
 pub mod Blank
 pub mod Devices
+pub mod Streams
 pub mod Laws
 pub mod Rows
 pub mod Faults

@@ -1,7 +1,8 @@
 //! Sessions: the scripts of many clients, merged and run together, and the log of each.
 //!
-//! `run_sessions` goes from the bytes of scripts to the bytes of logs. Its contract says what each log gains, and that
-//! a log tells within a closed circle of clients what it tells in the session of the circle's scripts alone.
+//! `log_sessions` goes from the bytes of scripts to the texts of logs, and `run_sessions` writes these. Their contracts
+//! say what each log tells, and that it tells within a closed circle of clients what it tells in the session of the
+//! circle's scripts alone.
 #![tactic(auto)]
 
 mod about;
@@ -12,6 +13,7 @@ mod join;
 mod laws;
 mod lines;
 mod log;
+mod logging;
 mod made_caps;
 mod made_ports;
 mod merged;
@@ -22,11 +24,13 @@ mod naming;
 mod parse;
 mod reading;
 mod rows;
+mod session_logs;
 mod session_run;
 mod sessions;
 mod slip;
 mod slips;
 mod source;
+mod streaming;
 mod writing;
 
 pub use about::{About, Capability};
@@ -40,7 +44,8 @@ pub use named_files::NamedFiles;
 pub use parse::parse_script;
 pub use rows::worked_logs;
 pub use script_text::{MOST_FILES, MOST_SCRIPT, ScriptInput, ScriptRead, Skip, SkipReason};
+pub use session_logs::SessionLogs;
 pub use session_run::SessionRun;
-pub use sessions::{run_scripts, run_sessions};
+pub use sessions::{log_sessions, run_scripts, run_sessions, stream_sessions};
 pub use slip::{Slip, SlipOnLine};
 pub use source::{Script, ScriptSource, clients_rise, logs_are_open, readers_are_sound};

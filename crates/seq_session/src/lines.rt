@@ -1,6 +1,6 @@
 //! The lines of logs.
 
-ghost use Rattle.std.specs.Prelude.{◌≡◌, ◌++◌, Some, OnOk, codes};
+ghost use Rattle.std.specs.Prelude.{◌≡◌, ◌++◌, Some, OnOk, codes, slice_get};
 ghost use Rattle.std.specs.Fmt.{decimal};
 ghost use Rattle.std.specs.List.{flat_map};
 ghost use Rattle.script_text.specs.Reasons.{reason_text};
@@ -200,7 +200,7 @@ fn name_numbered(number: u8) -> &'static [u8]
 }
 
 /// Adds a reply to the input of a line.
-pub(crate) fn push_reply(
+fn push_reply(
     text: &mut Vec<u8>,
     scratch: &mut Scratch,
     moment: u64,
@@ -213,6 +213,24 @@ pub(crate) fn push_reply(
     scratch.moment.push(text, moment)?;
     push_word_and_number(text, b" line ", line)?;
     push_outcome(text, scratch, reply)
+}
+
+/// Adds a reply to the input at a place, if that has a line.
+pub(crate) fn push_reply_at(
+    text: &mut Vec<u8>,
+    scratch: &mut Scratch,
+    lines: &[u64],
+    place: u64,
+    moment: u64,
+    reply: &Reply,
+) -> Result<(), OutOfMemory>
+    ensures { OnOk result (text.new.items
+        ≡ text.old.items ++ reply_text moment (slice_get lines.now place) reply.now) }
+{
+    let Some(line) = lines.get(place as usize) else {
+        return Ok(());
+    };
+    push_reply(text, scratch, moment, *line, reply)
 }
 
 /// Adds what an entry of a run says to a client.
@@ -241,10 +259,7 @@ pub(crate) fn push_entry(
             if *actor != client {
                 return Ok(());
             }
-            let Some(line) = lines.get(*index as usize) else {
-                return Ok(());
-            };
-            push_reply(text, scratch, *moment, *line, reply)?;
+            push_reply_at(text, scratch, lines, *index, *moment, reply)?;
         }
     }
     Ok(())

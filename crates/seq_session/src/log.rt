@@ -1,19 +1,19 @@
 //! The logs of a run: of one client, and of all in one pass.
 
-ghost use Rattle.std.specs.Prelude.{◌≡◌, ◌==◌, ◌<◌, ◌≤◌, ◌+◌, ℕ, count_by, IfOk, OnOk, map, length, get_or, ◌++◌};
+ghost use Rattle.std.specs.Prelude.{◌≡◌, ◌==◌, ◌<◌, ◌≤◌, ◌+◌, ℕ, [], ◌∷◌, count_by, IfOk, OnOk, map, length, get_or, ◌++◌};
 ghost use Rattle.std.specs.List.{position_or_len};
 ghost use Rattle.node_table.specs.Numbers.{first_client, most_clients};
 ghost use Rattle.seq_session.specs.Rising.{AreRising};
-ghost use Rattle.seq_session.specs.AllLogs.{clients_read, hearer, with_text};
-ghost use Rattle.seq_session.specs.Logs.{log_text, skips_text, entry_text, entries_text};
+ghost use Rattle.seq_session.specs.AllLogs.{clients_read, hearer, AreSeats, logs_of, TellMore, AreRising-prop};
+ghost use Rattle.seq_session.specs.Logs.{log_text, skips_text, entries_text};
 
-use crate::lines::{Scratch, push_entry, push_skips};
+use crate::lines::{Scratch, push_delivery, push_entry, push_reply_at, push_skips};
 use crate::merged::Merged;
 use memory::OutOfMemory;
 use node_table::{ClientId, FIRST_CLIENT, MOST_CLIENTS, row_of};
 use script_text::ScriptRead;
-use seq_engine::RunLog;
-use seq_state::LogEntry;
+use seq_engine::{RunLog, StepOut};
+use seq_state::{Delivery, Input, LogEntry, Reply};
 use std::alloc::Global;
 
 /// Most lines are no longer. A text gets room for as many, so that it is seldom moved as it grows.
@@ -70,18 +70,11 @@ pub fn log_texts(
     ensures { IfOk result (λ ts. map (λ t. t.items) ts.items
         ≡ map (λ r. log_text r merged.now.lines log.now.entries) reads.now) }
 {
-    let seats = seats_of(reads);
     let heard = entries_heard(log.entries.as_slice());
     let mut texts = started(alloc, reads, &heard)?;
     let mut scratch = Scratch::new(alloc);
-    push_all(
-        &seats,
-        reads,
-        &mut texts,
-        &mut scratch,
-        merged.lines.as_slice(),
-        log.entries.as_slice(),
-    )?;
+    let seating = Seating::new(reads, merged.lines.as_slice());
+    push_all(&seating, &mut texts, &mut scratch, log.entries.as_slice())?;
     Ok(texts)
 }
 
@@ -98,7 +91,7 @@ fn entries_heard(entries: &[LogEntry]) -> [usize; MOST_CLIENTS]
 }
 
 /// Each client's log with its skipped lines, and room for the entries that it hears of.
-fn started(
+pub(crate) fn started(
     alloc: Global,
     reads: &[ScriptRead],
     heard: &[usize; MOST_CLIENTS],
@@ -140,8 +133,7 @@ fn seat_of(reads: &[ScriptRead], client: u8) -> usize
 
 /// Where each client's script stands, by `row_of`.
 fn seats_of(reads: &[ScriptRead]) -> [usize; MOST_CLIENTS]
-    ensures { (k : ℕ) → k < most_clients →
-        get_or result k 0 ≡ position_or_len (λ r. r.client == (first_client + k)) reads.now }
+    ensures { AreSeats reads.now result }
 {
     let mut seats = [0usize; MOST_CLIENTS];
     for k in 0..MOST_CLIENTS {
@@ -150,46 +142,143 @@ fn seats_of(reads: &[ScriptRead]) -> [usize; MOST_CLIENTS]
     seats
 }
 
+/// In which log a client's lines stand, and the line of each input.
+#[derive(Drop)]
+pub(crate) struct Seating<'r> {
+    reads: &'r [ScriptRead],
+    lines: &'r [u64],
+    /// Where each client's script stands, by `row_of`; past the last where it has none.
+    seats: [usize; MOST_CLIENTS],
+    ghost rising: { AreRising (clients_read reads.now) } by { AreRising-prop (clients_read reads.now) },
+    ghost seated: { AreSeats reads.now seats },
+}
+
+impl<'r> Seating<'r> {
+    pub(crate) fn new(reads: &'r [ScriptRead], lines: &'r [u64]) -> Seating<'r>
+        requires { AreRising (clients_read reads.now) }
+        ensures reads { result.reads.now ≡ reads.now }
+        ensures lines { result.lines.now ≡ lines.now }
+    {
+        let seats = seats_of(reads);
+        Seating {
+            reads,
+            lines,
+            seats,
+        }
+    }
+}
+
 /// Adds each entry to the log of the client that hears of it.
 fn push_all(
-    seats: &[usize; MOST_CLIENTS],
-    reads: &[ScriptRead],
+    seating: &Seating<'_>,
     texts: &mut Vec<Vec<u8>>,
     scratch: &mut Scratch,
-    lines: &[u64],
     entries: &[LogEntry],
 ) -> Result<(), OutOfMemory>
-    requires rising { AreRising (clients_read reads.now) }
-    requires seats { (k : ℕ) → k < most_clients →
-        get_or seats.now k 0 ≡ position_or_len (λ r. r.client == (first_client + k)) reads.now }
     requires started { map (λ t. t.items) texts.old.items
-        ≡ map (λ r. skips_text r.skips) reads.now }
+        ≡ map (λ r. skips_text r.skips) seating.now.reads.now }
     ensures { OnOk result (map (λ t. t.items) texts.new.items
-        ≡ map (λ r. log_text r lines.now entries.now) reads.now) }
+        ≡ logs_of seating.now.reads.now seating.now.lines.now entries.now) }
 {
     for entry in entries {
-        let client = hearer(entry);
-        let seat = seats[row_of(client)];
-        push_at(texts, seat, scratch, client, lines, entry)?;
+        push_heard(seating, texts, scratch, entry)?;
     }
     Ok(())
 }
 
-/// Adds an entry to one of the logs, if there is one at the seat.
-fn push_at(
+/// Adds an entry to the log of the client that hears of it.
+fn push_heard(
+    seating: &Seating<'_>,
     texts: &mut Vec<Vec<u8>>,
-    seat: usize,
     scratch: &mut Scratch,
-    client: ClientId,
-    lines: &[u64],
     entry: &LogEntry,
 ) -> Result<(), OutOfMemory>
-    ensures { OnOk result (map (λ t. t.items) texts.new.items
-        ≡ with_text (map (λ t. t.items) texts.old.items) seat
-        (entry_text client lines.now entry.now)) }
+    ensures { OnOk result (TellMore seating.now.reads.now seating.now.lines.now (entry.now ∷ [])
+        (map (λ t. t.items) texts.old.items) (map (λ t. t.items) texts.new.items)) }
 {
+    match entry {
+        LogEntry::Delivered(delivery) => push_delivered(seating, texts, scratch, delivery),
+        LogEntry::Replied {
+            index,
+            moment,
+            client,
+            reply,
+        } => push_replied(seating, texts, scratch, *index, *moment, *client, reply),
+    }
+}
+
+/// Adds a delivery to the log of the client to whose port it came, if it has one.
+fn push_delivered(
+    seating: &Seating<'_>,
+    texts: &mut Vec<Vec<u8>>,
+    scratch: &mut Scratch,
+    delivery: &Delivery,
+) -> Result<(), OutOfMemory>
+    ensures { OnOk result (TellMore seating.now.reads.now seating.now.lines.now
+        (LogEntry.Delivered delivery.now ∷ [])
+        (map (λ t. t.items) texts.old.items) (map (λ t. t.items) texts.new.items)) }
+{
+    let seat = seating.seats[row_of(delivery.target.client)];
     if let Some(text) = texts.get_mut(seat) {
-        push_entry(text, scratch, client, lines, entry)?;
+        push_delivery(text, scratch, delivery)?;
+    }
+    Ok(())
+}
+
+/// Adds the reply to the input at a place to the log of the client that it is told, if it has one.
+fn push_replied(
+    seating: &Seating<'_>,
+    texts: &mut Vec<Vec<u8>>,
+    scratch: &mut Scratch,
+    place: u64,
+    moment: u64,
+    client: ClientId,
+    reply: &Reply,
+) -> Result<(), OutOfMemory>
+    ensures { OnOk result (TellMore seating.now.reads.now seating.now.lines.now
+        (LogEntry.Replied place moment client reply.now ∷ [])
+        (map (λ t. t.items) texts.old.items) (map (λ t. t.items) texts.new.items)) }
+{
+    let seat = seating.seats[row_of(client)];
+    if let Some(text) = texts.get_mut(seat) {
+        push_reply_at(text, scratch, seating.lines, place, moment, reply)?;
+    }
+    Ok(())
+}
+
+/// Adds what one input gave: what was delivered, and then the reply.
+pub(crate) fn push_out(
+    seating: &Seating<'_>,
+    texts: &mut Vec<Vec<u8>>,
+    scratch: &mut Scratch,
+    index: u64,
+    input: &Input,
+    out: &StepOut,
+) -> Result<(), OutOfMemory>
+    ensures { OnOk result (TellMore seating.now.reads.now seating.now.lines.now
+        (map (λ d. LogEntry.Delivered d) out.now.delivered
+        ++ LogEntry.Replied index input.now.moment input.now.actor out.now.reply ∷ [])
+        (map (λ t. t.items) texts.old.items) (map (λ t. t.items) texts.new.items)) }
+{
+    let client = input.actor;
+    let moment = input.moment;
+    push_all_delivered(seating, texts, scratch, out.delivered.as_slice())?;
+    push_replied(seating, texts, scratch, index, moment, client, &out.reply)
+}
+
+/// Adds each delivery to the log of the client to whose port it came.
+pub(crate) fn push_all_delivered(
+    seating: &Seating<'_>,
+    texts: &mut Vec<Vec<u8>>,
+    scratch: &mut Scratch,
+    delivered: &[Delivery],
+) -> Result<(), OutOfMemory>
+    ensures { OnOk result (TellMore seating.now.reads.now seating.now.lines.now
+        (map (λ d. LogEntry.Delivered d) delivered.now)
+        (map (λ t. t.items) texts.old.items) (map (λ t. t.items) texts.new.items)) }
+{
+    for delivery in delivered {
+        push_delivered(seating, texts, scratch, delivery)?;
     }
     Ok(())
 }

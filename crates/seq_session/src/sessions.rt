@@ -1,6 +1,6 @@
 //! Sessions from the bytes of scripts to the bytes of logs.
 
-ghost use Rattle.std.specs.Prelude.{◌≡◌, true, false, map, length, IfOk, IfErr, IfSome};
+ghost use Rattle.std.specs.Prelude.{◌≡◌, ◌⊎◌, true, false, map, length, IfOk, IfErr, IfSome, OnOk};
 ghost use Rattle.std.specs.FinMap as finmap;
 ghost use Rattle.seq_state.specs.State.{start};
 ghost use Rattle.seq_state.specs.Step.{plain, state_after, IsTimed};
@@ -10,17 +10,21 @@ ghost use Rattle.seq_session.specs.AllLogs.{clients_read};
 ghost use Rattle.seq_session.specs.Rising.{AreRising};
 ghost use Rattle.seq_session.specs.Merging.{inputs_of};
 ghost use Rattle.seq_session.specs.Sessions.{all_logs, listing_after, script_clients};
-ghost use Rattle.seq_session.specs.Devices.{clients, AreSound, AreOpen, IsSession, IsRun, IsRunOf};
+ghost use Rattle.seq_session.specs.Devices.{clients, AreSound, AreOpen, Wrote, IsSession, IsRun, IsRunOf, AreLogsOf};
+ghost use Rattle.seq_session.specs.Streams.{logs_after, IsStoppedAt, IsStreamed, IsCutShort};
 ghost use Rattle.seq_session.specs.Devices.{reader_blamed, log_blamed, blames_listing, has_read, IsAmong, IsReading, ReadersTell, IsTold, LogsTell};
 
 use crate::fault::SessionFault;
+use crate::logging::log_merged;
 use crate::merged::Merged;
 use crate::merging::merge;
 use crate::named_files::NamedFiles;
 use crate::parse::parse_all;
 use crate::reading::read_all;
+use crate::session_logs::SessionLogs;
 use crate::session_run::SessionRun;
 use crate::source::{Script, ScriptSource};
+use crate::streaming::stream_merged;
 use crate::writing::{write_listing, write_logs};
 use agenda_heap::Agenda;
 use byte_io::{Sink, Source};
@@ -28,8 +32,84 @@ use memory::{Items, OutOfMemory};
 use seq_engine::{RunLog, run};
 use std::alloc::Global;
 
-/// Reads the script of each client, runs all of them together up to `until`, and writes each
-/// client's log, in the order of the scripts, and then the listing at the end.
+/// Reads the script of each client, runs all of them together up to `until`, and makes each client's log, and the
+/// listing at the end. What a step of the run gives is added to the logs at once.
+///
+/// The numbers of the clients rise, no device has failed, and the agenda is empty. Of a script with more than
+/// `MOST_SCRIPT` bytes one byte more is read. A reader that finds no memory is `Read`; `OutOfMemory` is out of memory
+/// anywhere else.
+pub fn log_sessions<'f, 'b, R: Source, A: Agenda + Drop>(
+    alloc: Global,
+    scripts: &mut [ScriptSource<R>],
+    files: &NamedFiles<'f, 'b>,
+    agenda: A,
+    until: u64,
+) -> Result<SessionLogs, SessionFault>
+    requires rising { AreRising (clients scripts.old) }
+    requires readers { AreSound R.failed scripts.old }
+    requires empty { A.content agenda ≡ finmap.empty }
+
+    // There are scripts, each what the calls of its reader gave, and the logs and the listing are those of the session
+    // of just these. Where a circle of clients is closed round the owner of a log, the log tells what it tells in the
+    // session of the circle's scripts alone, whatever all others say.
+    ensures logged { IfOk result (λ logs.
+        AreLogsOf R.HasLeft files.now until scripts.old scripts.new logs) }
+
+    ensures only { IfErr result IsReading }
+    ensures clients { clients scripts.new ≡ clients scripts.old }
+    ensures reader_marks { ReadersTell R.failed (reader_blamed result) scripts.new }
+    ensures reader_blamed { IfSome (reader_blamed result) (λ k. IsAmong k (clients scripts.old)) }
+{
+    let mut told = Vec::new(alloc);
+    read_all(alloc, scripts, &mut told)?;
+    Ok(log_told(alloc, told.as_slice(), files, agenda, until)?)
+}
+
+/// The same as `log_sessions`, but that the logs, in the order of the scripts, are written to devices while the session
+/// runs, many lines at once, and only the listing is kept for the end.
+///
+/// The numbers of the clients rise, `logs` are as many as the scripts, no device has failed, and the agenda is empty.
+/// All scripts are read before anything is written. A sink that finds no memory has failed: that is `Write`.
+pub fn stream_sessions<'f, 'b, R: Source, W: Sink, A: Agenda + Drop>(
+    alloc: Global,
+    scripts: &mut [ScriptSource<R>],
+    files: &NamedFiles<'f, 'b>,
+    agenda: A,
+    until: u64,
+    logs: &mut [W],
+) -> Result<Items<u8>, SessionFault>
+    requires rising { AreRising (clients scripts.old) }
+    requires as_many { length logs.old ≡ length scripts.old }
+    requires readers { AreSound R.failed scripts.old }
+    requires writers { AreOpen W.failed logs.old }
+    requires empty { A.content agenda ≡ finmap.empty }
+
+    // There are scripts, each what the calls of its reader gave, and each log has gained its text of the session of
+    // just these, within each closed circle round its owner what it tells in the session of the circle alone.
+    ensures streamed { IfOk result (IsStreamed R.HasLeft W.HasTaken files.now until
+        scripts.old scripts.new logs.old logs.new) }
+
+    // Before all is read nothing is written. After it, out of memory leaves all logs with what they say after one
+    // turn of the session, and a write fault with what they say after one or, before the log that failed, another.
+    ensures stopped { IfErr result (λ e. (IsReading e × (logs.new ≡ logs.old))
+        ⊎ IsCutShort R.HasLeft W.HasTaken files.now until
+        scripts.old scripts.new logs.old logs.new e) }
+
+    // A device is blamed where it failed in this call, or is a sink that may take no byte, and wherever it failed.
+    ensures clients { clients scripts.new ≡ clients scripts.old }
+    ensures reader_marks { ReadersTell R.failed (reader_blamed result) scripts.new }
+    ensures reader_blamed { IfSome (reader_blamed result) (λ k. IsAmong k (clients scripts.old)) }
+    ensures log_marks { LogsTell W.failed W.takes_some (log_blamed result)
+        (clients scripts.old) logs.new }
+    ensures log_blamed { IfSome (log_blamed result) (λ k. IsAmong k (clients scripts.old)) }
+{
+    let mut told = Vec::new(alloc);
+    read_all(alloc, scripts, &mut told)?;
+    stream_told(alloc, told.as_slice(), files, agenda, until, logs)
+}
+
+/// The same as `log_sessions`, but that the logs, in the order of the scripts, and then the listing are written to
+/// devices.
 ///
 /// The numbers of the clients rise, `logs` are as many as the scripts, no device has failed, and the
 /// agenda is empty. All is read, and the texts of all logs and of the listing are made, before
@@ -77,9 +157,9 @@ pub fn run_sessions<'f, 'b, R: Source, W: Sink, A: Agenda + Drop>(
 {
     let mut told = Vec::new(alloc);
     read_all(alloc, scripts, &mut told)?;
-    let texts = run_texts(alloc, told, files, agenda, until)?;
-    write_logs(texts.run.scripts.as_slice(), logs, texts.logs.as_slice())?;
-    write_listing(listing, texts.run.log.listing.as_slice())
+    let texts = log_told(alloc, told.as_slice(), files, agenda, until)?;
+    write_logs(told.as_slice(), logs, texts.logs.as_slice())?;
+    write_listing(listing, texts.listing.as_slice())
 }
 
 /// Reads the script of each client and runs all of them together up to `until`, without writing their logs.
@@ -133,34 +213,60 @@ fn run_told<'f, 'b, A: Agenda + Drop>(
     })
 }
 
-/// What a session writes.
-#[derive(Drop)]
-struct SessionTexts {
-    /// The log of each client.
-    logs: Vec<Vec<u8>>,
-    /// The run, with its listing.
-    run: SessionRun,
-}
-
-/// Runs the scripts, and makes the texts.
-fn run_texts<'f, 'b, A: Agenda + Drop>(
+/// Runs the scripts, and makes their logs.
+fn log_told<'f, 'b, A: Agenda + Drop>(
     alloc: Global,
-    scripts: Vec<Script>,
+    scripts: &[Script],
     files: &NamedFiles<'f, 'b>,
     agenda: A,
     until: u64,
-) -> Result<SessionTexts, OutOfMemory>
-    requires rising { AreRising (script_clients scripts.items) }
+) -> Result<SessionLogs, OutOfMemory>
+    requires rising { AreRising (script_clients scripts.now) }
     requires empty { A.content agenda ≡ finmap.empty }
-    ensures scripts { IfOk result (λ t. t.run.scripts ≡ scripts.items) }
-    ensures logs { IfOk result (λ t.
-        map (λ l. l.items) t.logs.items ≡ all_logs files.now until scripts.items) }
-    ensures listing { IfOk result (λ t.
-        t.run.log.listing ≡ listing_after files.now until scripts.items) }
+    ensures logs { IfOk result (λ s.
+        map (λ l. l.items) s.logs ≡ all_logs files.now until scripts.now) }
+    ensures listing { IfOk result (λ s. s.listing ≡ listing_after files.now until scripts.now) }
 {
-    let run = run_told(alloc, scripts, files, agenda, until)?;
-    let logs = run.logs(alloc)?;
-    Ok(SessionTexts { logs, run })
+    let reads = parse_all(alloc, scripts, files, until)?;
+    let merged = merge(alloc, reads.as_slice())?;
+    log_merged(alloc, reads.as_slice(), &merged, files, agenda, until)
+}
+
+/// Runs the scripts, and writes their logs on the way.
+fn stream_told<'f, 'b, W: Sink, A: Agenda + Drop>(
+    alloc: Global,
+    scripts: &[Script],
+    files: &NamedFiles<'f, 'b>,
+    agenda: A,
+    until: u64,
+    logs: &mut [W],
+) -> Result<Items<u8>, SessionFault>
+    requires rising { AreRising (script_clients scripts.now) }
+    requires as_many { length logs.old ≡ length scripts.now }
+    requires writers { AreOpen W.failed logs.old }
+    requires empty { A.content agenda ≡ finmap.empty }
+    ensures logs { OnOk result
+        (Wrote W.HasTaken logs.old logs.new (all_logs files.now until scripts.now)) }
+    ensures listing { IfOk result (λ listing.
+        listing ≡ listing_after files.now until scripts.now) }
+    ensures stopped { IfErr result (IsStoppedAt W.HasTaken
+        (logs_after files.now until scripts.now) (script_clients scripts.now) logs.old logs.new) }
+    ensures marks { LogsTell W.failed W.takes_some (log_blamed result)
+        (script_clients scripts.now) logs.new }
+    ensures blamed { IfSome (log_blamed result) (λ k. IsAmong k (script_clients scripts.now)) }
+{
+    let reads = parse_all(alloc, scripts, files, until)?;
+    let merged = merge(alloc, reads.as_slice())?;
+    stream_merged(
+        alloc,
+        scripts,
+        reads.as_slice(),
+        &merged,
+        files,
+        agenda,
+        until,
+        logs,
+    )
 }
 
 /// Runs the inputs of a session.

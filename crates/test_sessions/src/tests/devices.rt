@@ -5,7 +5,7 @@ ghost use Rattle.std.specs.FinMap as finmap;
 
 use super::session::Part;
 use agenda_heap::Agenda;
-use byte_io::{MemSink, MemSource, Sink};
+use byte_io::{MemSink, MemSource, Sink, write_all};
 use node_table::ClientId;
 use seq_session::*;
 use std::alloc::Global;
@@ -86,6 +86,35 @@ impl Devices {
             &mut self.listing,
         ) {
             Ok(()) => Ok(None),
+            Err(fault) => Ok(Some(fault)),
+        }
+    }
+
+    /// Runs the session so that the logs are written while it runs, and tells the fault that stopped it.
+    pub fn stream<A: Agenda + Drop>(
+        &mut self,
+        alloc: Global,
+        files: &NamedFiles<'_, '_>,
+        agenda: A,
+        until: u64,
+    ) -> Result<Option<SessionFault>, Fail>
+        requires { A.content agenda ≡ finmap.empty }
+    {
+        let scripts = self.scripts.as_mut_slice();
+        let logs = self.logs.as_mut_slice();
+        if !clients_rise(scripts)
+            || !readers_are_sound(scripts)
+            || logs.len() != scripts.len()
+            || !logs_are_open(logs)
+            || self.listing.has_failed()
+        {
+            return Err("devices that a session can be run with".into());
+        }
+        match stream_sessions(alloc, scripts, files, agenda, until, logs) {
+            Ok(listing) => {
+                write_all(&mut self.listing, listing.as_slice())?;
+                Ok(None)
+            }
             Err(fault) => Ok(Some(fault)),
         }
     }

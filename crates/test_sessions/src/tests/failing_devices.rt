@@ -2,7 +2,7 @@
 
 use super::devices::Devices;
 use super::sending::{FIRST_NOTE, LISTENER, SENDER};
-use super::session::{Session, assert_text};
+use super::session::{Part, Session, assert_text};
 use super::strangers::HOSTILE_THIRD_SCRIPT;
 use agenda_heap::HeapAgenda;
 use byte_io::MemSink;
@@ -145,6 +145,31 @@ fn assert_log_writes(
     Ok(())
 }
 
+/// Each write of each log fails while the session runs, a byte each. No line was skipped, so the later logs have
+/// nothing yet.
+fn assert_streamed_writes(
+    rt: &impl Abort,
+    alloc: Global,
+    session: &Session,
+    plain: &Devices,
+) -> Result<(), Fail> {
+    let files = NamedFiles::new(&[], &[]).ok_or("no files")?;
+    for (place, part) in session.parts.iter().enumerate() {
+        let client = client(part.client)?;
+        for write in 0..part.log.len() {
+            let mut devices = bytewise(alloc, session, plain)?;
+            if let Some(log) = devices.logs.get_mut(place) {
+                log.fail_at(write as u64);
+            }
+            let agenda = HeapAgenda::new(alloc);
+            let fault = devices.stream(alloc, &files, agenda, session.until)?;
+            assert!(rt; fault == Some(SessionFault::Write { client }));
+            assert_logs(rt, &devices, plain, place, write);
+        }
+    }
+    Ok(())
+}
+
 /// Each write of the listing fails, a byte each; and then none does.
 fn assert_listing_writes(
     rt: &impl Abort,
@@ -171,6 +196,70 @@ fn each_read_and_each_write_fails(rt: HostRuntime) -> Result<(), Fail> {
         assert_reads(&rt, rt.alloc(), &session, &plain)?;
         assert_log_writes(&rt, rt.alloc(), &session, &plain)?;
         assert_listing_writes(&rt, rt.alloc(), &session, &plain)?;
+    }
+    Ok(())
+}
+
+/// The logs are written while the session runs, and each write of them fails.
+#[test]
+fn each_streamed_write_fails(rt: HostRuntime) -> Result<(), Fail> {
+    let plain = plain(&rt, rt.alloc(), &FIRST_NOTE)?;
+    assert_streamed_writes(&rt, rt.alloc(), &FIRST_NOTE, &plain)
+}
+
+/// Two clients, of each of which a line is skipped.
+const SKIPPING: Session = Session {
+    parts: &[
+        Part {
+            client: 128,
+            script: "0 open a 8 8\nnonsense\n",
+            log: "skip 2 unreadable\n0 line 1 ok\n",
+        },
+        Part {
+            client: 129,
+            script: "0 open b 8 8\nnonsense\n",
+            log: "skip 2 unreadable\n0 line 1 ok\n",
+        },
+    ],
+    songs: &[],
+    until: 1,
+    listing: None,
+};
+
+/// The skipped lines of all clients are written before any other line, so that the later logs have them where a write
+/// behind them fails, and no more.
+#[test]
+fn skipped_lines_are_written_first(rt: HostRuntime) -> Result<(), Fail> {
+    let plain = plain(&rt, rt.alloc(), &SKIPPING)?;
+    for (write, first, second) in [
+        (5, "skip ", ""),
+        (18, "skip 2 unreadable\n", "skip 2 unreadable\n"),
+        (20, "skip 2 unreadable\n0 ", "skip 2 unreadable\n"),
+    ] {
+        assert_skipped(&rt, rt.alloc(), &plain, write, first, second)?;
+    }
+    Ok(())
+}
+
+/// Where a write of the first log fails, the two logs have these texts.
+fn assert_skipped(
+    rt: &impl Abort,
+    alloc: Global,
+    plain: &Devices,
+    write: u64,
+    first: &str,
+    second: &str,
+) -> Result<(), Fail> {
+    let files = NamedFiles::new(&[], &[]).ok_or("no files")?;
+    let mut devices = bytewise(alloc, &SKIPPING, plain)?;
+    if let Some(log) = devices.logs.get_mut(0) {
+        log.fail_at(write);
+    }
+    let fault = devices.stream(alloc, &files, HeapAgenda::new(alloc), SKIPPING.until)?;
+    let client = client(128)?;
+    assert!(rt; fault == Some(SessionFault::Write { client }));
+    for (log, wanted) in devices.logs.iter().zip([first, second].iter()) {
+        assert_text(rt, log.bytes(), wanted);
     }
     Ok(())
 }

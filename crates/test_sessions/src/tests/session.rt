@@ -35,8 +35,8 @@ pub struct Session {
     pub listing: Option<&'static str>,
 }
 
-/// Runs a session under both agendas. Each time its logs and its listing are those that were worked
-/// out.
+/// Runs a session under both agendas, with the logs written at the end and while it runs. Each time its logs and its
+/// listing are those that were worked out.
 pub fn assert_session(rt: &impl Abort, alloc: Global, session: &Session) -> Result<(), Fail> {
     let names = names_of(alloc, session.songs)?;
     let songs = songs_of(alloc, session.songs)?;
@@ -73,7 +73,7 @@ pub fn assert_played(
     assert!(rt; fault.is_none());
     assert_texts(rt, session, &heap);
     let mut sorted = Devices::of(alloc, session.parts)?;
-    let fault = sorted.run(alloc, &files, SortedAgenda::new(alloc), session.until)?;
+    let fault = sorted.stream(alloc, &files, SortedAgenda::new(alloc), session.until)?;
     assert!(rt; fault.is_none());
     assert_texts(rt, session, &sorted);
     Ok(())

@@ -7,16 +7,17 @@ use Rattle.program_tasks.proofs.printing.print_session.Goals as goal
 
 pub returns-clause-printed : goal.returns-clause-printed
 returns-clause-printed g c =
-    let r = c.in_ok-run.ensures.logged in
+    let r = c.in_ok-made.ensures.logged in
     let files = c.args.files.now in
     let until = c.args.session.now.until in
-    let logs : map (λ l. l.now) c.as_slice.result.now ≡ all_logs files until r.scripts = ap (map (λ l. l.now)) c.as_slice.ensures.value ∙ c.in_ok-texts.ensures ∙ r.logged in
-    let listing : c.bytes.result.now ≡ listing_after files until r.scripts = c.bytes.ensures ∙ r.listing_is in
+    let logs : map (λ l. l.now) c.as_slice-2.result.now ≡ all_logs files until r.scripts =
+    ap (map (λ l. l.now)) c.as_slice-2.ensures.value ∙ c.in_ok-logs.ensures ∙ ap (map (λ l. l.items)) c.as_slice.ensures ∙ r.logs in
+    let listing : c.as_slice-listing.result.now ≡ listing_after files until r.scripts = c.as_slice-listing.ensures ∙ r.listing in
     on_ok_weaker c.print_texts.result
     (λ took. record {
       scripts = r.scripts;
       read = r.read;
       took = subst (λ text. Took g.W.Sink.HasTaken c.args.out.now text c.print_texts.new.out)
-          (printed_as g.S.FileStore.IsOpened g.S.Reader.Source.HasLeft files until c.args.session.now.scripts.items _ r.scripts r.read logs c.bytes.result.now c.args.listed listing) took;
+          (printed_as g.S.FileStore.IsOpened g.S.Reader.Source.HasLeft files until c.args.session.now.scripts.items _ r.scripts r.read logs c.as_slice-listing.result.now c.args.listed listing) took;
     })
     c.print_texts.ensures.printed

@@ -24,4 +24,4 @@ pub write_logs-requires-clause-logs : goal.write_logs-requires-clause-logs
 write_logs-requires-clause-logs g c =
     let told : script_clients c.read_all.new.scripts.items ≡ clients c.args.scripts.now = search rules in
     c.requires.as_many ∙ sym (length-map c.args.scripts.now (λ s. s.client)) ∙ ap length (sym told) ∙ length-map c.read_all.new.scripts.items (λ s. s.client)
-    ∙ ap length (sym (c.as_slice.ensures ∙ c.in_ok-texts.ensures.scripts))
+    ∙ ap length (sym c.as_slice-2.ensures.value)
