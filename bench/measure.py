@@ -29,15 +29,27 @@ def put(place, name, make, *words):
     return path
 
 
-def timed(words, text=os.devnull):
-    """The seconds that a program takes, and the MiB that it holds at most. What it prints goes to the file `text`."""
-    start = time.perf_counter()
+def waited(words, text):
+    """What a program used. What it prints goes to the file `text`."""
     child = os.posix_spawn(words[0], words, os.environ,
                            file_actions=[(os.POSIX_SPAWN_OPEN, 1, text, os.O_WRONLY | os.O_CREAT | os.O_TRUNC, 0o666)])
     _, status, used = os.wait4(child, 0)
     if status:
         raise SystemExit(" ".join(words) + " failed")
+    return used
+
+
+def timed(words, text=os.devnull):
+    """The seconds that a program takes, and the MiB that it holds at most. What it prints goes to the file `text`."""
+    start = time.perf_counter()
+    used = waited(words, text)
     return time.perf_counter() - start, used.ru_maxrss / 1024
+
+
+def spent(words, text=os.devnull):
+    """The same, but the seconds of a processor."""
+    used = waited(words, text)
+    return used.ru_utime + used.ru_stime, used.ru_maxrss / 1024
 
 
 def instructions(program, place, *words):
