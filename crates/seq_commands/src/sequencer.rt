@@ -70,6 +70,15 @@ impl<'f, 'b> Sequencer<'f, 'b> {
         self.steps
     }
 
+    /// The open clients and the subscriptions between their nodes.
+    pub fn patchbay(&self) -> &Patchbay
+        ensures clients { result.now.clients.clients ≡ (state_of self.now).clients }
+        ensures pools { result.now.clients.pools ≡ (state_of self.now).pools }
+        ensures edges { result.now.graph ≡ (state_of self.now).edges }
+    {
+        &self.patchbay
+    }
+
     /// How many messages found no room in the client's input pool since it opened; 0 where it is not open.
     pub fn lost(&self, client: ClientId) -> u64
         ensures { result ≡ lost_count (get (state_of self.now).pools client) }

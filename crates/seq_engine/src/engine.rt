@@ -17,6 +17,7 @@ use agenda_heap::Agenda;
 use memory::Items;
 use node_table::ClientId;
 use seq_commands::{Files, Sequencer};
+use seq_patchbay::Patchbay;
 use seq_state::{Delivery, Input, Reply};
 use smf_files::SmfFile;
 use std::alloc::Global;
@@ -108,6 +109,15 @@ impl<'f, 'b, A: Agenda> Engine<'f, 'b, A> {
         ensures { result ≡ self.now.steps }
     {
         self.sequencer.steps()
+    }
+
+    /// The open clients and the subscriptions between their nodes, as the last call left them.
+    pub fn patchbay(&self) -> &Patchbay
+        ensures clients { result.now.clients.clients ≡ self.now.state.clients }
+        ensures pools { result.now.clients.pools ≡ self.now.state.pools }
+        ensures edges { result.now.graph ≡ self.now.state.edges }
+    {
+        self.sequencer.patchbay()
     }
 
     /// How many messages found no room in the client's input pool since it opened; 0 where it is not open. The count
