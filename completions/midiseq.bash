@@ -33,7 +33,7 @@ _midiseq() {
         return
     fi
     case $previous in
-        --dir)
+        --dir | --logs)
             compopt -o filenames 2>/dev/null
             mapfile -t COMPREPLY < <(compgen -d -- "$word")
             return
@@ -46,12 +46,16 @@ _midiseq() {
             _midiseq_files "$word" .mid .MID .midi
             return
             ;;
+        --format)
+            mapfile -t COMPREPLY < <(compgen -W 'text json csv' -- "$word")
+            return
+            ;;
         --until | --for | --port | --ports | --ppq | --bpm | --owner) return ;;
     esac
     case $sub in
         run | record | circle)
             if [[ $word == -* ]]; then
-                local options='--until --for --to-end --dir --list --explain --strict --help'
+                local options='--until --for --to-end --dir --list --explain --strict --format --logs --append --help'
                 [[ $sub == record ]] && options='--until --for --to-end --dir --explain --strict --raw --port --ports --ppq --bpm --like --out --help'
                 [[ $sub == circle ]] && options='--until --for --to-end --dir --owner --session --help'
                 mapfile -t COMPREPLY < <(compgen -W "$options" -- "$word")

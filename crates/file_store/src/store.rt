@@ -11,7 +11,7 @@ use std::alloc::Global;
 /// No contract can say what a file holds. What it can say is of which file a reader or a writer is: nothing but these
 /// calls tells that, so what is proved over every store holds of the calls that were made.
 pub trait FileStore {
-    ghost use Rattle.std.specs.Prelude.{ℕ, List};
+    ghost use Rattle.std.specs.Prelude.{ℕ, Bool, List};
     ghost use Rattle.file_store.specs.declared.standing.Standing.{Standing};
 
     type Reader: Source + Drop;
@@ -44,6 +44,12 @@ pub trait FileStore {
 
     /// What was written could not be put at this path.
     ghost CannotStore: { List ℕ → Type 0 };
+
+    /// The writer began a file at this path where it stands, which is emptied, or with `true` keeps what it has in front.
+    ghost IsPlaced: { List ℕ → Bool → Self.Writer → Type 0 };
+
+    /// No file could be begun where it stands.
+    ghost CannotPlace: { List ℕ → Type 0 };
 
     /// These paths lead to one file.
     ghost AreOne: { List ℕ → List ℕ → Type 0 };
@@ -87,6 +93,13 @@ pub trait FileStore {
 
     /// Lets a file go that was begun. What stands at its path stays.
     fn discard(&self, begun: Self::Writer);
+
+    /// Begins a file where it stands, for whoever reads it while it is written. What was there goes, or with `append`
+    /// stays in front of what is written.
+    fn begin_in_place(&self, path: &str, append: bool) -> Result<Self::Writer, DeviceFault>
+        ensures placed { IfOk result (λ w. IsPlaced path.now append w) }
+        ensures refused { OnErr result (CannotPlace path.now) }
+        ensures sound { IfOk result (λ w. Self.Writer.failed w ≡ false) };
 
     /// Whether two paths lead to one file, also by links.
     fn is_one(&self, path: &str, other: &str) -> bool

@@ -8,7 +8,7 @@ use crate::store::FileStore;
 use byte_io::{DeviceFault, StdSink, StdSource};
 use std::alloc::Global;
 use std::fs;
-use std::fs::Metadata;
+use std::fs::{Metadata, OpenOptions};
 use std::io::ErrorKind;
 use std::os::unix::fs::MetadataExt;
 use std::rt::Files;
@@ -73,19 +73,6 @@ impl<R: Files + AllocGlobal + Clone + Drop> SystemFiles<R> {
         }
         Ok(draft)
     }
-
-    /// Begins to write what is no regular file, where it stands.
-    fn begin_in_place(&self, path: &str) -> Result<Draft<R::File>, DeviceFault>
-        ensures { IfOk result (λ d. d.sink.broken ≡ false) }
-    {
-        match fs::create(&self.rt, path) {
-            Ok(file) => Ok(Draft {
-                sink: StdSink::new(file),
-                paths: None,
-            }),
-            Err(_) => Err(DeviceFault::Broken),
-        }
-    }
 }
 
 impl<R: Files + AllocGlobal + Clone + Drop> FileStore for SystemFiles<R> {
@@ -110,6 +97,10 @@ impl<R: Files + AllocGlobal + Clone + Drop> FileStore for SystemFiles<R> {
     ghost IsStored = { λ _ _. Unit {0} };
 
     ghost CannotStore = { λ _. Unit {0} };
+
+    ghost IsPlaced = { λ _ _ _. Unit {0} };
+
+    ghost CannotPlace = { λ _. Unit {0} };
 
     ghost AreOne = { λ _ _. Unit {0} };
 
@@ -163,7 +154,7 @@ impl<R: Files + AllocGlobal + Clone + Drop> FileStore for SystemFiles<R> {
     fn begin(&self, alloc: Global, path: &str) -> Result<Draft<R::File>, DeviceFault> {
         match fs::metadata(&self.rt, path) {
             Ok(there) if there.is_file() => self.begin_again(alloc, path, &there),
-            Ok(_) => self.begin_in_place(path),
+            Ok(_) => self.begin_in_place(path, false),
             Err(_) => self.begin_beside(alloc, text_of(alloc, path)?),
         }
     }
@@ -182,6 +173,24 @@ impl<R: Files + AllocGlobal + Clone + Drop> FileStore for SystemFiles<R> {
     fn discard(&self, begun: Draft<R::File>) {
         if let Some(paths) = &begun.paths {
             let _ = fs::remove_file(&self.rt, paths.beside.as_str());
+        }
+    }
+
+    fn begin_in_place(&self, path: &str, append: bool) -> Result<Draft<R::File>, DeviceFault> {
+        let opened = if append {
+            OpenOptions::new()
+                .create(true)
+                .append(true)
+                .open(&self.rt, path)
+        } else {
+            fs::create(&self.rt, path)
+        };
+        match opened {
+            Ok(file) => Ok(Draft {
+                sink: StdSink::new(file),
+                paths: None,
+            }),
+            Err(_) => Err(DeviceFault::Broken),
         }
     }
 

@@ -16,13 +16,18 @@ use Rattle.program_tasks.specs.declared.question.CircleQuestion.TheVariants.{Of,
 use Rattle.program_tasks.specs.Grid.{IsGrid}
 use Rattle.program_tasks.specs.declared.grid.GridWords.{GridWords}
 use Rattle.program_tasks.specs.declared.grid.GridWords.TheVariants.{Said, Like}
+use Rattle.log_forms.specs.declared.form.LogForm.{LogForm}
+use Rattle.log_forms.specs.declared.form.LogForm.TheVariants.{Text}
+use Rattle.program_tasks.specs.declared.form_word.Printing.{Printing}
+use Rattle.program_tasks.specs.declared.log_folder.LogFolder.{LogFolder}
+use Rattle.program_tasks.specs.FormWords.{form_name}
 use Rattle.program_tasks.specs.Words.{port_named, ports_named, scripts_named, scripts_seen}
 use Rattle.program_tasks.specs.declared.recording.Recorded.{Recorded}
 use Rattle.program_tasks.specs.declared.recording.Recorded.TheVariants.{Stream, Port, Ports}
 use Rattle.program_tasks.specs.declared.recording.Recording.{Recording}
 use Rattle.program_tasks.specs.declared.run_answer.RunAnswer.{RunAnswer}
 use Rattle.program_tasks.specs.declared.session.Session.{Session}
-use Rattle.program_tasks.specs.Subcommands.{IsRunPrinted, IsRunExplained, IsCircleAnswered, IsRunRecorded}
+use Rattle.program_tasks.specs.Subcommands.{IsRunPrinted, IsRunStreamed, IsRunExplained, IsCircleAnswered, IsRunRecorded}
 use Rattle.program_tasks.specs.Tasks.{IsDone}
 use Rattle.program_tasks.specs.Times.{end_said}
 use Rattle.program_tasks.specs.declared.choice.Task.{Task}
@@ -72,6 +77,16 @@ pub record IsAsked (found : Found) (asked : Bool) : Type 0 where
   pub explains : Bool
   pub explain_flag : IsFlag found (codes "explain") explains
   pub is : asked ≡ (strict || explains)
+
+-- the form of --format, and without it text
+abbrev pub IsFormGiven : Found → LogForm → Type 0
+IsFormGiven found form = MatchOption (first_value found (codes "format")) (form ≡ Text)
+    (λ word. form_name form ≡ word)
+
+-- the folder that this word names, whose files keep what they have where --append is given
+pub record IsLogFolderGiven (found : Found) (logs : LogFolder) (word : List ℕ) : Type 0 where
+  pub path : logs.path.now ≡ word
+  pub append : IsFlag found (codes "append") logs.append
 
 -- ---- what is recorded
 
@@ -130,33 +145,60 @@ module _ {R W : Type 0} (IsOpened : List ℕ → R → Type 0) (HasLeft : R → 
     (HasNames : List ℕ → List (List ℕ) → Type 0) where
   -- A run of this session has ended so: where it is strict, explained and judged; where it is to
   -- explain, explained; else it was printed.
-  abbrev pub RanAs : {N : Type 0} → (W → List ℕ → Type 0) → (N → List ℕ → Type 0) → Session → Bool →
+  abbrev pub RanAs : {N : Type 0} → (W → List ℕ → Type 0) → (N → List ℕ → Type 0) → Session → Printing →
       (strict explains : Bool) → W → W → N → N → Ended → Type 0
-  RanAs HasTaken HasTold session listed true explains old new before after (Judged answer) =
+  RanAs HasTaken HasTold session printing true explains old new before after (Judged answer) =
       IsRunExplained IsOpened HasLeft CannotOpen failed IsStanding HasNames HasTaken HasTold session
-      listed answer old new before after
-  RanAs HasTaken HasTold session listed false true old new before after Done =
+      printing answer old new before after
+  RanAs HasTaken HasTold session printing false true old new before after Done =
       (answer : RunAnswer) × IsRunExplained IsOpened HasLeft CannotOpen failed IsStanding HasNames
-      HasTaken HasTold session listed answer old new before after
-  RanAs HasTaken HasTold session listed false false old new before after Done =
+      HasTaken HasTold session printing answer old new before after
+  RanAs HasTaken HasTold session printing false false old new before after Done =
       IsRunPrinted IsOpened HasLeft CannotOpen failed IsStanding HasNames HasTaken HasTold session
-      listed old new before after
-  RanAs HasTaken HasTold session listed strict explains old new before after _ = ⊥
+      printing old new before after
+  RanAs HasTaken HasTold session printing strict explains old new before after _ = ⊥
 
-  -- The session of these words was run, with the listing where --list is given, as --strict and
-  -- --explain say.
-  pub record RunsAsGiven {N : Type 0} (HasTaken : W → List ℕ → Type 0)
-      (HasTold : N → List ℕ → Type 0) (found : Found)
+  -- The session was run and printed in the form of --format, with the listing where --list is given,
+  -- as --strict and --explain say.
+  pub record PrintsAsGiven {N : Type 0} (HasTaken : W → List ℕ → Type 0)
+      (HasTold : N → List ℕ → Type 0) (found : Found) (session : Session)
       (old new : W) (before after : N) (ended : Ended) : Type 0 where
-    pub session : Session
-    pub given : IsGiven found session
-    pub listed : Bool
-    pub list_flag : IsFlag found (codes "list") listed
+    pub printing : Printing
+    pub form : IsFormGiven found printing.form
+    pub list_flag : IsFlag found (codes "list") printing.listed
     pub strict : Bool
     pub strict_flag : IsFlag found (codes "strict") strict
     pub explains : Bool
     pub explain_flag : IsFlag found (codes "explain") explains
-    pub ran : RanAs HasTaken HasTold session listed strict explains old new before after ended
+    pub ran : RanAs HasTaken HasTold session printing strict explains old new before after ended
+
+  -- The session was run, and its logs were written to the folder of this word, with --append behind
+  -- what the files had; the listing was printed where --list is given.
+  pub record StreamsAsGiven {V N : Type 0} (IsPlaced : List ℕ → Bool → V → Type 0)
+      (HasWritten : V → List ℕ → Type 0) (AreApart : List ℕ → List ℕ → Type 0)
+      (HasTaken : W → List ℕ → Type 0)
+      (HasTold : N → List ℕ → Type 0) (found : Found) (session : Session)
+      (old new : W) (before after : N) (ended : Ended) (word : List ℕ) : Type 0 where
+    pub logs : LogFolder
+    pub given : IsLogFolderGiven found logs word
+    pub listed : Bool
+    pub list_flag : IsFlag found (codes "list") listed
+    pub streamed : IsRunStreamed IsOpened HasLeft CannotOpen failed IsStanding HasNames IsPlaced
+        HasWritten AreApart HasTaken HasTold session logs listed old new before after
+    pub ends : ended ≡ Done
+
+  -- The session of these words was run: its logs were written to the folder of --logs, and without
+  -- that printed.
+  pub record RunsAsGiven {V N : Type 0} (IsPlaced : List ℕ → Bool → V → Type 0)
+      (HasWritten : V → List ℕ → Type 0) (AreApart : List ℕ → List ℕ → Type 0)
+      (HasTaken : W → List ℕ → Type 0) (HasTold : N → List ℕ → Type 0) (found : Found)
+      (old new : W) (before after : N) (ended : Ended) : Type 0 where
+    pub session : Session
+    pub given : IsGiven found session
+    pub ran : MatchOption (first_value found (codes "logs"))
+        (PrintsAsGiven HasTaken HasTold found session old new before after ended)
+        (StreamsAsGiven IsPlaced HasWritten AreApart HasTaken HasTold found session
+        old new before after ended)
 
   -- The circle round the client that the word names was printed, with --session also whether it is
   -- closed in the session, and the answer is that circle's.
@@ -231,14 +273,15 @@ abbrev pub IfAnswered : Ended → (CircleAnswer → Type 0) → Type 0
 IfAnswered (Answered answer) P = P answer
 IfAnswered _ P = ⊥
 
--- What each subcommand does: circle prints and answers, run prints and record writes a file, where
--- both may explain and judge, and each other is a tool's.
+-- What each subcommand does: circle prints and answers; run prints, or writes logs to a folder, and
+-- record writes a file, where both may explain and judge; and each other is a tool's.
 pub record DoesAsGiven {R V I W N : Type 0} (IsOpened : List ℕ → R → Type 0)
     (HasLeft : R → List ℕ → Type 0)
     (CannotOpen : List ℕ → Type 0) (failed : R → Bool) (IsStanding : List ℕ → Standing → Type 0)
     (HasNames : List ℕ → List (List ℕ) → Type 0)
     (IsBegun : List ℕ → V → Type 0) (HasWritten : V → List ℕ → Type 0)
-    (IsStored : List ℕ → V → Type 0)
+    (IsStored : List ℕ → V → Type 0) (IsPlaced : List ℕ → Bool → V → Type 0)
+    (AreApart : List ℕ → List ℕ → Type 0)
     (HasInput : I → List ℕ → Type 0) (HasTaken : W → List ℕ → Type 0)
     (HasTold : N → List ℕ → Type 0)
     (name : List ℕ) (found : Found) (asked left : I) (old new : W) (before after : N)
@@ -247,8 +290,8 @@ pub record DoesAsGiven {R V I W N : Type 0} (IsOpened : List ℕ → R → Type 
       (CirclesAsGiven IsOpened HasLeft CannotOpen failed IsStanding HasNames HasTaken HasTold found
       old new before after)
   pub ran : name ≡ codes "run" →
-      RunsAsGiven IsOpened HasLeft CannotOpen failed IsStanding HasNames HasTaken HasTold found old
-      new before after ended
+      RunsAsGiven IsOpened HasLeft CannotOpen failed IsStanding HasNames IsPlaced HasWritten
+      AreApart HasTaken HasTold found old new before after ended
   pub recorded : name ≡ codes "record" →
       RecordsAsGiven IsOpened HasLeft CannotOpen failed IsStanding HasNames IsBegun HasWritten
       IsStored HasTold found before after ended

@@ -7,20 +7,23 @@ use Rattle.file_store.specs.declared.standing.Standing.{Standing}
 use Rattle.script_text.specs.Numbers as says
 use Rattle.program_tasks.specs.Grid.{IsOfGrid}
 use Rattle.program_tasks.specs.declared.grid.GridWords.{GridWords}
+use Rattle.program_tasks.specs.FormWords.{IsNoForm}
 use Rattle.program_tasks.specs.Words.{port_named, IsOfPorts, IsOfWords}
+use Rattle.program_tasks.specs.declared.log_folder.LogFolder.{LogFolder}
+use Rattle.program_tasks.specs.LogFiles.{IsOfReadLog}
 use Rattle.program_tasks.specs.declared.recording.Recording.{Recording}
 use Rattle.program_tasks.specs.declared.session.Session.{Session}
 use Rattle.program_tasks.specs.Faults.{IsOfListing, IsOfScripts, IsOfOutput}
-use Rattle.program_tasks.specs.Subcommands.{IsTimeless, IsRecordingStopped}
+use Rattle.program_tasks.specs.Subcommands.{IsTimeless, IsStreamingStopped, IsRecordingStopped}
 use Rattle.program_tasks.specs.Tasks.{IsToolFault}
 use Rattle.program_tasks.specs.Times.{end_said, IsNoEnd}
 use Rattle.program_tasks.specs.declared.end_word.EndWord.{EndWord}
 use Rattle.program_tasks.specs.declared.choice.Task.{Task}
 use Rattle.program_tasks.specs.declared.choice.Tool.{Tool}
 use Rattle.program_tasks.specs.declared.program_fault.ProgramFault.{ProgramFault}
-use Rattle.program_tasks.specs.declared.program_fault.ProgramFault.TheVariants.{NoSubcommand, NotAClient, NotAPort}
+use Rattle.program_tasks.specs.declared.program_fault.ProgramFault.TheVariants.{NoSubcommand, NotAClient, NotAForm, NotAPort}
 use Rattle.program_tasks.specs.Program.{tool_name, IsNamedBy, IsReasoned}
-use Rattle.midiseq.specs.Given.{text_of, IsAsked, IsEndGiven, IsGiven, AreGridWords, IsRecordingGiven, IsOfTool}
+use Rattle.midiseq.specs.Given.{text_of, IsAsked, IsEndGiven, IsGiven, IsLogFolderGiven, AreGridWords, IsRecordingGiven, IsOfTool}
 
 -- The word for the session's end says none.
 pub record IsOfEndWord (found : Found) (fault : ProgramFault) : Type 0 where
@@ -64,17 +67,45 @@ abbrev pub IsNotAClient : List ℕ → ProgramFault → Type 0
 IsNotAClient word (NotAClient told) = (told.now ≡ word) × (says.client_number word ≡ None)
 IsNotAClient word _ = ⊥
 
--- The session of the words was not run, for one of these reasons.
-pub record IsRunStopped {R : Type 0} (IsOpened : List ℕ → R → Type 0)
-    (HasLeft : R → List ℕ → Type 0)
-    (CannotOpen CannotList : List ℕ → Type 0) (failed : R → Bool) (stuck : Type 0) (found : Found)
-    (fault : ProgramFault) : Type 0 where
-  pub session : Session
-  pub given : IsGiven found session
-  pub why :
-      IsOfListing CannotList (option_map (λ d. d.now) session.dir) fault
+-- the word names no form of logs
+abbrev pub IsNotAForm : List ℕ → ProgramFault → Type 0
+IsNotAForm word (NotAForm told) = (told.now ≡ word) × IsNoForm word
+IsNotAForm word _ = ⊥
+
+module _ {R V N : Type 0} (IsOpened : List ℕ → R → Type 0) (HasLeft : R → List ℕ → Type 0)
+    (CannotOpen CannotList : List ℕ → Type 0) (failed : R → Bool)
+    (IsStanding : List ℕ → Standing → Type 0) (HasNames : List ℕ → List (List ℕ) → Type 0)
+    (AreOne : List ℕ → List ℕ → Type 0) (IsPlaced : List ℕ → Bool → V → Type 0)
+    (HasWritten : V → List ℕ → Type 0) (writer_failed takes_some : V → Bool)
+    (CannotPlace : List ℕ → Type 0) (stuck : Type 0) (HasTold : N → List ℕ → Type 0)
+    (found : Found) (before after : N) where
+  -- the word of --format names no form, or the session was not run, or not printed
+  abbrev pub IsUnprinted : Session → ProgramFault → Type 0
+  IsUnprinted session fault =
+      IsNotAForm (text_of found (codes "format")) fault
+      ⊎ (IsOfListing CannotList (option_map (λ d. d.now) session.dir) fault
       ⊎ (IsOfScripts IsOpened HasLeft CannotOpen failed session.scripts.items fault
-      ⊎ IsOfOutput stuck fault)
+      ⊎ IsOfOutput stuck fault))
+
+  -- The session was not run, or its logs were not written to the folder of this word.
+  pub record IsUnstreamed (session : Session) (fault : ProgramFault) (word : List ℕ)
+      : Type 0 where
+    pub logs : LogFolder
+    pub given : IsLogFolderGiven found logs word
+    pub why :
+        IsOfListing CannotList (option_map (λ d. d.now) session.dir) fault
+        ⊎ (IsOfReadLog AreOne logs.path.now session.scripts.items fault
+        ⊎ (IsOfScripts IsOpened HasLeft CannotOpen failed session.scripts.items fault
+        ⊎ (IsStreamingStopped IsOpened HasLeft CannotOpen failed IsStanding HasNames IsPlaced
+        HasWritten writer_failed takes_some CannotPlace HasTold session logs before after fault
+        ⊎ IsOfOutput stuck fault)))
+
+  -- The session of the words was not run, for one of these reasons.
+  pub record IsRunStopped (fault : ProgramFault) : Type 0 where
+    pub session : Session
+    pub given : IsGiven found session
+    pub why : MatchOption (first_value found (codes "logs"))
+        (IsUnprinted session fault) (IsUnstreamed session fault)
 
 -- No circle of the session of the words was printed, for one of these reasons.
 pub record IsCircleStopped {R N : Type 0} (IsOpened : List ℕ → R → Type 0)
@@ -176,8 +207,9 @@ pub record IsStoppedAsGiven {R V I N : Type 0} (IsOpened : List ℕ → R → Ty
     (IsStanding : List ℕ → Standing → Type 0)
     (HasNames : List ℕ → List (List ℕ) → Type 0)
     (AreOne : List ℕ → List ℕ → Type 0) (IsBegun : List ℕ → V → Type 0)
+    (IsPlaced : List ℕ → Bool → V → Type 0) (HasWritten : V → List ℕ → Type 0)
     (writer_failed takes_some : V → Bool)
-    (CannotBegin CannotStore : List ℕ → Type 0) (HasInput : I → List ℕ → Type 0)
+    (CannotBegin CannotStore CannotPlace : List ℕ → Type 0) (HasInput : I → List ℕ → Type 0)
     (input_failed : I → Bool)
     (stuck : Type 0) (HasTold : N → List ℕ → Type 0) (name : List ℕ) (found : Found)
     (asked left : I)
@@ -188,7 +220,9 @@ pub record IsStoppedAsGiven {R V I N : Type 0} (IsOpened : List ℕ → R → Ty
       ⊎ IsCircleStopped IsOpened HasLeft CannotOpen CannotList failed IsStanding HasNames stuck
       HasTold found before after fault)
   pub ran : name ≡ codes "run" → IsToldOf IsStanding found (λ e. IsOfSessionWords found e
-      ⊎ IsRunStopped IsOpened HasLeft CannotOpen CannotList failed stuck found e) fault
+      ⊎ IsRunStopped IsOpened HasLeft CannotOpen CannotList failed IsStanding HasNames AreOne
+      IsPlaced HasWritten writer_failed takes_some CannotPlace stuck HasTold found before after e)
+      fault
   pub recorded : name ≡ codes "record" → IsToldOf IsStanding found (λ e. IsOfSessionWords found e
       ⊎ (IsOfRecordingWords IsOpened HasLeft CannotOpen failed found e
       ⊎ IsRecordStopped IsOpened HasLeft CannotOpen CannotList failed IsStanding HasNames AreOne

@@ -23,12 +23,14 @@ pub(crate) fn run<'a, S: FileStore, W: Sink, N: Notes>(
 ) -> Result<Ended, ProgramFault<'a>>
     requires { W.failed out.old ≡ false }
     ensures ran { IfOk result (RunsAsGiven S.IsOpened S.Reader.HasLeft S.CannotOpen S.Reader.failed
-        S.IsStanding S.HasNames W.HasTaken N.HasTold (found_of found.now)
-        out.old out.new notes.old notes.new) }
+        S.IsStanding S.HasNames S.IsPlaced S.Writer.HasTaken S.AreApart W.HasTaken N.HasTold
+        (found_of found.now) out.old out.new notes.old notes.new) }
     ensures fault { IfErr result (IsToldOf S.IsStanding (found_of found.now)
         (λ e. IsOfSessionWords (found_of found.now) e
         ⊎ IsRunStopped S.IsOpened S.Reader.HasLeft S.CannotOpen S.CannotList S.Reader.failed
-        (IsStuck W.failed W.takes_some out.old out.new) (found_of found.now) e)) }
+        S.IsStanding S.HasNames S.AreOne S.IsPlaced S.Writer.HasTaken S.Writer.failed
+        S.Writer.takes_some S.CannotPlace (IsStuck W.failed W.takes_some out.old out.new) N.HasTold
+        (found_of found.now) notes.old notes.new e)) }
 {
     match sessions::run(alloc, store, found, out, notes) {
         Ok(ended) => Ok(ended),

@@ -2,8 +2,8 @@
 
 ghost use Rattle.std.specs.Prelude.{◌≡◌, ◌⊎◌, ◌||◌, false, Some, codes, IfOk, IfErr, OnOk};
 ghost use Rattle.clap.specs.Matches.{found_of};
-ghost use Rattle.midiseq.specs.Given.{text_of, IsAsked, IsEndGiven, IsGiven, IsFlag, IsOnePortGiven, AreGridWords, RunsAsGiven, CirclesAsGiven, EndsRecorded, RecordsAsGiven};
-ghost use Rattle.midiseq.specs.Refused.{IsOfSessionWords, IsOfRecordingWords, IsNotAClient, IsNotAPort, IsRunStopped, IsCircleStopped, IsNotRecorded, IsRecordStopped};
+ghost use Rattle.midiseq.specs.Given.{text_of, IsAsked, IsEndGiven, IsGiven, IsFlag, IsFormGiven, IsOnePortGiven, AreGridWords, PrintsAsGiven, StreamsAsGiven, RunsAsGiven, CirclesAsGiven, EndsRecorded, RecordsAsGiven};
+ghost use Rattle.midiseq.specs.Refused.{IsOfSessionWords, IsOfRecordingWords, IsNotAClient, IsNotAForm, IsNotAPort, IsUnprinted, IsUnstreamed, IsRunStopped, IsCircleStopped, IsNotRecorded, IsRecordStopped};
 ghost use Rattle.seq_session.specs.Rising.{AreRising};
 ghost use Rattle.program_tasks.specs.Faults.{IsStuck};
 ghost use Rattle.program_tasks.specs.Sessions.{owners};
@@ -12,10 +12,11 @@ ghost use Rattle.program_tasks.specs.Words.{port_named};
 use byte_io::Sink;
 use clap::ArgMatches;
 use file_store::FileStore;
+use log_forms::LogForm;
 use node_table::PortAddr;
 use program_tasks::{
-    CircleAnswer, CircleQuestion, EndWord, Ended, GridWords, Notes, ProgramFault, Recorded,
-    Recording, Session, client_named, port_named, ports_named,
+    CircleAnswer, CircleQuestion, EndWord, Ended, GridWords, LogFolder, Notes, Printing,
+    ProgramFault, Recorded, Recording, Session, client_named, form_named, port_named, ports_named,
 };
 use std::alloc::Global;
 
@@ -42,8 +43,8 @@ fn session_of<'a>(alloc: Global, found: &ArgMatches<'a>) -> Result<Session<'a>, 
     Session::of_words(alloc, end_of(found), found.get_str("dir"), scripts)
 }
 
-/// Runs the scripts, and prints each client's log and, where asked for, the listing at the end. With --explain and
-/// --strict it tells what the run did not do, and with --strict whether that is nothing.
+/// Runs the scripts. Without --logs it prints each client's log, and with it writes each to a file of that folder while
+/// they run.
 pub(crate) fn run<'a, S: FileStore, W: Sink, N: Notes>(
     alloc: Global,
     store: &S,
@@ -53,25 +54,101 @@ pub(crate) fn run<'a, S: FileStore, W: Sink, N: Notes>(
 ) -> Result<Ended, ProgramFault<'a>>
     requires { W.failed out.old ≡ false }
     ensures ran { IfOk result (RunsAsGiven S.IsOpened S.Reader.HasLeft S.CannotOpen S.Reader.failed
-        S.IsStanding S.HasNames W.HasTaken N.HasTold (found_of found.now)
-        out.old out.new notes.old notes.new) }
+        S.IsStanding S.HasNames S.IsPlaced S.Writer.HasTaken S.AreApart W.HasTaken N.HasTold
+        (found_of found.now) out.old out.new notes.old notes.new) }
     ensures fault { IfErr result (λ e. IsOfSessionWords (found_of found.now) e
         ⊎ IsRunStopped S.IsOpened S.Reader.HasLeft S.CannotOpen S.CannotList S.Reader.failed
-        (IsStuck W.failed W.takes_some out.old out.new) (found_of found.now) e) }
+        S.IsStanding S.HasNames S.AreOne S.IsPlaced S.Writer.HasTaken S.Writer.failed
+        S.Writer.takes_some S.CannotPlace (IsStuck W.failed W.takes_some out.old out.new) N.HasTold
+        (found_of found.now) notes.old notes.new e) }
 {
     let session = session_of(alloc, found)?;
-    let listed = found.get_flag("list");
+    let Some(path) = found.get_str("logs") else {
+        return print_run(alloc, store, found, &session, out, notes);
+    };
+    stream_run(alloc, store, found, &session, path, out, notes)
+}
+
+/// Runs a session, and prints each client's log and, where asked for, the listing at the end. With --explain and
+/// --strict it tells what the run did not do, and with --strict whether that is nothing.
+fn print_run<'a, S: FileStore, W: Sink, N: Notes>(
+    alloc: Global,
+    store: &S,
+    found: &ArgMatches<'a>,
+    session: &Session<'a>,
+    out: &mut W,
+    notes: &mut N,
+) -> Result<Ended, ProgramFault<'a>>
+    requires rising { AreRising (owners session.now.scripts.items) }
+    requires sound { W.failed out.old ≡ false }
+    ensures ran { IfOk result (PrintsAsGiven S.IsOpened S.Reader.HasLeft S.CannotOpen
+        S.Reader.failed S.IsStanding S.HasNames W.HasTaken N.HasTold (found_of found.now)
+        session.now out.old out.new notes.old notes.new) }
+    ensures fault { IfErr result (IsUnprinted S.IsOpened S.Reader.HasLeft S.CannotOpen S.CannotList
+        S.Reader.failed S.IsStanding S.HasNames S.AreOne S.IsPlaced S.Writer.HasTaken
+        S.Writer.failed S.Writer.takes_some S.CannotPlace
+        (IsStuck W.failed W.takes_some out.old out.new) N.HasTold
+        (found_of found.now) notes.old notes.new session.now) }
+{
+    let printing = printing_of(found)?;
     let strict = found.get_flag("strict");
     let explains = found.get_flag("explain");
     if strict {
-        let answer = program_tasks::explain(alloc, store, &session, listed, out, notes)?;
+        let answer = program_tasks::explain(alloc, store, session, printing, out, notes)?;
         return Ok(Ended::Judged(answer));
     }
     if explains {
-        program_tasks::explain(alloc, store, &session, listed, out, notes)?;
+        program_tasks::explain(alloc, store, session, printing, out, notes)?;
         return Ok(Ended::Done);
     }
-    program_tasks::run(alloc, store, &session, listed, out, notes)?;
+    program_tasks::run(alloc, store, session, printing, out, notes)?;
+    Ok(Ended::Done)
+}
+
+/// How the words say that logs are printed.
+fn printing_of<'a>(found: &ArgMatches<'a>) -> Result<Printing, ProgramFault<'a>>
+    ensures form { IfOk result (λ p. IsFormGiven (found_of found.now) p.form) }
+    ensures listed { IfOk result (λ p. IsFlag (found_of found.now) (codes "list") p.listed) }
+    ensures fault { IfErr result (IsNotAForm (text_of (found_of found.now) (codes "format"))) }
+{
+    let listed = found.get_flag("list");
+    let Some(word) = found.get_str("format") else {
+        let form = LogForm::Text;
+        return Ok(Printing { form, listed });
+    };
+    match form_named(word) {
+        Some(form) => Ok(Printing { form, listed }),
+        None => Err(ProgramFault::NotAForm(word)),
+    }
+}
+
+/// Runs a session, writes each client's log to a file of the folder at this path, and prints the listing where asked
+/// for.
+fn stream_run<'a, S: FileStore, W: Sink, N: Notes>(
+    alloc: Global,
+    store: &S,
+    found: &ArgMatches<'a>,
+    session: &Session<'a>,
+    path: &'a str,
+    out: &mut W,
+    notes: &mut N,
+) -> Result<Ended, ProgramFault<'a>>
+    requires rising { AreRising (owners session.now.scripts.items) }
+    requires sound { W.failed out.old ≡ false }
+    ensures ran { IfOk result (λ ended. StreamsAsGiven S.IsOpened S.Reader.HasLeft S.CannotOpen
+        S.Reader.failed S.IsStanding S.HasNames S.IsPlaced S.Writer.HasTaken S.AreApart W.HasTaken
+        N.HasTold (found_of found.now) session.now out.old out.new notes.old notes.new ended
+        path.now) }
+    ensures fault { IfErr result (λ e. IsUnstreamed S.IsOpened S.Reader.HasLeft S.CannotOpen
+        S.CannotList S.Reader.failed S.IsStanding S.HasNames S.AreOne S.IsPlaced S.Writer.HasTaken
+        S.Writer.failed S.Writer.takes_some S.CannotPlace
+        (IsStuck W.failed W.takes_some out.old out.new) N.HasTold
+        (found_of found.now) notes.old notes.new session.now e path.now) }
+{
+    let append = found.get_flag("append");
+    let logs = LogFolder { path, append };
+    let listed = found.get_flag("list");
+    program_tasks::stream(alloc, store, session, &logs, listed, out, notes)?;
     Ok(Ended::Done)
 }
 

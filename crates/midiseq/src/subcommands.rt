@@ -27,11 +27,12 @@ pub(crate) fn perform<'a, S: FileStore, I: Source, W: Sink, N: Notes>(
     requires input_sound { I.failed input.old ≡ false }
     requires out_sound { W.failed out.old ≡ false }
     ensures done { IfOk result (DoesAsGiven S.IsOpened S.Reader.HasLeft S.CannotOpen S.Reader.failed
-        S.IsStanding S.HasNames S.IsBegun S.Writer.HasTaken S.IsStored I.HasLeft W.HasTaken N.HasTold
-        name.now (found_of found.now) input.old input.new out.old out.new notes.old notes.new) }
+        S.IsStanding S.HasNames S.IsBegun S.Writer.HasTaken S.IsStored S.IsPlaced S.AreApart
+        I.HasLeft W.HasTaken N.HasTold name.now (found_of found.now) input.old input.new out.old out.new notes.old notes.new) }
     ensures fault { IfErr result (IsStoppedAsGiven S.IsOpened S.Reader.HasLeft S.CannotOpen
-        S.CannotList S.Reader.failed S.IsStanding S.HasNames S.AreOne S.IsBegun S.Writer.failed
-        S.Writer.takes_some S.CannotBegin S.CannotStore I.HasLeft I.failed
+        S.CannotList S.Reader.failed S.IsStanding S.HasNames S.AreOne S.IsBegun S.IsPlaced
+        S.Writer.HasTaken S.Writer.failed S.Writer.takes_some S.CannotBegin S.CannotStore
+        S.CannotPlace I.HasLeft I.failed
         (IsStuck W.failed W.takes_some out.old out.new) N.HasTold
         name.now (found_of found.now) input.old input.new notes.old notes.new) }
 {

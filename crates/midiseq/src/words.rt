@@ -101,7 +101,14 @@ for each line of its script that is skipped; and in the order of the run
 `MOMENT port P HEX` for each message that comes to its port P, and
 `MOMENT line LINE` with `ok` or `refused NUMBER NAME` for each command that it
 said. With --list comes the listing at the end: clients, ports, filters, queues
-and subscriptions.
+and subscriptions. --format json prints an object on a line for each line of a
+log, and --format csv a row, below the names of the columns.
+
+With --logs the log of each client is written to a file of the folder DIR, as
+DIR/128.log, while the session runs, in place of being printed at the end: a
+long run takes no memory for its logs. The folder has to be there, and none of
+the files may be a script. They are made anew, or with --append get more behind
+what they have.
 
 With --explain standard error tells of each line that did nothing, whether it
 was skipped or its command refused, with what to do about it; of each line that
@@ -229,6 +236,9 @@ fn run<'a>(alloc: Global) -> Result<Command<'a>, AllocError> {
         .arg(to_end(alloc)?)?
         .arg(dir(alloc))?
         .arg(list(alloc))?
+        .arg(format(alloc))?
+        .arg(logs(alloc)?)?
+        .arg(append(alloc)?)?
         .arg(explain(alloc))?
         .arg(strict(alloc))?
         .arg(scripts(alloc))
@@ -318,6 +328,32 @@ fn list<'a>(alloc: Global) -> Arg<'a> {
         .long("list")
         .action(ArgAction::SetTrue)
         .help("print the listing at the end, too")
+}
+
+fn format<'a>(alloc: Global) -> Arg<'a> {
+    Arg::new(alloc, "format")
+        .long("format")
+        .value_name("FORM")
+        .help("print the logs as text, json (a line each) or csv")
+}
+
+/// The folder of the logs. What is explained is known only when the run is over, and needs all of it.
+fn logs<'a>(alloc: Global) -> Result<Arg<'a>, AllocError> {
+    Arg::new(alloc, "logs")
+        .long("logs")
+        .value_name("DIR")
+        .help("write each log to DIR while it runs, as DIR/128.log")
+        .conflicts_with("explain")?
+        .conflicts_with("strict")?
+        .conflicts_with("format")
+}
+
+fn append<'a>(alloc: Global) -> Result<Arg<'a>, AllocError> {
+    Arg::new(alloc, "append")
+        .long("append")
+        .action(ArgAction::SetTrue)
+        .help("with --logs: behind what the files have already")
+        .requires_arg("logs")
 }
 
 fn explain<'a>(alloc: Global) -> Arg<'a> {

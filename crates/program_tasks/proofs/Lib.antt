@@ -20,3 +20,4 @@ pub mod Lengths
 pub mod AllTaken
 pub mod Diagnosed
 pub mod Absent
+pub mod LogFiles

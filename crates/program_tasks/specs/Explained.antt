@@ -31,6 +31,7 @@ use Rattle.seq_session.specs.Devices.{IsRunOf}
 use Rattle.seq_session.specs.Sessions.{FolderContents, happens, diagnosed_in, lost_in, slips_in, has_port}
 use Rattle.sounding_notes.specs.declared.listing.SoundingNote.{SoundingNote}
 use Rattle.sounding_notes.specs.Sounding.{sounding}
+use Rattle.program_tasks.specs.declared.form_word.Printing.{Printing}
 use Rattle.program_tasks.specs.declared.explanation.Explanation.{Explanation}
 use Rattle.program_tasks.specs.declared.run_answer.RunAnswer.{RunAnswer}
 use Rattle.program_tasks.specs.declared.run_answer.RunAnswer.TheVariants.{Complete, Incomplete}
@@ -291,9 +292,9 @@ module _ {R : Type 0} (IsOpened : List ℕ → R → Type 0) (HasLeft : R → Li
   -- The scripts were read from the files that the words name, the sink took what the session of
   -- just these says, and its explanation is given; no port is recorded.
   pub record IsSessionExplained {W : Type 0} (HasTaken : W → List ℕ → Type 0)
-      (folder : FolderContents) (end : ℕ) (listed : Bool) (words : List ScriptWord)
+      (folder : FolderContents) (end : ℕ) (printing : Printing) (words : List ScriptWord)
       (x : Explanation) (old new : W) : Type 0 where
     pub scripts : List Script
     pub read : AreOfFiles IsOpened HasLeft words scripts
-    pub took : Took HasTaken old (session_text folder end listed scripts) new
+    pub took : Took HasTaken old (session_text printing folder end scripts) new
     pub explained : IsExplanationOf folder end scripts [] x

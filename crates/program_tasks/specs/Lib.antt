@@ -3,6 +3,7 @@ pub mod Program
 pub mod Words
 pub mod Times
 pub mod FolderFiles
+pub mod FormWords
 pub mod LogsPrinted
 pub mod Recording
 pub mod Rows
@@ -16,5 +17,6 @@ pub mod Circles
 pub mod Recorded
 pub mod Faults
 pub mod Grid
+pub mod LogFiles
 pub mod Tasks
 pub mod Subcommands

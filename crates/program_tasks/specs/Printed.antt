@@ -6,7 +6,11 @@ use Rattle.seq_session.specs.declared.session_logs.SessionLogs.{SessionLogs}
 use Rattle.seq_session.specs.declared.source.Script.{Script}
 use Rattle.seq_session.specs.Sessions.{FolderContents, log_of, all_logs, listing_after}
 use Rattle.program_tasks.specs.declared.words.ScriptWord.{ScriptWord}
-use Rattle.program_tasks.specs.LogsPrinted.{headed_log}
+use Rattle.log_forms.specs.Forms.{log_in, head_of}
+use Rattle.log_forms.specs.declared.form.LogForm.{LogForm}
+use Rattle.log_forms.specs.declared.form.LogForm.TheVariants.{Text}
+use Rattle.program_tasks.specs.declared.form_word.Printing.{Printing}
+use Rattle.program_tasks.specs.LogsPrinted.{headed_log, listing_there, listing_where}
 use Rattle.program_tasks.specs.Opened.{AreOfFiles}
 
 -- each client's number and its log
@@ -14,22 +18,40 @@ abbrev pub headed_logs : FolderContents → ℕ → List Script → List ℕ
 headed_logs folder end scripts =
     flat_map (λ s. headed_log s.client (log_of folder end scripts s)) scripts
 
--- and then, where it is asked for, the listing
-abbrev pub session_text : FolderContents → ℕ → Bool → List Script → List ℕ
-session_text folder end false scripts = headed_logs folder end scripts
-session_text folder end true scripts =
+-- the logs in a form, one after another
+abbrev pub formed_logs : LogForm → FolderContents → ℕ → List Script → List ℕ
+formed_logs form folder end scripts =
+    flat_map (λ s. log_in form s.client (log_of folder end scripts s)) scripts
+
+-- what is printed of a session as text: the logs and then, where it is asked for, the listing
+abbrev pub headed_text : Bool → FolderContents → ℕ → List Script → List ℕ
+headed_text false folder end scripts = headed_logs folder end scripts
+headed_text true folder end scripts =
     headed_logs folder end scripts ++ listing_after folder end scripts
+
+-- what is printed of a session in a form
+abbrev pub text_in : LogForm → Bool → FolderContents → ℕ → List Script → List ℕ
+text_in Text listed folder end scripts = headed_text listed folder end scripts
+text_in form listed folder end scripts =
+    head_of form
+    ++ (formed_logs form folder end scripts
+    ++ listing_there form (listing_where listed (listing_after folder end scripts)))
+
+-- what is printed of a session
+abbrev pub session_text : Printing → FolderContents → ℕ → List Script → List ℕ
+session_text printing folder end scripts =
+    text_in printing.form printing.listed folder end scripts
 
 -- The scripts were read from the files that the words name, and the sink took what the session of
 -- just these says.
 pub record IsSessionPrinted {R W : Type 0} (IsOpened : List ℕ → R → Type 0)
     (HasLeft : R → List ℕ → Type 0)
-    (HasTaken : W → List ℕ → Type 0) (folder : FolderContents) (end : ℕ) (listed : Bool)
-    (words : List ScriptWord)
+    (HasTaken : W → List ℕ → Type 0) (folder : FolderContents) (end : ℕ)
+    (printing : Printing) (words : List ScriptWord)
     (old new : W) : Type 0 where
   pub scripts : List Script
   pub read : AreOfFiles IsOpened HasLeft words scripts
-  pub took : Took HasTaken old (session_text folder end listed scripts) new
+  pub took : Took HasTaken old (session_text printing folder end scripts) new
 
 -- The scripts were read from the files that the words name, and the logs and the listing are those
 -- of the session of just these.

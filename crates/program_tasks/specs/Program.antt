@@ -22,7 +22,7 @@ use Rattle.program_tasks.specs.declared.run_answer.RunAnswer.TheVariants.{Comple
 use Rattle.tool_text.specs.declared.fault.ToolFault.{ToolFault}
 use Rattle.tool_text.specs.declared.fault.ToolFault.TheVariants as tool
 use Rattle.program_tasks.specs.declared.program_fault.ProgramFault.{ProgramFault}
-use Rattle.program_tasks.specs.declared.program_fault.ProgramFault.TheVariants.{NotUtf8, NoSubcommand, NotAMoment, NotATime, NotAPort, NotPorts, NotAPpq, NotABpm, NotAClient, NotAScript, TwoScripts, OutIsRead, GoesBack, CannotRead, CannotWrite, OutOfMemory, CannotRecord, Smf, Unreadable}
+use Rattle.program_tasks.specs.declared.program_fault.ProgramFault.TheVariants.{NotUtf8, NoSubcommand, NotAMoment, NotATime, NotAPort, NotPorts, NotAPpq, NotABpm, NotAForm, NotAClient, NotAScript, TwoScripts, OutIsRead, GoesBack, CannotRead, CannotWrite, OutOfMemory, CannotRecord, Smf, Unreadable, LogIsRead, CannotWriteLog}
 
 -- ---- the choice
 
@@ -79,6 +79,8 @@ program_fault_text (NotAPpq word) =
     escaped_text word.now ++ codes " is no number of ticks per quarter note, 1 to 32767"
 program_fault_text (NotABpm word) =
     escaped_text word.now ++ codes " is no number of quarter notes a minute, 4 to 60000000"
+program_fault_text (NotAForm word) =
+    escaped_text word.now ++ codes " is no form of logs (text, json or csv)"
 program_fault_text (NotAClient word) = escaped_text word.now ++ codes " is no client 128 to 191"
 program_fault_text (NotAScript word) =
     escaped_text word.now
@@ -97,6 +99,11 @@ program_fault_text CannotRecord = codes "cannot record"
 program_fault_text (Smf fault) = smf.fault_text fault
 program_fault_text (Unreadable path there) =
     codes "cannot read " ++ (escaped_text path.now ++ unread_text there)
+program_fault_text (LogIsRead folder client) =
+    escaped_text folder.now ++ codes "/" ++ decimal client
+    ++ codes ".log is a file that the session reads"
+program_fault_text (CannotWriteLog folder client) =
+    codes "cannot write " ++ escaped_text folder.now ++ codes "/" ++ decimal client ++ codes ".log"
 
 -- what is printed for the fault of a tool that was given a stream
 abbrev pub told_text : Stream → ToolFault → List ℕ
@@ -115,6 +122,7 @@ is_helped (NotAPort word) = true
 is_helped (NotPorts word) = true
 is_helped (NotAPpq word) = true
 is_helped (NotABpm word) = true
+is_helped (NotAForm word) = true
 is_helped (NotAClient word) = true
 is_helped (NotAScript word) = true
 is_helped (TwoScripts client) = true
@@ -126,6 +134,8 @@ is_helped OutOfMemory = false
 is_helped CannotRecord = false
 is_helped (Smf fault) = false
 is_helped (Unreadable path there) = false
+is_helped (LogIsRead folder client) = true
+is_helped (CannotWriteLog folder client) = false
 
 -- how to ask for help, where that says more
 abbrev pub help_hint : ProgramFault → List ℕ
@@ -162,6 +172,7 @@ exit_status (NotAPort word) = 2
 exit_status (NotPorts word) = 2
 exit_status (NotAPpq word) = 2
 exit_status (NotABpm word) = 2
+exit_status (NotAForm word) = 2
 exit_status (NotAClient word) = 2
 exit_status (NotAScript word) = 2
 exit_status (TwoScripts client) = 2
@@ -173,6 +184,8 @@ exit_status OutOfMemory = 1
 exit_status CannotRecord = 1
 exit_status (Smf fault) = 1
 exit_status (Unreadable path there) = 1
+exit_status (LogIsRead folder client) = 2
+exit_status (CannotWriteLog folder client) = 1
 
 -- ---- how the program ends
 

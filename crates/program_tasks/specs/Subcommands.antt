@@ -15,6 +15,9 @@ use Rattle.program_tasks.specs.Faults.{IsOfRefusal, IsOfScripts, IsOfSharing, Is
 use Rattle.program_tasks.specs.declared.explanation.Explanation.{Explanation}
 use Rattle.program_tasks.specs.declared.run_answer.RunAnswer.{RunAnswer}
 use Rattle.program_tasks.specs.Explained.{are_none, explanation_lines, told_where, run_answer, IsSessionExplained}
+use Rattle.program_tasks.specs.declared.form_word.Printing.{Printing}
+use Rattle.program_tasks.specs.declared.log_folder.LogFolder.{LogFolder}
+use Rattle.program_tasks.specs.LogFiles.{AreLogsApart, IsSessionStreamed, IsOfLogs}
 use Rattle.program_tasks.specs.Opened.{IsFolder}
 use Rattle.program_tasks.specs.declared.answer.CircleAnswer.{CircleAnswer}
 use Rattle.program_tasks.specs.declared.question.CircleQuestion.{CircleQuestion}
@@ -46,25 +49,49 @@ module _ {R : Type 0} (IsOpened : List ℕ → R → Type 0) (HasLeft : R → Li
   -- The session was run, and the sink took its logs and, where it is asked for, the listing.
   pub record IsRunPrinted {W N : Type 0} (HasTaken : W → List ℕ → Type 0)
       (HasTold : N → List ℕ → Type 0)
-      (session : Session) (listed : Bool) (old new : W) (before after : N) : Type 0 where
+      (session : Session) (printing : Printing) (old new : W) (before after : N) : Type 0 where
     pub files : FolderContents
     pub are : AreFilesOf HasTold false (option_map (λ d. d.now) session.dir) before after files
     pub printed :
-        IsSessionPrinted IsOpened HasLeft HasTaken files session.until listed session.scripts.items
-        old new
+        IsSessionPrinted IsOpened HasLeft HasTaken files session.until printing
+        session.scripts.items old new
+
+  -- The session was run, and each client's log was written to its file in a folder, none of which
+  -- is a script. Where it is asked for, the sink took the listing.
+  pub record IsRunStreamed {V W N : Type 0} (IsPlaced : List ℕ → Bool → V → Type 0)
+      (HasWritten : V → List ℕ → Type 0) (AreApart : List ℕ → List ℕ → Type 0)
+      (HasTaken : W → List ℕ → Type 0) (HasTold : N → List ℕ → Type 0)
+      (session : Session) (logs : LogFolder) (listed : Bool) (old new : W)
+      (before after : N) : Type 0 where
+    pub files : FolderContents
+    pub are : AreFilesOf HasTold false (option_map (λ d. d.now) session.dir) before after files
+    pub streamed :
+        IsSessionStreamed IsOpened HasLeft IsPlaced HasWritten HasTaken files session.until logs
+        listed session.scripts.items old new
+    pub apart : AreLogsApart AreApart logs.path.now session.scripts.items session.scripts.items
+
+  -- A log could not be written, once the folder was read.
+  pub record IsStreamingStopped {V N : Type 0} (IsPlaced : List ℕ → Bool → V → Type 0)
+      (HasWritten : V → List ℕ → Type 0) (writer_failed takes_some : V → Bool)
+      (CannotPlace : List ℕ → Type 0) (HasTold : N → List ℕ → Type 0) (session : Session)
+      (logs : LogFolder) (before after : N) (fault : ProgramFault) : Type 0 where
+    pub files : FolderContents
+    pub are : AreFilesOf HasTold false (option_map (λ d. d.now) session.dir) before after files
+    pub why : IsOfLogs IsOpened HasLeft IsPlaced HasWritten writer_failed takes_some CannotPlace
+        files session.until logs session.scripts.items fault
 
   -- The session was run, and the sink took what it takes of a run; what the run did not do was told
   -- behind the files that are left out, and the answer is that of all of this.
   pub record IsRunExplained {W N : Type 0} (HasTaken : W → List ℕ → Type 0)
       (HasTold : N → List ℕ → Type 0)
-      (session : Session) (listed : Bool) (answer : RunAnswer) (old new : W)
+      (session : Session) (printing : Printing) (answer : RunAnswer) (old new : W)
       (before after : N) : Type 0 where
     pub between : N
     pub files : FolderContents
     pub are : AreFilesOf HasTold true (option_map (λ d. d.now) session.dir) before between files
     pub explanation : Explanation
     pub explained :
-        IsSessionExplained IsOpened HasLeft HasTaken files session.until listed
+        IsSessionExplained IsOpened HasLeft HasTaken files session.until printing
         session.scripts.items explanation old new
     pub told : Took HasTold between (explanation_lines session.scripts.items explanation) after
     pub answered : answer ≡ run_answer (are_none are.lost) explanation

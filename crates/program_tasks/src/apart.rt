@@ -36,7 +36,8 @@ pub(crate) fn is_apart<S: FileStore>(
     }
 }
 
-fn is_no_script<S: FileStore>(store: &S, path: &str, scripts: &[ScriptWord<'_>]) -> bool
+/// Whether a path leads to none of these scripts, also by links.
+pub(crate) fn is_no_script<S: FileStore>(store: &S, path: &str, scripts: &[ScriptWord<'_>]) -> bool
     ensures apart { result ≡ true → AreScriptsApart S.AreApart path.now scripts.now }
     ensures one { result ≡ false → IsOneScript S.AreOne path.now scripts.now }
 {

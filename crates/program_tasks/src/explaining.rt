@@ -7,6 +7,7 @@ ghost use Rattle.program_tasks.specs.Faults.{IsOfScripts, IsOfOutput, IsStuck};
 ghost use Rattle.program_tasks.specs.Sessions.{owners};
 
 use crate::explanation::Explanation;
+use crate::form_word::Printing;
 use crate::logs::slices_of;
 use crate::printing::print_texts;
 use crate::program_fault::ProgramFault;
@@ -17,20 +18,20 @@ use file_store::FileStore;
 use seq_session::NamedFiles;
 use std::alloc::Global;
 
-/// Runs the scripts of a session, and prints each client's log and, where `listed` says so, the listing at the end, as
+/// Runs the scripts of a session, and prints each client's log and, where asked for, the listing at the end, as
 /// `print_session` does. It gives what the run did not do.
 pub fn explain_session<'a, S: FileStore, W: Sink>(
     alloc: Global,
     store: &S,
     session: &Session<'a>,
     files: &NamedFiles<'_, '_>,
-    listed: bool,
+    printing: Printing,
     out: &mut W,
 ) -> Result<Explanation, ProgramFault<'a>>
     requires rising { AreRising (owners session.now.scripts.items) }
     requires sound { W.failed out.old ≡ false }
     ensures explained { IfOk result (λ x. IsSessionExplained S.IsOpened S.Reader.HasLeft W.HasTaken
-        files.now session.now.until listed session.now.scripts.items x out.old out.new) }
+        files.now session.now.until printing session.now.scripts.items x out.old out.new) }
     ensures fault { IfErr result (λ e.
         IsOfScripts S.IsOpened S.Reader.HasLeft S.CannotOpen S.Reader.failed
         session.now.scripts.items e
@@ -41,6 +42,6 @@ pub fn explain_session<'a, S: FileStore, W: Sink>(
     let texts = run.logs(alloc)?;
     let logs = slices_of(alloc, texts.as_slice())?;
     let listing = run.log.listing.as_slice();
-    print_texts(alloc, session, logs.as_slice(), listing, listed, out)?;
+    print_texts(alloc, session, logs.as_slice(), listing, printing, out)?;
     Ok(explanation)
 }

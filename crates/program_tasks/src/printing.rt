@@ -4,12 +4,14 @@ ghost use Rattle.std.specs.Prelude.{◌≡◌, ◌⊎◌, false, map, IfErr, OnO
 ghost use Rattle.byte_io.specs.Moved.{Took};
 ghost use Rattle.seq_session.specs.Rising.{AreRising};
 ghost use Rattle.program_tasks.specs.Faults.{IsOfMemory, IsOfScripts, IsOfOutput, IsStuck};
-ghost use Rattle.program_tasks.specs.LogsPrinted.{listing_where, printed_text};
+ghost use Rattle.program_tasks.specs.LogsPrinted.{listing_where, printed_in};
 ghost use Rattle.program_tasks.specs.Printed.{IsSessionPrinted};
 ghost use Rattle.program_tasks.specs.Sessions.{owners};
 
 use crate::choice::STANDARD;
-use crate::logs::{print_logs, slices_of};
+use crate::form_word::Printing;
+use crate::formed::print_in;
+use crate::logs::slices_of;
 use crate::program_fault::ProgramFault;
 use crate::running::log_session;
 use crate::session::Session;
@@ -19,20 +21,20 @@ use seq_session::NamedFiles;
 use std::alloc::Global;
 use tool_text::ToolFault;
 
-/// Runs the scripts of a session, and prints each client's log and, where `listed` says so, the listing at the end.
+/// Runs the scripts of a session, and prints each client's log and, where `printing` says so, the listing at the end.
 /// Before all is read and run nothing is printed.
 pub fn print_session<'a, S: FileStore, W: Sink>(
     alloc: Global,
     store: &S,
     session: &Session<'a>,
     files: &NamedFiles<'_, '_>,
-    listed: bool,
+    printing: Printing,
     out: &mut W,
 ) -> Result<(), ProgramFault<'a>>
     requires rising { AreRising (owners session.now.scripts.items) }
     requires sound { W.failed out.old ≡ false }
     ensures printed { OnOk result (IsSessionPrinted S.IsOpened S.Reader.HasLeft W.HasTaken
-        files.now session.now.until listed session.now.scripts.items out.old out.new) }
+        files.now session.now.until printing session.now.scripts.items out.old out.new) }
     ensures fault { IfErr result (λ e.
         IsOfScripts S.IsOpened S.Reader.HasLeft S.CannotOpen S.Reader.failed
         session.now.scripts.items e
@@ -41,26 +43,28 @@ pub fn print_session<'a, S: FileStore, W: Sink>(
     let made = log_session(alloc, store, session, files)?;
     let logs = slices_of(alloc, made.logs.as_slice())?;
     let listing = made.listing.as_slice();
-    print_texts(alloc, session, logs.as_slice(), listing, listed, out)
+    print_texts(alloc, session, logs.as_slice(), listing, printing, out)
 }
 
-/// Prints the log of each script's client, and the listing where `listed` says so.
+/// Prints the log of each script's client, and the listing where `printing` says so.
 pub(crate) fn print_texts<'a, W: Sink>(
     alloc: Global,
     session: &Session<'a>,
     logs: &[&[u8]],
     listing: &[u8],
-    listed: bool,
+    printing: Printing,
     out: &mut W,
 ) -> Result<(), ProgramFault<'a>>
     requires sound { W.failed out.old ≡ false }
-    ensures printed { OnOk result (Took W.HasTaken out.old (printed_text session.now.scripts.items
-        (map (λ l. l.now) logs.now) (listing_where listed listing.now)) out.new) }
+    ensures printed { OnOk result (Took W.HasTaken out.old (printed_in printing.form
+        session.now.scripts.items (map (λ l. l.now) logs.now)
+        (listing_where printing.listed listing.now)) out.new) }
     ensures fault { IfErr result (λ e. IsOfMemory e
         ⊎ IsOfOutput (IsStuck W.failed W.takes_some out.old out.new) e) }
 {
-    let listing = if listed { Some(listing) } else { None };
-    match print_logs(alloc, session.scripts.as_slice(), logs, listing, out) {
+    let listing = if printing.listed { Some(listing) } else { None };
+    let scripts = session.scripts.as_slice();
+    match print_in(alloc, printing.form, scripts, logs, listing, out) {
         Ok(()) => Ok(()),
         Err(ToolFault::OutOfMemory) => Err(ProgramFault::OutOfMemory),
         Err(_) => Err(ProgramFault::CannotWrite(STANDARD)),

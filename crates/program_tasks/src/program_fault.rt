@@ -31,6 +31,8 @@ pub enum ProgramFault<'a> {
     NotAPpq(&'a str),
     /// The word is no number of quarter notes a minute.
     NotABpm(&'a str),
+    /// The word names no form of logs.
+    NotAForm(&'a str),
     /// The word names no client.
     NotAClient(&'a str),
     /// The word names no client with its script.
@@ -50,6 +52,10 @@ pub enum ProgramFault<'a> {
     Smf(SmfFault),
     /// A path that cannot be read, and what stands there.
     Unreadable { path: &'a str, there: Standing },
+    /// The log of a client in a folder is a script that the session reads.
+    LogIsRead { folder: &'a str, client: u8 },
+    /// The log of a client in a folder could not be begun, or not written to its end.
+    CannotWriteLog { folder: &'a str, client: u8 },
 }
 
 impl<'a> ProgramFault<'a> {
@@ -90,13 +96,16 @@ impl<'a> ProgramFault<'a> {
             | ProgramFault::NotPorts(_)
             | ProgramFault::NotAPpq(_)
             | ProgramFault::NotABpm(_)
+            | ProgramFault::NotAForm(_)
             | ProgramFault::NotAClient(_)
             | ProgramFault::NotAScript(_)
             | ProgramFault::TwoScripts(_)
             | ProgramFault::OutIsRead(_)
+            | ProgramFault::LogIsRead { .. }
             | ProgramFault::GoesBack { .. } => 2,
             ProgramFault::CannotRead(_)
             | ProgramFault::CannotWrite(_)
+            | ProgramFault::CannotWriteLog { .. }
             | ProgramFault::OutOfMemory
             | ProgramFault::CannotRecord
             | ProgramFault::Smf(_)
@@ -117,10 +126,12 @@ impl<'a> ProgramFault<'a> {
                 | ProgramFault::NotPorts(_)
                 | ProgramFault::NotAPpq(_)
                 | ProgramFault::NotABpm(_)
+                | ProgramFault::NotAForm(_)
                 | ProgramFault::NotAClient(_)
                 | ProgramFault::NotAScript(_)
                 | ProgramFault::TwoScripts(_)
                 | ProgramFault::OutIsRead(_)
+                | ProgramFault::LogIsRead { .. }
                 | ProgramFault::GoesBack { .. }
         )
     }
@@ -187,6 +198,10 @@ impl fmt::Display for ProgramFault<'_> {
                     "{word} is no number of quarter notes a minute, 4 to 60000000"
                 )
             }
+            ProgramFault::NotAForm(word) => {
+                let word = Escaped(word);
+                write!(f, "{word} is no form of logs (text, json or csv)")
+            }
             ProgramFault::NotAClient(word) => {
                 let word = Escaped(word);
                 write!(f, "{word} is no client 128 to 191")
@@ -221,6 +236,14 @@ impl fmt::Display for ProgramFault<'_> {
                 let path = Escaped(path);
                 write!(f, "cannot read {path}")?;
                 f.write_str(unread_text(there))
+            }
+            ProgramFault::LogIsRead { folder, client } => {
+                let folder = Escaped(folder);
+                write!(f, "{folder}/{client}.log is a file that the session reads")
+            }
+            ProgramFault::CannotWriteLog { folder, client } => {
+                let folder = Escaped(folder);
+                write!(f, "cannot write {folder}/{client}.log")
             }
         }
     }

@@ -6,14 +6,17 @@ ghost use Rattle.seq_session.specs.Rising.{AreRising};
 ghost use Rattle.byte_io.specs.Moved.{Took};
 ghost use Rattle.program_tasks.specs.Explained.{told_where};
 ghost use Rattle.program_tasks.specs.Faults.{IsOfListing, IsOfScripts, IsOfOutput, IsStuck};
+ghost use Rattle.program_tasks.specs.LogFiles.{IsOfReadLog};
 ghost use Rattle.program_tasks.specs.Sessions.{owners};
-ghost use Rattle.program_tasks.specs.Subcommands.{IsRunPrinted, IsRunExplained, IsCircleAnswered, IsTimeless, IsRunRecorded, IsRecordingStopped};
+ghost use Rattle.program_tasks.specs.Subcommands.{IsRunPrinted, IsRunStreamed, IsStreamingStopped, IsRunExplained, IsCircleAnswered, IsTimeless, IsRunRecorded, IsRecordingStopped};
 
 use crate::answer::CircleAnswer;
 use crate::answering::print_circle;
 use crate::explaining::explain_session;
 use crate::explanation::Explanation;
 use crate::folder::{Folder, named};
+use crate::form_word::Printing;
+use crate::log_folder::LogFolder;
 use crate::notes::Notes;
 use crate::printing::print_session;
 use crate::program_fault::ProgramFault;
@@ -21,25 +24,27 @@ use crate::question::CircleQuestion;
 use crate::recording::{Recording, record_session};
 use crate::run_answer::RunAnswer;
 use crate::session::Session;
+use crate::streaming::stream_session;
 use byte_io::Sink;
 use file_store::FileStore;
 use std::alloc::Global;
 
-/// Runs the scripts of a session, and prints each client's log and, where `listed` says so, the listing at the end.
+/// Runs the scripts of a session, and prints each client's log in a form and, where asked for, the listing at the
+/// end.
 ///
 /// Tells which files of the folder are left out.
 pub fn run<'a, S: FileStore, W: Sink, N: Notes>(
     alloc: Global,
     store: &S,
     session: &Session<'a>,
-    listed: bool,
+    printing: Printing,
     out: &mut W,
     notes: &mut N,
 ) -> Result<(), ProgramFault<'a>>
     requires rising { AreRising (owners session.now.scripts.items) }
     requires sound { W.failed out.old ≡ false }
     ensures printed { OnOk result (IsRunPrinted S.IsOpened S.Reader.HasLeft S.CannotOpen
-        S.Reader.failed S.IsStanding S.HasNames W.HasTaken N.HasTold session.now listed
+        S.Reader.failed S.IsStanding S.HasNames W.HasTaken N.HasTold session.now printing
         out.old out.new notes.old notes.new) }
     ensures fault { IfErr result (λ e.
         IsOfListing S.CannotList (option_map (λ d. d.now) session.now.dir) e
@@ -49,7 +54,40 @@ pub fn run<'a, S: FileStore, W: Sink, N: Notes>(
 {
     let folder = Folder::read(alloc, store, session.dir)?;
     let opened = folder.open(alloc, false, notes)?;
-    print_session(alloc, store, session, &named(&opened), listed, out)
+    print_session(alloc, store, session, &named(&opened), printing, out)
+}
+
+/// Runs the scripts of a session, and writes each client's log to a file while it runs, as `stream_session` does. Where
+/// `listed` says so it prints the listing at the end.
+///
+/// Tells which files of the session's folder are left out.
+pub fn stream<'a, S: FileStore, W: Sink, N: Notes>(
+    alloc: Global,
+    store: &S,
+    session: &Session<'a>,
+    logs: &LogFolder<'a>,
+    listed: bool,
+    out: &mut W,
+    notes: &mut N,
+) -> Result<(), ProgramFault<'a>>
+    requires rising { AreRising (owners session.now.scripts.items) }
+    requires sound { W.failed out.old ≡ false }
+    ensures streamed { OnOk result (IsRunStreamed S.IsOpened S.Reader.HasLeft S.CannotOpen
+        S.Reader.failed S.IsStanding S.HasNames S.IsPlaced S.Writer.HasTaken S.AreApart W.HasTaken
+        N.HasTold session.now logs.now listed out.old out.new notes.old notes.new) }
+    ensures fault { IfErr result (λ e.
+        IsOfListing S.CannotList (option_map (λ d. d.now) session.now.dir) e
+        ⊎ (IsOfReadLog S.AreOne logs.now.path.now session.now.scripts.items e
+        ⊎ (IsOfScripts S.IsOpened S.Reader.HasLeft S.CannotOpen S.Reader.failed
+        session.now.scripts.items e
+        ⊎ (IsStreamingStopped S.IsOpened S.Reader.HasLeft S.CannotOpen S.Reader.failed S.IsStanding
+        S.HasNames S.IsPlaced S.Writer.HasTaken S.Writer.failed S.Writer.takes_some S.CannotPlace
+        N.HasTold session.now logs.now notes.old notes.new e
+        ⊎ IsOfOutput (IsStuck W.failed W.takes_some out.old out.new) e)))) }
+{
+    let folder = Folder::read(alloc, store, session.dir)?;
+    let opened = folder.open(alloc, false, notes)?;
+    stream_session(alloc, store, session, &named(&opened), logs, listed, out)
 }
 
 /// Runs the scripts of a session and prints its logs, as `run` does, and tells which lines did nothing, and why, which
@@ -60,14 +98,14 @@ pub fn explain<'a, S: FileStore, W: Sink, N: Notes>(
     alloc: Global,
     store: &S,
     session: &Session<'a>,
-    listed: bool,
+    printing: Printing,
     out: &mut W,
     notes: &mut N,
 ) -> Result<RunAnswer, ProgramFault<'a>>
     requires rising { AreRising (owners session.now.scripts.items) }
     requires sound { W.failed out.old ≡ false }
     ensures explained { IfOk result (λ answer. IsRunExplained S.IsOpened S.Reader.HasLeft S.CannotOpen
-        S.Reader.failed S.IsStanding S.HasNames W.HasTaken N.HasTold session.now listed answer
+        S.Reader.failed S.IsStanding S.HasNames W.HasTaken N.HasTold session.now printing answer
         out.old out.new notes.old notes.new) }
     ensures fault { IfErr result (λ e.
         IsOfListing S.CannotList (option_map (λ d. d.now) session.now.dir) e
@@ -77,7 +115,7 @@ pub fn explain<'a, S: FileStore, W: Sink, N: Notes>(
 {
     let folder = Folder::read(alloc, store, session.dir)?;
     let opened = folder.open(alloc, true, notes)?;
-    let explanation = explain_session(alloc, store, session, &named(&opened), listed, out)?;
+    let explanation = explain_session(alloc, store, session, &named(&opened), printing, out)?;
     explanation.tell(session, notes);
     Ok(explanation.answer(folder.takes_all(true, &opened)))
 }

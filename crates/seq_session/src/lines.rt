@@ -4,11 +4,12 @@ ghost use Rattle.std.specs.Prelude.{◌≡◌, ◌++◌, Some, OnOk, codes, slic
 ghost use Rattle.std.specs.Fmt.{decimal};
 ghost use Rattle.std.specs.List.{flat_map};
 ghost use Rattle.script_text.specs.Reasons.{reason_text};
+ghost use Rattle.text_forms.specs.Hex.{spaced_hex};
 ghost use Rattle.seq_session.specs.Logs.{skip_line, skips_text, arrival_text, delivery_line, got_line, name_numbered, outcome, below, reply_text, entry_text};
 
 use crate::moment::MomentText;
 use memory::OutOfMemory;
-use midi_wire::Message;
+use midi_wire::{FullBytes, Message, ShortMessage};
 use node_table::{ClientId, PortNo};
 use script_text::{Skip, SkipReason};
 use seq_state::{Arrival, Delivery, LogEntry, Refusal, Reply};
@@ -18,7 +19,7 @@ use text_forms::{push_decimal, push_spaced_line};
 /// What is kept from one line to the next.
 #[derive(Drop)]
 pub(crate) struct Scratch {
-    /// The bytes of the last message.
+    /// The bytes of the last long message.
     bytes: Vec<u8>,
     /// The last moment.
     moment: MomentText,
@@ -81,6 +82,7 @@ fn push_port(text: &mut Vec<u8>, port: PortNo) -> Result<(), OutOfMemory>
 }
 
 /// Adds a message as it came to a port.
+// Most messages are short: their bytes go to the line at once, and their number is known where they do.
 #[inline(always)]
 fn push_came(
     text: &mut Vec<u8>,
@@ -90,11 +92,32 @@ fn push_came(
 ) -> Result<(), OutOfMemory>
     ensures { OnOk result (text.new.items ≡ text.old.items ++ arrival_text port message.now) }
 {
+    push_port(text, port)?;
+    match message.full_bytes() {
+        FullBytes::Short(ShortMessage::Three(status, first, second)) => {
+            push_spaced_line(text, &[status, first, second])
+        }
+        FullBytes::Short(ShortMessage::Two(status, first)) => {
+            push_spaced_line(text, &[status, first])
+        }
+        FullBytes::Short(ShortMessage::One(status)) => push_spaced_line(text, &[status]),
+        FullBytes::Exclusive(_) => push_long(text, scratch, message),
+    }
+}
+
+/// Adds the bytes of a message and the end of the line.
+#[inline(never)]
+fn push_long(
+    text: &mut Vec<u8>,
+    scratch: &mut Scratch,
+    message: &Message,
+) -> Result<(), OutOfMemory>
+    ensures { OnOk result
+        (text.new.items ≡ text.old.items ++ spaced_hex message.now ++ codes "\n") }
+{
     scratch.bytes.clear();
     message.append_to(&mut scratch.bytes)?;
-    push_port(text, port)?;
-    push_spaced_line(text, scratch.bytes.as_slice())?;
-    Ok(())
+    push_spaced_line(text, scratch.bytes.as_slice())
 }
 
 #[inline(always)]

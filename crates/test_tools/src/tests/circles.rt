@@ -28,7 +28,25 @@ fn source(alloc: Global, path: &str, bytes: &[u8]) -> Result<MemSource, DeviceFa
     Ok(source)
 }
 
-/// Files in memory, which are only read, by their paths.
+/// The log that can't be begun, and the one whose second write fails.
+pub(super) const SEALED: &str = "sealed/129.log";
+
+pub(super) const FULL: &str = "full/129.log";
+
+fn log_sink(alloc: Global, path: &str) -> Result<MemSink, DeviceFault>
+    ensures { IfOk result (λ s. s.broken ≡ false) }
+{
+    if path == SEALED {
+        return Err(DeviceFault::Broken);
+    }
+    let mut sink = MemSink::new(alloc, 0)?;
+    if path == FULL {
+        sink.fail_at(1);
+    }
+    Ok(sink)
+}
+
+/// Files in memory by their paths. What is written to them is lost.
 #[derive(Drop)]
 pub(super) struct MemFiles {
     pub(super) alloc: Global,
@@ -57,6 +75,10 @@ impl FileStore for MemFiles {
     ghost IsStored = { λ _ _. Unit {0} };
 
     ghost CannotStore = { λ _. Unit {0} };
+
+    ghost IsPlaced = { λ _ _ _. Unit {0} };
+
+    ghost CannotPlace = { λ _. Unit {0} };
 
     ghost AreOne = { λ _ _. Unit {0} };
 
@@ -96,6 +118,10 @@ impl FileStore for MemFiles {
     }
 
     fn discard(&self, _begun: MemSink) {}
+
+    fn begin_in_place(&self, path: &str, _append: bool) -> Result<MemSink, DeviceFault> {
+        log_sink(self.alloc, path)
+    }
 
     fn is_one(&self, path: &str, other: &str) -> bool {
         path == other

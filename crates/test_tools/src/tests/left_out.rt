@@ -72,6 +72,10 @@ impl FileStore for MemFolder {
 
     ghost CannotStore = { λ _. Unit {0} };
 
+    ghost IsPlaced = { λ _ _ _. Unit {0} };
+
+    ghost CannotPlace = { λ _. Unit {0} };
+
     ghost AreOne = { λ _ _. Unit {0} };
 
     ghost AreApart = { λ _ _. Unit {0} };
@@ -114,6 +118,10 @@ impl FileStore for MemFolder {
     }
 
     fn discard(&self, _begun: MemSink) {}
+
+    fn begin_in_place(&self, _path: &str, _append: bool) -> Result<MemSink, DeviceFault> {
+        Err(DeviceFault::Broken)
+    }
 
     fn is_one(&self, path: &str, other: &str) -> bool {
         path == other

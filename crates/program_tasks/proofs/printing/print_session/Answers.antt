@@ -18,6 +18,6 @@ returns-clause-printed g c =
       scripts = r.scripts;
       read = r.read;
       took = subst (λ text. Took g.W.Sink.HasTaken c.args.out.now text c.print_texts.new.out)
-          (printed_as g.S.FileStore.IsOpened g.S.Reader.Source.HasLeft files until c.args.session.now.scripts.items _ r.scripts r.read logs c.as_slice-listing.result.now c.args.listed listing) took;
+          (printed_as g.S.FileStore.IsOpened g.S.Reader.Source.HasLeft files until c.args.session.now.scripts.items _ r.scripts r.read logs c.as_slice-listing.result.now c.args.printing listing) took;
     })
     c.print_texts.ensures.printed

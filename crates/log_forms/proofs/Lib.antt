@@ -1,0 +1,10 @@
+pub mod Places
+pub mod Cut
+pub mod Runs
+pub mod Joined
+pub mod Hexed
+pub mod Numbers
+pub mod Wholes
+pub mod Composed
+pub mod RunLines
+pub mod MessageBytes

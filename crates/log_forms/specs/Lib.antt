@@ -1,0 +1,9 @@
+pub mod Lines
+pub mod Kinds
+pub mod Entries
+pub mod Json
+pub mod Csv
+pub mod Forms
+pub mod Kept
+pub mod Laws
+pub mod Rows

@@ -1,0 +1,6 @@
+pub mod Counted
+pub mod Stopping
+pub mod Passed
+pub mod Fated
+pub mod Told
+pub mod Lawful
