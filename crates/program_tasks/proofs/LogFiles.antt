@@ -1,5 +1,6 @@
 -- Logs that are begun in a folder and written while their session runs.
-use Rattle.std.proofs.Common.{◌≡◌, ◌⊎◌, ◌+◌, ◌<◌, ℕ, suc, Bool, Option, Some, List, [], ◌∷◌, ◌++◌, ◌∙◌, length, take, get_or, inl, inr, refl, sym, ap, subst, arith}
+use Rattle.std.proofs.Common.{◌≡◌, ◌⊎◌, ◌+◌, ◌<◌, ℕ, suc, Bool, Option, Some, List, [], ◌∷◌, ◌++◌, ◌∙◌, length, take, get_or, Result, Ok, Err, inl, inr, refl, sym, ap, subst, arith}
+use Rattle.std.specs.Prelude.{OnOk}
 use Rattle.std.proofs.lemmas.List.{take_more}
 use Rattle.seq_session.specs.declared.fault.SessionFault.{SessionFault}
 use Rattle.seq_session.specs.declared.fault.SessionFault.TheVariants as session
@@ -83,3 +84,15 @@ module _ {R V : Type 0} (IsOpened : List ℕ → R → Type 0) (HasLeft : R → 
 
     pub stream_stopped : clients sources ≡ owners words → (told : ProgramFault) → StreamStopsAs HasLeft failed HasWritten writer_failed takes_some folder end logs.path.now words sources rests begun stopped told → WhyUnwritten told
     stream_stopped named told s = of_stream s.fault told s.told_as s.readers (subst (λ cs. LogsTell writer_failed takes_some (log_of_fault s.fault) cs stopped) named s.logs) s.cut
+
+-- ---- of the folder that was read before
+
+pub on_both : {T E A B C : Type 0} (r : Result T E) → (A → B → C) → OnOk r A → OnOk r B → OnOk r C
+on_both (Ok x) f a b = f a b
+on_both (Err e) f a b = tt
+
+pub stopped_where : {A B C D E L : Type 0} → (C → D) → A ⊎ (B ⊎ (C ⊎ E)) → L ⊎ (A ⊎ (B ⊎ (D ⊎ E)))
+stopped_where f (inl a) = inr (inl a)
+stopped_where f (inr (inl b)) = inr (inr (inl b))
+stopped_where f (inr (inr (inl c))) = inr (inr (inr (inl (f c))))
+stopped_where f (inr (inr (inr e))) = inr (inr (inr (inr e)))

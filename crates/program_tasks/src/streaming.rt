@@ -51,8 +51,12 @@ pub fn stream_session<'a, S: FileStore, W: Sink>(
         session.now.scripts.items e
         ⊎ IsOfOutput (IsStuck W.failed W.takes_some out.old out.new) e))) }
 {
-    let scripts = session.scripts.as_slice();
-    logs.keep_apart(alloc, store, scripts, scripts)?;
+    logs.keep_apart(
+        alloc,
+        store,
+        session.scripts.as_slice(),
+        session.scripts.as_slice(),
+    )?;
     let listing = write_logs(alloc, store, session, files, logs)?;
     print_listing(listing.as_slice(), listed, out)
 }
