@@ -5,9 +5,11 @@ ghost use Rattle.std.specs.Prelude.{◌≡◌, IfOk, false};
 use super::sessions::SHORT;
 use byte_io::{DeviceFault, MemSink, MemSource};
 use file_store::{FileStore, Standing};
+use log_forms::LogForm;
 use memory::OutOfMemory;
 use program_tasks::{
-    EndWord, Ended, Folder, Notes, ProgramFault, RunAnswer, Session, explain, finish, reasoned,
+    EndWord, Ended, Folder, Notes, Printing, ProgramFault, RunAnswer, Session, explain, finish,
+    reasoned,
 };
 use std::alloc::Global;
 use std::fmt::Display;
@@ -289,7 +291,11 @@ fn answer_of(alloc: Global, told: &Told) -> Result<RunAnswer, Fail> {
     };
     let mut out = sink(alloc)?;
     let mut notes = notes(alloc);
-    match explain(alloc, &store, &session, false, &mut out, &mut notes) {
+    let printing = Printing {
+        form: LogForm::Text,
+        listed: false,
+    };
+    match explain(alloc, &store, &session, printing, &mut out, &mut notes) {
         Ok(answer) => Ok(answer),
         Err(_) => Err("a run")?,
     }
