@@ -45,7 +45,7 @@ pub trait FileStore {
     /// What was written could not be put at this path.
     ghost CannotStore: { List ℕ → Type 0 };
 
-    /// The writer began a file at this path where it stands, which is emptied, or with `true` keeps what it has in front.
+    /// The writer began a file at this path where it stands, which is emptied, or with `true` keeps what it has.
     ghost IsPlaced: { List ℕ → Bool → Self.Writer → Type 0 };
 
     /// No file could be begun where it stands.

@@ -145,8 +145,8 @@ module _ {R W : Type 0} (IsOpened : List ℕ → R → Type 0) (HasLeft : R → 
     (HasNames : List ℕ → List (List ℕ) → Type 0) where
   -- A run of this session has ended so: where it is strict, explained and judged; where it is to
   -- explain, explained; else it was printed.
-  abbrev pub RanAs : {N : Type 0} → (W → List ℕ → Type 0) → (N → List ℕ → Type 0) → Session → Printing →
-      (strict explains : Bool) → W → W → N → N → Ended → Type 0
+  abbrev pub RanAs : {N : Type 0} → (W → List ℕ → Type 0) → (N → List ℕ → Type 0) → Session →
+      Printing → (strict explains : Bool) → W → W → N → N → Ended → Type 0
   RanAs HasTaken HasTold session printing true explains old new before after (Judged answer) =
       IsRunExplained IsOpened HasLeft CannotOpen failed IsStanding HasNames HasTaken HasTold session
       printing answer old new before after
@@ -158,8 +158,8 @@ module _ {R W : Type 0} (IsOpened : List ℕ → R → Type 0) (HasLeft : R → 
       printing old new before after
   RanAs HasTaken HasTold session printing strict explains old new before after _ = ⊥
 
-  -- The session was run and printed in the form of --format, with the listing where --list is given,
-  -- as --strict and --explain say.
+  -- The session was run and printed in the form of --format, with the listing where --list is
+  -- given, as --strict and --explain say.
   pub record PrintsAsGiven {N : Type 0} (HasTaken : W → List ℕ → Type 0)
       (HasTold : N → List ℕ → Type 0) (found : Found) (session : Session)
       (old new : W) (before after : N) (ended : Ended) : Type 0 where

@@ -28,7 +28,8 @@ pub(crate) fn perform<'a, S: FileStore, I: Source, W: Sink, N: Notes>(
     requires out_sound { W.failed out.old ≡ false }
     ensures done { IfOk result (DoesAsGiven S.IsOpened S.Reader.HasLeft S.CannotOpen S.Reader.failed
         S.IsStanding S.HasNames S.IsBegun S.Writer.HasTaken S.IsStored S.IsPlaced S.AreApart
-        I.HasLeft W.HasTaken N.HasTold name.now (found_of found.now) input.old input.new out.old out.new notes.old notes.new) }
+        I.HasLeft W.HasTaken N.HasTold name.now (found_of found.now)
+        input.old input.new out.old out.new notes.old notes.new) }
     ensures fault { IfErr result (IsStoppedAsGiven S.IsOpened S.Reader.HasLeft S.CannotOpen
         S.CannotList S.Reader.failed S.IsStanding S.HasNames S.AreOne S.IsBegun S.IsPlaced
         S.Writer.HasTaken S.Writer.failed S.Writer.takes_some S.CannotBegin S.CannotStore

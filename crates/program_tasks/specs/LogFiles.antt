@@ -143,7 +143,8 @@ module _ {R V : Type 0} (IsOpened : List ℕ → R → Type 0) (HasLeft : R → 
   abbrev pub IsUnwrittenLog : FolderContents → ℕ → LogFolder → List ScriptWord → ℕ → Type 0
   IsUnwrittenLog folder end logs words client =
       CannotPlace (log_path logs.path.now client)
-      ⊎ IsLogStuck IsOpened HasLeft IsPlaced HasWritten failed takes_some folder end logs words client
+      ⊎ IsLogStuck IsOpened HasLeft IsPlaced HasWritten failed takes_some folder end logs words
+      client
 
   -- a log could not be written
   abbrev pub IsOfLogs : FolderContents → ℕ → LogFolder → List ScriptWord → ProgramFault → Type 0
