@@ -1,7 +1,7 @@
 //! What waits to be read.
 
 ghost use Rattle.std.specs.Prelude.{◌≡◌, ◌↔◌, ◌≤◌, ◌<◌, ◌^◌, length, IfOk, OnOk, OnErr, IsErrOf, true, false, if◌then◌else◌};
-ghost use Rattle.cell_pools.specs.Pools.{most_waiting, is_size, empty_pool, taken_at, has_room, is_listening, listening_on, not_listening, with_item, after_offer, after_losses_of, oldest_items, after_take};
+ghost use Rattle.cell_pools.specs.Pools.{most_waiting, is_size, empty_pool, taken_at, has_room, room_in, is_listening, listening_on, not_listening, with_item, after_offer, after_losses_of, oldest_items, after_take};
 
 use crate::fault::PoolFault;
 use crate::listening::Listening;
@@ -132,12 +132,19 @@ impl<T> InPool<T> {
         self.taken_at(moment) < self.size()
     }
 
+    /// For how many items more that come at this moment there is room.
+    pub fn room(&self, moment: u64) -> u32
+        ensures { result ≡ room_in moment self.now }
+    {
+        self.size().saturating_sub(self.taken_at(moment))
+    }
+
     /// Counts as lost those for which there is no room, where so many items come at this moment, before any of them is
     /// offered.
     pub fn lose_beyond(&mut self, moment: u64, count: u64)
         ensures { self.new ≡ after_losses_of moment count self.old }
     {
-        let room = u64::from(self.size().saturating_sub(self.taken_at(moment)));
+        let room = u64::from(self.room(moment));
         self.lost = self.lost.saturating_add(count.saturating_sub(room));
     }
 

@@ -4,7 +4,7 @@ use Rattle.std.specs.Ordering.{nat_cmp}
 use Rattle.std.specs.Coded.{Coded, code_by, coded×, coded_ℕ}
 use Rattle.std.specs.FinMap
 use Rattle.std.specs.FinMap.{FinMap}
-use Rattle.cell_pools.specs.Pools.{coded_pool, is_listening}
+use Rattle.cell_pools.specs.Pools.{coded_pool, is_listening, room_in}
 use Rattle.seq_state.specs.State.{Client, ClientPool, PortInfo, Queue, with_entry}
 use Rattle.seq_state.specs.Codes.{coded_client, coded_arrival}
 
@@ -46,6 +46,11 @@ input_size (Some c) = c.in_size
 abbrev pub waiting : Option ClientPool → ℕ
 waiting None = 0
 waiting (Some p) = length p.waiting
+
+-- how many messages of a moment it has room for beside them
+abbrev pub room_of : ℕ → Option ClientPool → ℕ
+room_of moment None = 0
+room_of moment (Some p) = room_in moment p
 
 -- how many found no room there
 abbrev pub lost_count : Option ClientPool → ℕ

@@ -7,7 +7,7 @@ ghost use Rattle.std.specs.Option.{option_copied, option_map};
 ghost use Rattle.seq_state.specs.Effect.{has_port, has_filter, has_queue, node_caps, port_of, filter_of, queue_of, out_size};
 ghost use Rattle.seq_state.specs.State.{queues_of};
 ghost use Rattle.seq_state.specs.Step.{port_addr, filter_addr};
-ghost use Rattle.seq_clients.specs.Roster.{nobody, input_size, waiting, lost_count, listens, NoneShared, SomeShared};
+ghost use Rattle.seq_clients.specs.Roster.{nobody, input_size, waiting, room_of, lost_count, listens, NoneShared, SomeShared};
 
 use crate::body::NodeBody;
 use crate::queue::Queue;
@@ -204,6 +204,17 @@ impl Clients {
     {
         match self.rows.get(client) {
             Some(row) => row.pool.waiting(),
+            None => 0,
+        }
+    }
+
+    /// For how many messages of a moment there is room in the client's input pool beside what waits there, or beside
+    /// what came at that moment where the client listens; 0 where it is not open.
+    pub fn room(&self, client: ClientId, moment: u64) -> u32
+        ensures { result ≡ room_of moment (get self.now.pools client) }
+    {
+        match self.rows.get(client) {
+            Some(row) => row.pool.room(moment),
             None => 0,
         }
     }

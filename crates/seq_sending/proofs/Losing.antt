@@ -9,10 +9,11 @@ use Rattle.patch_graph.specs.declared.edge.Edge.{Edge}
 use Rattle.seq_state.specs.declared.log.Delivery.{Delivery}
 use Rattle.seq_state.specs.State.{Client}
 use Rattle.seq_state.specs.Step.{pool_has_room, pools_after, copies_with_room}
+use Rattle.seq_clients.specs.Roster.{room_of}
 use Rattle.seq_sending.specs.Carrying.{copies_onward}
 use Rattle.seq_sending.specs.KeptCounts.{AreCounts}
 use Rattle.seq_sending.proofs.CopyCounts.{count_law}
-use Rattle.seq_sending.specs.Rooms.{AreAt, room_of, for_client, copies_for, with_losses}
+use Rattle.seq_sending.specs.Rooms.{AreAt, for_client, copies_for, with_losses}
 use Rattle.seq_sending.proofs.OneMoment.{onward-at}
 use Rattle.seq_sending.proofs.Rooms.{Pools, firsts, has-room, losses_law}
 use Rattle.std.specs.Prelude.{nat_lt, slice_index}

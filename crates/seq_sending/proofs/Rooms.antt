@@ -19,7 +19,8 @@ use Rattle.seq_state.specs.Step.{arrival, pool_has_room, offer, pools_after, cop
 use Rattle.seq_state.proofs.Effects.{get-put}
 use Rattle.seq_state.proofs.Lists.{both_left, both_right}
 use Rattle.seq_state.proofs.Settling.{offered-append, delivered-append}
-use Rattle.seq_sending.specs.Rooms.{AreAt, room_of, for_client, copies_for, so_many_more, with_arrivals, after_all, pool_after, with_losses}
+use Rattle.seq_clients.specs.Roster.{room_of}
+use Rattle.seq_sending.specs.Rooms.{AreAt, for_client, copies_for, so_many_more, with_arrivals, after_all, pool_after, with_losses}
 use Rattle.seq_sending.specs.Laws.{EachPoolLaw, FirstLaw, LossesLaw, CutLaw, OnwardLaw}
 use Rattle.seq_sending.proofs.OneMoment.{kept-at}
 

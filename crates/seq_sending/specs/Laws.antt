@@ -8,8 +8,9 @@ use Rattle.patch_graph.specs.declared.edge.Edge.{Edge}
 use Rattle.seq_state.specs.declared.log.Delivery.{Delivery}
 use Rattle.seq_state.specs.State.{Client, ClientPool}
 use Rattle.seq_state.specs.Step.{pools_after, copies_with_room}
+use Rattle.seq_clients.specs.Roster.{room_of}
 use Rattle.seq_sending.specs.Carrying.{copies_onward}
-use Rattle.seq_sending.specs.Rooms.{AreAt, room_of, for_client, copies_for, pool_after, with_losses}
+use Rattle.seq_sending.specs.Rooms.{AreAt, for_client, copies_for, pool_after, with_losses}
 use Rattle.seq_sending.specs.Counts.{ways_for}
 use Rattle.seq_sending.specs.Classes.{way_class}
 

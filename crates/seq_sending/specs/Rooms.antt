@@ -13,11 +13,6 @@ use Rattle.seq_state.specs.Step.{arrival}
 abbrev pub AreAt : ℕ → List Delivery → Type 0
 AreAt moment ds = list_all (λ d. d.moment == moment) ds ≡ true
 
--- how many messages more a client's input pool has room for at a moment, none where it is not there
-abbrev pub room_of : ℕ → Option ClientPool → ℕ
-room_of moment None = 0
-room_of moment (Some p) = room_in moment p
-
 -- the copies for a client
 abbrev pub for_client : ℕ → List Delivery → List Delivery
 for_client c ds = filter (λ d. d.target.client == c) ds

@@ -2,8 +2,8 @@
 
 ghost use Rattle.std.specs.Prelude.{◌≡◌, ℕ, nat_lt, slice_index, IfOk};
 ghost use Rattle.std.specs.FinMap.{get};
-ghost use Rattle.way_fates.specs.Fates.{told_room};
-ghost use Rattle.way_fates.specs.Kept.{one_less, AreToldRooms};
+ghost use Rattle.seq_clients.specs.Roster.{room_of};
+ghost use Rattle.way_fates.specs.Kept.{one_less, AreRooms};
 
 use memory::OutOfMemory;
 use node_table::{ClientId, LAST_CLIENT};
@@ -32,29 +32,13 @@ impl Model for Rooms {
     ghost invariant = { λ r. length r.left.items ≡ last_client + 1 };
 }
 
-/// The room in a client's input pool, by what the clients tell of it.
-fn told_room(clients: &Clients, client: ClientId, moment: u64) -> u32
-    ensures { let r = clients.now in
-        result ≡ told_room moment (get r.clients client) (get r.pools client) }
-{
-    if !clients.has_room(client, moment) {
-        return 0;
-    }
-    let size = clients.in_size(client);
-    if clients.is_listening(client) {
-        return size;
-    }
-    size.saturating_sub(clients.waiting(client))
-}
-
-/// The same of a number, which may be no client's.
+/// The room in the input pool of the client with a number, which may be no client's.
 fn room_of_number(clients: &Clients, number: u8, moment: u64) -> u32
-    ensures { let r = clients.now in
-        result ≡ told_room moment (get r.clients number) (get r.pools number) }
+    ensures { result ≡ room_of moment (get clients.now.pools number) }
 {
     clients.pools_are_of_clients();
     match ClientId::new(number) {
-        Some(client) => told_room(clients, client, moment),
+        Some(client) => clients.room(client, moment),
         None => 0,
     }
 }
@@ -62,7 +46,7 @@ fn room_of_number(clients: &Clients, number: u8, moment: u64) -> u32
 impl Rooms {
     /// The rooms at a moment.
     pub(crate) fn new(alloc: Global, clients: &Clients, moment: u64) -> Result<Rooms, OutOfMemory>
-        ensures { IfOk result (AreToldRooms moment clients.now) }
+        ensures { IfOk result (AreRooms moment clients.now.pools) }
     {
         clients.pools_are_of_clients();
         let mut left = Vec::new(alloc);
