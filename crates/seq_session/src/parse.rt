@@ -27,8 +27,8 @@ pub fn parse_script(
     script_text::parse_script(alloc, client, text, files.names(), until)
 }
 
-/// The readings of all scripts.
-pub(crate) fn parse_all(
+/// The readings of the scripts of a session that has these files and ends at `until`.
+pub fn parse_all(
     alloc: Global,
     scripts: &[Script],
     files: &NamedFiles<'_, '_>,

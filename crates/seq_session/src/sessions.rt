@@ -20,6 +20,7 @@ use crate::merged::Merged;
 use crate::merging::merge;
 use crate::named_files::NamedFiles;
 use crate::parse::parse_all;
+use crate::progress::Progress;
 use crate::reading::read_all;
 use crate::session_logs::SessionLogs;
 use crate::session_run::SessionRun;
@@ -66,17 +67,18 @@ pub fn log_sessions<'f, 'b, R: Source, A: Agenda + Drop>(
 }
 
 /// The same as `log_sessions`, but that the logs, in the order of the scripts, are written to devices while the session
-/// runs, many lines at once, and only the listing is kept for the end.
+/// runs, many lines at once, and only the listing is kept for the end. `progress` is told of each input, and of the end.
 ///
 /// The numbers of the clients rise, `logs` are as many as the scripts, no device has failed, and the agenda is empty.
 /// All scripts are read before anything is written. A sink that finds no memory has failed: that is `Write`.
-pub fn stream_sessions<'f, 'b, R: Source, W: Sink, A: Agenda + Drop>(
+pub fn stream_sessions<'f, 'b, R: Source, W: Sink, A: Agenda + Drop, P: Progress>(
     alloc: Global,
     scripts: &mut [ScriptSource<R>],
     files: &NamedFiles<'f, 'b>,
     agenda: A,
     until: u64,
     logs: &mut [W],
+    progress: &mut P,
 ) -> Result<Items<u8>, SessionFault>
     requires rising { AreRising (clients scripts.old) }
     requires as_many { length logs.old ≡ length scripts.old }
@@ -105,7 +107,15 @@ pub fn stream_sessions<'f, 'b, R: Source, W: Sink, A: Agenda + Drop>(
 {
     let mut told = Vec::new(alloc);
     read_all(alloc, scripts, &mut told)?;
-    stream_told(alloc, told.as_slice(), files, agenda, until, logs)
+    stream_told(
+        alloc,
+        told.as_slice(),
+        files,
+        agenda,
+        until,
+        logs,
+        progress,
+    )
 }
 
 /// The same as `log_sessions`, but that the logs, in the order of the scripts, and then the listing are written to
@@ -233,13 +243,14 @@ fn log_told<'f, 'b, A: Agenda + Drop>(
 }
 
 /// Runs the scripts, and writes their logs on the way.
-fn stream_told<'f, 'b, W: Sink, A: Agenda + Drop>(
+fn stream_told<'f, 'b, W: Sink, A: Agenda + Drop, P: Progress>(
     alloc: Global,
     scripts: &[Script],
     files: &NamedFiles<'f, 'b>,
     agenda: A,
     until: u64,
     logs: &mut [W],
+    progress: &mut P,
 ) -> Result<Items<u8>, SessionFault>
     requires rising { AreRising (script_clients scripts.now) }
     requires as_many { length logs.old ≡ length scripts.now }
@@ -266,6 +277,7 @@ fn stream_told<'f, 'b, W: Sink, A: Agenda + Drop>(
         agenda,
         until,
         logs,
+        progress,
     )
 }
 

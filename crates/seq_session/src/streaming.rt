@@ -17,6 +17,7 @@ use crate::lines::Scratch;
 use crate::log::{Seating, push_all_delivered, push_out, started};
 use crate::merged::Merged;
 use crate::named_files::NamedFiles;
+use crate::progress::Progress;
 use crate::source::Script;
 use crate::writing::write_logs;
 use agenda_heap::Agenda;
@@ -68,11 +69,12 @@ fn are_long(texts: &[Vec<u8>]) -> bool {
 }
 
 /// Takes an input, and adds what it gives to the texts.
-fn push_turn<A: Agenda>(
+fn push_turn<A: Agenda, P: Progress>(
     engine: &mut Engine<'_, '_, A>,
     seating: &Seating<'_>,
     texts: &mut Vec<Vec<u8>>,
     scratch: &mut Scratch,
+    progress: &mut P,
     index: u64,
     input: &Input,
 ) -> Result<(), OutOfMemory>
@@ -92,15 +94,17 @@ fn push_turn<A: Agenda>(
     let Ok(out) = engine.step(input) else {
         return Err(OutOfMemory);
     };
+    progress.advance(input.moment, out.delivered.len());
     push_out(seating, texts, scratch, index, input, &out)
 }
 
 /// Settles to the last moment, and adds what came to the texts.
-fn push_last<A: Agenda>(
+fn push_last<A: Agenda, P: Progress>(
     engine: &mut Engine<'_, '_, A>,
     seating: &Seating<'_>,
     texts: &mut Vec<Vec<u8>>,
     scratch: &mut Scratch,
+    progress: &mut P,
     until: u64,
 ) -> Result<(), OutOfMemory>
     requires { engine.old.moment ≤ until }
@@ -115,6 +119,7 @@ fn push_last<A: Agenda>(
     let Ok(last) = engine.settle(until) else {
         return Err(OutOfMemory);
     };
+    progress.advance(until, last.len());
     push_all_delivered(seating, texts, scratch, last.as_slice())
 }
 
@@ -145,7 +150,7 @@ fn flush<W: Sink>(
 
 /// Takes all inputs, in order, and then settles to the last moment. As soon as the texts are long they are written, and
 /// at the end. Before, the skipped lines were written.
-fn stream_turns<W: Sink, A: Agenda>(
+fn stream_turns<W: Sink, A: Agenda, P: Progress>(
     engine: &mut Engine<'_, '_, A>,
     seating: &Seating<'_>,
     texts: &mut Vec<Vec<u8>>,
@@ -154,6 +159,7 @@ fn stream_turns<W: Sink, A: Agenda>(
     inputs: &[Input],
     until: u64,
     logs: &mut [W],
+    progress: &mut P,
 ) -> Result<(), SessionFault>
     requires timed { IsTimed inputs.now until }
     requires begun { engine.old ≡ seen_at_start engine.old.files }
@@ -180,18 +186,26 @@ fn stream_turns<W: Sink, A: Agenda>(
     ensures blamed { IfSome (log_blamed result) (λ k. IsAmong k (script_clients scripts.now)) }
 {
     for (index, input) in inputs.iter().enumerate() {
-        push_turn(engine, seating, texts, scratch, index as u64, input)?;
+        push_turn(
+            engine,
+            seating,
+            texts,
+            scratch,
+            progress,
+            index as u64,
+            input,
+        )?;
         if are_long(texts.as_slice()) {
             flush(scripts, logs, texts.as_mut_slice())?;
         }
     }
-    push_last(engine, seating, texts, scratch, until)?;
+    push_last(engine, seating, texts, scratch, progress, until)?;
     flush(scripts, logs, texts.as_mut_slice())
 }
 
 /// Writes the skipped lines, and then what the inputs give, and makes the listing at the end.
 // The engine is lent, so that it is dropped in one place and not wherever memory is refused.
-fn stream_run<W: Sink, A: Agenda>(
+fn stream_run<W: Sink, A: Agenda, P: Progress>(
     alloc: Global,
     engine: &mut Engine<'_, '_, A>,
     scripts: &[Script],
@@ -199,6 +213,7 @@ fn stream_run<W: Sink, A: Agenda>(
     merged: &Merged,
     until: u64,
     logs: &mut [W],
+    progress: &mut P,
 ) -> Result<Items<u8>, SessionFault>
     requires clients { clients_read reads.now ≡ script_clients scripts.now }
     requires timed { IsTimed merged.now.inputs until }
@@ -234,6 +249,7 @@ fn stream_run<W: Sink, A: Agenda>(
         inputs,
         until,
         logs,
+        progress,
     )?;
     match engine.listing() {
         Ok(listing) => Ok(Items::new(listing)),
@@ -243,7 +259,7 @@ fn stream_run<W: Sink, A: Agenda>(
 
 /// Runs the inputs of a session up to `until`, writes what each gives to the logs, many lines at once, and makes the
 /// listing at the end.
-pub(crate) fn stream_merged<'f, 'b, W: Sink, A: Agenda + Drop>(
+pub(crate) fn stream_merged<'f, 'b, W: Sink, A: Agenda + Drop, P: Progress>(
     alloc: Global,
     scripts: &[Script],
     reads: &[ScriptRead],
@@ -252,6 +268,7 @@ pub(crate) fn stream_merged<'f, 'b, W: Sink, A: Agenda + Drop>(
     agenda: A,
     until: u64,
     logs: &mut [W],
+    progress: &mut P,
 ) -> Result<Items<u8>, SessionFault>
     requires clients { clients_read reads.now ≡ script_clients scripts.now }
     requires timed { IsTimed merged.now.inputs until }
@@ -272,5 +289,14 @@ pub(crate) fn stream_merged<'f, 'b, W: Sink, A: Agenda + Drop>(
     ensures blamed { IfSome (log_blamed result) (λ k. IsAmong k (script_clients scripts.now)) }
 {
     let mut engine = Engine::new(alloc, files.files(), agenda);
-    stream_run(alloc, &mut engine, scripts, reads, merged, until, logs)
+    stream_run(
+        alloc,
+        &mut engine,
+        scripts,
+        reads,
+        merged,
+        until,
+        logs,
+        progress,
+    )
 }

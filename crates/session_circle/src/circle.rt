@@ -1,16 +1,16 @@
 //! The circle round a client, from the scripts of a session.
 
-ghost use Rattle.std.specs.Prelude.{◌≡◌, ◌≢◌, [], map, IfOk};
+ghost use Rattle.std.specs.Prelude.{◌≡◌, ◌≢◌, [], IfOk};
 ghost use Rattle.seq_circle.specs.Least.{is_member, IsLeastCircle, NoneIsShut, places_where, opens_circle, reaches_out};
 ghost use Rattle.seq_session.specs.Merging.{inputs_of, lines_of, merge_of, AreSorted};
-ghost use Rattle.seq_session.specs.Sessions.{script_reading, session};
+ghost use Rattle.seq_session.specs.Sessions.{session};
 ghost use Rattle.session_circle.specs.Found.{IsFoundAmong};
 ghost use Rattle.session_circle.specs.Laws.{NoScriptMatters, NoByteChanges, AreOutside};
 
 use memory::OutOfMemory;
 use node_table::ClientId;
 use seq_circle::{Circle, circle_of};
-use seq_session::{Merged, NamedFiles, Script, ScriptRead, merge, parse_script};
+use seq_session::{Merged, NamedFiles, Script, ScriptRead, merge, parse_all};
 use std::alloc::Global;
 
 /// The least circle round a client in a session.
@@ -20,22 +20,6 @@ pub struct SessionCircle {
     pub merged: Merged,
     /// The circle, with places among these inputs.
     pub circle: Circle,
-}
-
-/// The readings of all scripts.
-pub(crate) fn readings(
-    alloc: Global,
-    scripts: &[Script],
-    files: &NamedFiles<'_, '_>,
-    until: u64,
-) -> Result<Vec<ScriptRead>, OutOfMemory>
-    ensures { IfOk result (λ rs. rs.items ≡ map (script_reading files.now until) scripts.now) }
-{
-    let mut reads = Vec::new(alloc);
-    for one in scripts {
-        reads.push(parse_script(alloc, one.client, one.text.as_slice(), files, until)?)?;
-    }
-    Ok(reads)
 }
 
 /// The least circle round a client in the session of these readings.
@@ -88,6 +72,6 @@ pub fn circle_of_scripts(
     ensures open { IfOk result (λ c. c.circle.openings.items ≢ []
         → NoneIsShut owner c.merged.inputs) }
 {
-    let reads = readings(alloc, scripts, files, until)?;
+    let reads = parse_all(alloc, scripts, files, until)?;
     circle_of_readings(alloc, owner, reads.as_slice())
 }

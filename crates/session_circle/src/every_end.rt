@@ -4,11 +4,11 @@ ghost use Rattle.std.specs.Prelude.{◌≡◌, IfOk};
 ghost use Rattle.session_circle.specs.EveryEnd.{line_back, first_back, AreForward};
 ghost use Rattle.session_circle.specs.Found.{IsForEveryEnd, AreForEveryEnd, IsToldForEveryEnd};
 
-use crate::circle::{SessionCircle, circle_of_readings, readings};
+use crate::circle::{SessionCircle, circle_of_readings};
 use crate::table::{SessionCircles, circles_of_readings};
 use memory::OutOfMemory;
 use node_table::ClientId;
-use seq_session::{NamedFiles, Script, ScriptRead, Skip, SkipReason};
+use seq_session::{NamedFiles, Script, ScriptRead, Skip, SkipReason, parse_all};
 use std::alloc::Global;
 
 /// The greatest end of a run, in nanoseconds: no line is past it.
@@ -57,7 +57,7 @@ fn readings_forward(
     ensures { IfOk result (IsToldForEveryEnd files.now scripts.now
         (λ reads. AreForward files.now scripts.now reads.items)) }
 {
-    let reads = readings(alloc, scripts, files, NO_END)?;
+    let reads = parse_all(alloc, scripts, files, NO_END)?;
     match first_back(reads.as_slice()) {
         Some((client, line)) => Ok(EveryEnd::GoesBack { client, line }),
         None => Ok(EveryEnd::Found(reads)),

@@ -6,11 +6,10 @@ ghost use Rattle.seq_session.specs.Merging.{inputs_of, lines_of, merge_of, AreSo
 ghost use Rattle.seq_session.specs.Sessions.{session};
 ghost use Rattle.session_circle.specs.Found.{AreFoundAmong, AreCirclesOf};
 
-use crate::circle::readings;
 use memory::OutOfMemory;
 use node_table::ClientId;
 use seq_circle::{Circle, circle_among, places_that_matter};
-use seq_session::{Merged, NamedFiles, Script, ScriptRead, merge};
+use seq_session::{Merged, NamedFiles, Script, ScriptRead, merge, parse_all};
 use seq_state::Input;
 use std::alloc::Global;
 
@@ -79,7 +78,7 @@ pub fn circles_of_scripts(
     ensures circles { IfOk result (λ s.
         AreCirclesOf files.now until scripts.now s.circles.items) }
 {
-    let reads = readings(alloc, scripts, files, until)?;
+    let reads = parse_all(alloc, scripts, files, until)?;
     circles_of_readings(alloc, scripts, reads.as_slice())
 }
 

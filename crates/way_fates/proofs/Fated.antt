@@ -10,8 +10,8 @@ use Rattle.patch_graph.specs.Cursor.{at_port}
 use Rattle.seq_state.specs.State.{Client}
 use Rattle.seq_state.specs.Copies.{filter_at, passed_by}
 use Rattle.seq_clients.specs.Roster.{input_size}
-use Rattle.way_fates.specs.Fates.{stop_at, stopped_at, stop_in, end_client}
-use Rattle.way_fates.specs.Kept.{one_less, fate_with, fate_by, rooms_past, fates_by}
+use Rattle.way_fates.specs.Fates.{stopped_at}
+use Rattle.way_fates.specs.Kept.{one_less, end_client, fate_with, fate_by, rooms_past, fates_by}
 use Rattle.way_fates.specs.declared.fate.Fate.{Fate}
 use Rattle.way_fates.specs.declared.stop.Stop.{Stop}
 use Rattle.way_fates.specs.declared.fate.Fate.TheVariants.{Stopped, Arrives, Lost}
@@ -81,23 +81,3 @@ module _ (clients : FinMap nat_cmp Client) (message : List ℕ) where
   fated-all most turn ways rooms left all end so =
       let k : most - turn ≡ 0 = omega arith in
       sym (append-nil ways) ∙ ap (λ n. ways ++ take n (fates_by clients message rooms left)) (sym k) ∙ so
-
--- ---- the stops alone
-
-module _ (clients : FinMap nat_cmp Client) where
-  pub stop-alone : (nodes : List Addr) (m : List ℕ) (end : Fate) → stop_in end ≡ None → stop_in (unwrap_or (stopped_at clients nodes m) end) ≡ stopped_at clients nodes m
-  stop-alone [] m end e = e
-  stop-alone (a ∷ nodes) m end e = go (λ x. stop-alone nodes x end e) (stop_at (filter_at clients a.client a.node) m) (passed_by (filter_at clients a.client a.node) m)
-    where
-      go : ((x : List ℕ) → stop_in (unwrap_or (stopped_at clients nodes x) end) ≡ stopped_at clients nodes x) → (s : Option Stop) (o : Option (List ℕ)) →
-          stop_in (unwrap_or (option_or (option_map (Stopped a) s) (option_and_then (stopped_at clients nodes) o)) end) ≡ option_or (option_map (Stopped a) s) (option_and_then (stopped_at clients nodes) o)
-      go further (Some why) o = refl
-      go further None None = e
-      go further None (Some x) = further x
-
-  pub no-stop : (message rooms : List ℕ) (client : ℕ) → stop_in (fate_with clients message rooms client) ≡ None
-  no-stop message rooms client = go (nat_lt 0 (slice_index rooms client))
-    where
-      go : (b : Bool) → stop_in (cond b Arrives (Lost (input_size (get clients client)))) ≡ None
-      go true = refl
-      go false = refl

@@ -27,7 +27,7 @@ use Rattle.way_fates.specs.declared.stop.Stop.{Stop}
 use Rattle.way_fates.specs.declared.stop.Stop.TheVariants as stop
 use Rattle.way_fates.specs.declared.fate.Fate.{Fate}
 use Rattle.way_fates.specs.declared.fate.Fate.TheVariants.{Stopped, Arrives, Lost}
-use Rattle.way_fates.proofs.Told.{stopped-copy}
+use Rattle.way_fates.proofs.Roomed.{stopped-copy}
 
 -- ---- the fate of one way
 

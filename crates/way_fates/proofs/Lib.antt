@@ -2,5 +2,5 @@ pub mod Counted
 pub mod Stopping
 pub mod Passed
 pub mod Fated
-pub mod Told
+pub mod Roomed
 pub mod Lawful

@@ -1,20 +1,17 @@
 -- Definition: What becomes of a message on each way from a port.
-use Rattle.std.specs.Prelude.{◌≡◌, ℕ, ◌-◌, ◌≤◌, ◌⊎◌, if◌then◌else◌, List, [], ◌∷◌, Option, Some, None, unwrap_or}
+use Rattle.std.specs.Prelude.{ℕ, if◌then◌else◌, List, [], ◌∷◌, Option, Some, None, unwrap_or}
 use Rattle.std.specs.Option.{option_and_then, option_map, option_or, option_to_list}
 use Rattle.std.specs.Ordering.{nat_cmp}
 use Rattle.std.specs.FinMap
 use Rattle.std.specs.FinMap.{FinMap}
-use Rattle.cell_pools.specs.Pools.{came_at}
-use Rattle.cell_pools.specs.declared.listening.Listening.{Listening}
 use Rattle.node_table.specs.declared.number.Addr.{Addr}
 use Rattle.patch_graph.specs.declared.edge.Edge.{Edge}
 use Rattle.patch_graph.specs.Paths.{paths, end_of, nodes_of}
 use Rattle.seq_state.specs.declared.log.Delivery.{Delivery}
-use Rattle.seq_state.specs.State.{Client, ClientPool, FilterInfo}
+use Rattle.seq_state.specs.State.{Client, FilterInfo}
 use Rattle.seq_state.specs.Copies.{filter_at, passed_by, copy_on_path, copy}
 use Rattle.seq_state.specs.Step.{pool_has_room, pools_after}
-use Rattle.seq_state.specs.Laws.{pool_size, in_size}
-use Rattle.seq_clients.specs.Roster.{Roster, input_size, waiting, listens}
+use Rattle.seq_clients.specs.Roster.{Roster, input_size}
 use Rattle.way_fates.specs.Stops.{stop_by}
 use Rattle.way_fates.specs.declared.stop.Stop.{Stop}
 use Rattle.way_fates.specs.declared.fate.Fate.{Fate}
@@ -74,50 +71,3 @@ fates_on roster moment source message (path ∷ paths) =
 abbrev pub fates : Roster → List Edge → ℕ → Addr → List ℕ → List WayFate
 fates roster edges moment source message =
     fates_on roster moment source message (paths edges source)
-
--- ---- what is told of the room in pools
-
--- the room in a client's pool by its size and by what waits in it, where there is any
-abbrev pub told_room : ℕ → Option Client → Option ClientPool → ℕ
-told_room moment client pool =
-    if pool_has_room moment pool
-    then (if listens pool then input_size client else input_size client - waiting pool) else 0
-
--- nothing has come at this moment, or as much as may
-abbrev pub NoneOrAllCame : ℕ → ℕ → Listening → Type 0
-NoneOrAllCame moment size l = (came_at moment l ≡ 0) ⊎ (size ≤ came_at moment l)
-
--- that is the room: the pool has the size that it was opened with, and where the client listens,
--- nothing has come at this moment, or as much as may
-pub record RoomIsTold (moment : ℕ) (roster : Roster) (client : ℕ) : Type 0 where
-  pub size : pool_size (FinMap.get roster.pools client) ≡ in_size (FinMap.get roster.clients client)
-  pub heard : (p : ClientPool) (l : Listening) → FinMap.get roster.pools client ≡ Some p
-      → p.listening ≡ Some l → NoneOrAllCame moment p.size l
-
--- ---- what is told of a way
-
--- where a message is stopped, if it is
-abbrev pub stop_in : Fate → Option Fate
-stop_in (Stopped filter why) = Some (Stopped filter why)
-stop_in _ = None
-
--- the client at the end of a way
-abbrev pub end_client : List Addr → ℕ
-end_client [] = 0
-end_client (node ∷ []) = node.client
-end_client (node ∷ next ∷ nodes) = end_client (next ∷ nodes)
-
--- a way and its fate are told as they are meant: by which filter a message is stopped always, and
--- whether there is room where the room is told
-pub record IsTold (moment : ℕ) (roster : Roster) (told meant : WayFate) : Type 0 where
-  pub route : told.route ≡ meant.route
-  pub stop : stop_in told.fate ≡ stop_in meant.fate
-  pub fate : RoomIsTold moment roster (end_client meant.route) → told.fate ≡ meant.fate
-
--- so are as many ways
-abbrev pub AreTold : ℕ → Roster → List WayFate → List WayFate → Type 0
-AreTold moment roster [] [] = Unit {0}
-AreTold moment roster [] (meant ∷ more) = ⊥
-AreTold moment roster (told ∷ ways) [] = ⊥
-AreTold moment roster (told ∷ ways) (meant ∷ more) =
-    IsTold moment roster told meant × AreTold moment roster ways more

@@ -4,26 +4,31 @@ use Rattle.std.specs.Ordering.{nat_cmp}
 use Rattle.std.specs.FinMap
 use Rattle.std.specs.FinMap.{FinMap}
 use Rattle.node_table.specs.declared.number.Addr.{Addr}
-use Rattle.seq_state.specs.State.{Client}
-use Rattle.seq_clients.specs.Roster.{Roster, input_size}
-use Rattle.way_fates.specs.Fates.{stopped_at, told_room, end_client}
+use Rattle.seq_state.specs.State.{Client, ClientPool}
+use Rattle.seq_clients.specs.Roster.{input_size, room_of}
+use Rattle.way_fates.specs.Fates.{stopped_at}
 use Rattle.way_fates.specs.declared.fate.Fate.{Fate}
 use Rattle.way_fates.specs.declared.fate.Fate.TheVariants.{Arrives, Lost}
 use Rattle.way_fates.specs.declared.fate.WayFate.{WayFate}
 
 -- ---- the room for each client, by its number
 
--- the room of each is what is told of it
-abbrev pub AreToldRooms : ℕ → Roster → List ℕ → Type 0
-AreToldRooms moment roster rooms = (c : ℕ) →
-    slice_index rooms c
-    ≡ told_room moment (FinMap.get roster.clients c) (FinMap.get roster.pools c)
+-- the room of each at a moment
+abbrev pub AreRooms : ℕ → FinMap nat_cmp ClientPool → List ℕ → Type 0
+AreRooms moment pools rooms =
+    (c : ℕ) → slice_index rooms c ≡ room_of moment (FinMap.get pools c)
 
 -- with room for one message less at a client
 abbrev pub one_less : List ℕ → ℕ → List ℕ
 one_less rooms client = slice_set rooms client (slice_index rooms client - 1)
 
 -- ---- the fates of a message by these rooms
+
+-- the client at the end of a way
+abbrev pub end_client : List Addr → ℕ
+end_client [] = 0
+end_client (node ∷ []) = node.client
+end_client (node ∷ next ∷ nodes) = end_client (next ∷ nodes)
 
 module _ (clients : FinMap nat_cmp Client) (message : List ℕ) where
   -- of one that comes to a client

@@ -16,7 +16,7 @@ use Rattle.seq_state.specs.Copies.{filter_at, copy_on_path, copies}
 use Rattle.seq_state.specs.Step.{copies_with_room}
 use Rattle.seq_clients.specs.Roster.{Roster}
 use Rattle.way_fates.specs.Stops.{stop_by}
-use Rattle.way_fates.specs.Fates.{copy_by, fate_on, fates, RoomIsTold, AreTold}
+use Rattle.way_fates.specs.Fates.{copy_by, fate_on, fates}
 use Rattle.way_fates.specs.declared.stop.Stop.{Stop}
 use Rattle.way_fates.specs.declared.stop.Stop.TheVariants as stop
 use Rattle.way_fates.specs.declared.fate.Fate.{Fate}
@@ -65,15 +65,6 @@ pub record CopiesLaw (s : State) (moment : ℕ) (source : Addr) (message : List 
 abbrev pub FatesAreCopies : Type 0
 FatesAreCopies =
     (s : State) (moment : ℕ) (source : Addr) (message : List ℕ) → CopiesLaw s moment source message
-
--- ---- what is told
-
--- where the room of every client is told, all is told as it is meant
-abbrev pub AllToldLaw : Type 0
-AllToldLaw =
-    (moment : ℕ) (roster : Roster) (told meant : List WayFate) →
-    ((client : ℕ) → RoomIsTold moment roster client) → AreTold moment roster told meant →
-    told ≡ meant
 
 -- ---- the stops
 

@@ -1,6 +1,6 @@
 //! What the definition means. The functions do nothing: their contracts are the laws.
 
-ghost use Rattle.way_fates.specs.Laws.{AllToldLaw, FatesAreCopies, StopsAreTrue};
+ghost use Rattle.way_fates.specs.Laws.{FatesAreCopies, StopsAreTrue};
 
 /// The messages that arrive or are lost are the copies that are sent, in order, and those that arrive are the copies
 /// that find room.
@@ -11,9 +11,4 @@ pub fn fates_are_copies()
 /// Where a filter stops a message, it fails the test that is told, as it comes there, and none before it.
 pub fn stops_are_true()
     ensures { StopsAreTrue }
-{}
-
-/// Where the calls of the clients tell how much room each has, every fate is told as it is.
-pub fn all_is_told()
-    ensures { AllToldLaw }
 {}

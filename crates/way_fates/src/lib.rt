@@ -15,7 +15,7 @@ mod tests;
 mod ways;
 
 pub use fate::{Fate, Fates, WayFate};
-pub use laws::{all_is_told, fates_are_copies, stops_are_true};
+pub use laws::{fates_are_copies, stops_are_true};
 pub use rows::worked_fates;
 pub use stop::Stop;
 pub use ways::fates;

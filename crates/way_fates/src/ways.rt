@@ -3,7 +3,7 @@
 ghost use Rattle.std.specs.Prelude.{◌≡◌, ◌-◌, take, IfOk, OnOk};
 ghost use Rattle.patch_graph.specs.Paths.{routes};
 ghost use Rattle.way_fates.specs.Counts.{way_count};
-ghost use Rattle.way_fates.specs.Fates.{fates, AreTold};
+ghost use Rattle.way_fates.specs.Fates.{fates};
 ghost use Rattle.way_fates.specs.Kept.{fate_by, rooms_past, fates_by};
 
 use crate::counting::count_ways;
@@ -70,9 +70,7 @@ fn first_fates(
 /// What becomes of a message that is sent from a port at a moment, on the first `most` ways from there, and how many
 /// ways more there are.
 ///
-/// To a client that listens something may have come at that very moment, but less than all that may. How much is not
-/// told, so that a message may be lost there which is said to arrive; all else is as it is said. Memory is for the
-/// ways that are told, and some 40 KiB beside them.
+/// Nothing is sent, and nothing changes. Memory is for the ways that are told, and some 40 KiB beside them.
 pub fn fates(
     alloc: Global,
     patchbay: &Patchbay,
@@ -83,7 +81,7 @@ pub fn fates(
 ) -> Result<Fates, OutOfMemory>
     ensures ways { let clients = patchbay.now.clients in
         let meant = fates clients patchbay.now.graph moment source.now message.now in
-        IfOk result (λ f. AreTold moment clients f.ways (take most meant)) }
+        IfOk result (λ f. f.ways ≡ take most meant) }
     ensures more { let count = way_count patchbay.now.graph source.now in
         IfOk result (λ f. f.more ≡ count - most) }
 {

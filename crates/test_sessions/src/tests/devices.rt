@@ -110,7 +110,7 @@ impl Devices {
         {
             return Err("devices that a session can be run with".into());
         }
-        match stream_sessions(alloc, scripts, files, agenda, until, logs) {
+        match stream_sessions(alloc, scripts, files, agenda, until, logs, &mut Unwatched) {
             Ok(listing) => {
                 write_all(&mut self.listing, listing.as_slice())?;
                 Ok(None)

@@ -11,12 +11,12 @@ use Rattle.session_circle.proofs.circle.circle_of_scripts.Goals as goal
 
 pub circle_of_readings-requires : goal.circle_of_readings-requires
 circle_of_readings-requires c =
-    let reads : c.as_slice.result.now ≡ map (script_reading c.args.files.now c.args.until) c.args.scripts.now = c.as_slice.ensures.value ∙ c.in_ok-reads.ensures in
+    let reads : c.as_slice.result.now ≡ map (script_reading c.args.files.now c.args.until) c.args.scripts.now = c.as_slice.ensures.value ∙ c.in_ok-reads.ensures.readings in
     subst AreSorted (sym reads) (readings_sorted c.args.files.now c.args.until c.args.scripts.now)
 
 pub returns-clause-shut : goal.returns-clause-shut
 returns-clause-shut c =
-    let reads : c.as_slice.result.now ≡ map (script_reading c.args.files.now c.args.until) c.args.scripts.now = c.as_slice.ensures.value ∙ c.in_ok-reads.ensures in
+    let reads : c.as_slice.result.now ≡ map (script_reading c.args.files.now c.args.until) c.args.scripts.now = c.as_slice.ensures.value ∙ c.in_ok-reads.ensures.readings in
     if_ok-both (λ (x : SessionCircle). x.merged ≡ merge_of c.as_slice.result.now) (λ (x : SessionCircle). IsFoundAmong x.merged.inputs c.args.owner x.circle)
     (λ (x : SessionCircle). x.circle.openings.items ≡ [] → NoScriptMatters c.args.files.now c.args.until c.args.scripts.now c.args.owner (is_member c.args.owner x.circle.joined.items))
     (λ x m f. (circle_of_read c.args.files.now c.args.until c.args.scripts.now c.as_slice.result.now reads x.merged m c.args.owner x.circle f).shut)
@@ -24,7 +24,7 @@ returns-clause-shut c =
 
 pub returns-clause-outside : goal.returns-clause-outside
 returns-clause-outside c =
-    let reads : c.as_slice.result.now ≡ map (script_reading c.args.files.now c.args.until) c.args.scripts.now = c.as_slice.ensures.value ∙ c.in_ok-reads.ensures in
+    let reads : c.as_slice.result.now ≡ map (script_reading c.args.files.now c.args.until) c.args.scripts.now = c.as_slice.ensures.value ∙ c.in_ok-reads.ensures.readings in
     if_ok-both (λ (x : SessionCircle). x.merged ≡ merge_of c.as_slice.result.now) (λ (x : SessionCircle). IsFoundAmong x.merged.inputs c.args.owner x.circle)
     (λ (x : SessionCircle). AreOutside c.args.files.now c.args.until c.args.scripts.now c.args.owner (is_member c.args.owner x.circle.joined.items) x.merged.lines x.circle.apart.items)
     (λ x m f. outside_of_read c.args.files.now c.args.until c.args.scripts.now c.as_slice.result.now reads x.merged m c.args.owner x.circle f)
@@ -32,7 +32,7 @@ returns-clause-outside c =
 
 pub returns-clause-every_byte : goal.returns-clause-every_byte
 returns-clause-every_byte c =
-    let reads : c.as_slice.result.now ≡ map (script_reading c.args.files.now c.args.until) c.args.scripts.now = c.as_slice.ensures.value ∙ c.in_ok-reads.ensures in
+    let reads : c.as_slice.result.now ≡ map (script_reading c.args.files.now c.args.until) c.args.scripts.now = c.as_slice.ensures.value ∙ c.in_ok-reads.ensures.readings in
     if_ok-both (λ (x : SessionCircle). x.merged ≡ merge_of c.as_slice.result.now) (λ (x : SessionCircle). IsFoundAmong x.merged.inputs c.args.owner x.circle)
     (λ (x : SessionCircle). x.circle.openings.items ≡ [] → x.circle.apart.items ≡ [] → NoByteChanges c.args.files.now c.args.until c.args.scripts.now c.args.owner (is_member c.args.owner x.circle.joined.items))
     (λ x m f. (circle_of_read c.args.files.now c.args.until c.args.scripts.now c.as_slice.result.now reads x.merged m c.args.owner x.circle f).every_byte)

@@ -9,12 +9,12 @@ use Rattle.session_circle.proofs.table.circles_of_scripts.Goals as goal
 
 pub circles_of_readings-requires : goal.circles_of_readings-requires
 circles_of_readings-requires c =
-    let reads : c.as_slice.result.now ≡ map (script_reading c.args.files.now c.args.until) c.args.scripts.now = c.as_slice.ensures.value ∙ c.in_ok-reads.ensures in
+    let reads : c.as_slice.result.now ≡ map (script_reading c.args.files.now c.args.until) c.args.scripts.now = c.as_slice.ensures.value ∙ c.in_ok-reads.ensures.readings in
     subst AreSorted (sym reads) (readings_sorted c.args.files.now c.args.until c.args.scripts.now)
 
 pub returns-clause-circles : goal.returns-clause-circles
 returns-clause-circles c =
-    let reads : c.as_slice.result.now ≡ map (script_reading c.args.files.now c.args.until) c.args.scripts.now = c.as_slice.ensures.value ∙ c.in_ok-reads.ensures in
+    let reads : c.as_slice.result.now ≡ map (script_reading c.args.files.now c.args.until) c.args.scripts.now = c.as_slice.ensures.value ∙ c.in_ok-reads.ensures.readings in
     if_ok-both (λ (x : SessionCircles). x.merged ≡ merge_of c.as_slice.result.now) (λ (x : SessionCircles). AreFoundAmong x.merged.inputs c.args.scripts.now x.circles.items)
     (λ (x : SessionCircles). AreCirclesOf c.args.files.now c.args.until c.args.scripts.now x.circles.items)
     (λ x m f. circles_of_read c.args.files.now c.args.until c.args.scripts.now c.as_slice.result.now reads x m f)
