@@ -61,8 +61,8 @@ fn node_of(letter: u8, word: &[u8]) -> Option<Node>
     }
 }
 
-/// `128:p0` or `128:f0`.
-pub(crate) fn addr_of(word: &[u8]) -> Option<Addr>
+/// The node that a word names, `128:p0` or `128:f0`.
+pub fn addr_of(word: &[u8]) -> Option<Addr>
     ensures { result ≡ says.addr word.now }
 {
     let (client, letter, number) = parts(word)?;

@@ -307,7 +307,7 @@ fn set_filter(words: &mut Words) -> Result<Command, Unread>
 }
 
 /// The message whose full bytes all words say.
-fn message(alloc: Global, words: &mut Words) -> Result<Message, Unread>
+pub(crate) fn message(alloc: Global, words: &mut Words) -> Result<Message, Unread>
     ensures ok { IfOk result (λ m. says.message words.old ≡ Some m) }
     ensures err { IsErrOf result Unread.Unreadable → says.message words.old ≡ None }
 {
