@@ -13,6 +13,8 @@ use Rattle.program_tasks.specs.declared.end_word.EndWord.TheVariants.{Until, For
 use Rattle.program_tasks.specs.declared.ending.Ended.{Ended}
 use Rattle.program_tasks.specs.declared.ending.Ended.TheVariants.{Done, Answered, Judged}
 use Rattle.program_tasks.specs.declared.question.CircleQuestion.TheVariants.{Of, OfAll}
+use Rattle.program_tasks.specs.declared.why_question.WhyQuestion.{WhyQuestion}
+use Rattle.program_tasks.specs.declared.why_question.WhyQuestion.TheVariants.{Message, Line}
 use Rattle.program_tasks.specs.Grid.{IsGrid}
 use Rattle.program_tasks.specs.declared.grid.GridWords.{GridWords}
 use Rattle.program_tasks.specs.declared.grid.GridWords.TheVariants.{Said, Like}
@@ -27,7 +29,7 @@ use Rattle.program_tasks.specs.declared.recording.Recorded.TheVariants.{Stream, 
 use Rattle.program_tasks.specs.declared.recording.Recording.{Recording}
 use Rattle.program_tasks.specs.declared.run_answer.RunAnswer.{RunAnswer}
 use Rattle.program_tasks.specs.declared.session.Session.{Session}
-use Rattle.program_tasks.specs.Subcommands.{IsRunPrinted, IsRunStreamed, IsRunExplained, IsCircleAnswered, IsRunRecorded}
+use Rattle.program_tasks.specs.Subcommands.{IsRunPrinted, IsRunStreamed, IsRunExplained, IsCircleAnswered, IsWhyAnswered, IsRunRecorded}
 use Rattle.program_tasks.specs.Tasks.{IsDone}
 use Rattle.program_tasks.specs.Times.{end_said}
 use Rattle.program_tasks.specs.declared.choice.Task.{Task}
@@ -87,6 +89,24 @@ IsFormGiven found form = MatchOption (first_value found (codes "format")) (form 
 pub record IsLogFolderGiven (found : Found) (logs : LogFolder) (word : List ℕ) : Type 0 where
   pub path : logs.path.now ≡ word
   pub append : IsFlag found (codes "append") logs.append
+
+-- ---- what is asked
+
+-- what becomes of the message of --message from the port of --from
+abbrev pub IsMessageAsked : Found → WhyQuestion → Type 0
+IsMessageAsked found (Message from message) =
+    (from.now ≡ text_of found (codes "from")) × (message.now ≡ text_of found (codes "message"))
+IsMessageAsked found (Line word) = ⊥
+
+-- what the line that this word names did not do
+abbrev pub IsLineAsked : WhyQuestion → List ℕ → Type 0
+IsLineAsked (Line told) word = told.now ≡ word
+IsLineAsked (Message from message) word = ⊥
+
+-- with --log a line, and without it a message
+abbrev pub IsQuestionGiven : Found → WhyQuestion → Type 0
+IsQuestionGiven found question = MatchOption (first_value found (codes "log"))
+    (IsMessageAsked found question) (IsLineAsked question)
 
 -- ---- what is recorded
 
@@ -225,6 +245,17 @@ module _ {R W : Type 0} (IsOpened : List ℕ → R → Type 0) (HasLeft : R → 
         session OfAll answer old new before after)
         (IsAnsweredRound HasTaken HasTold found session answer old new before after)
 
+  -- The question of the words about the session of these words was answered.
+  pub record AnswersAsGiven {N : Type 0} (HasTaken : W → List ℕ → Type 0)
+      (HasTold : N → List ℕ → Type 0) (found : Found)
+      (old new : W) (before after : N) : Type 0 where
+    pub session : Session
+    pub given : IsGiven found session
+    pub question : WhyQuestion
+    pub asked : IsQuestionGiven found question
+    pub answered : IsWhyAnswered IsOpened HasLeft CannotOpen failed IsStanding HasNames HasTaken
+        HasTold session question old new before after
+
   -- The session was recorded so; it was explained where the recording is strict or --explain says
   -- so, and judged where it is strict.
   pub record EndsRecorded {N : Type 0} (IsBegun : List ℕ → W → Type 0)
@@ -266,14 +297,15 @@ pub record ToolDoesAsGiven {R I W : Type 0} (IsOpened : List ℕ → R → Type 
 
 -- the name is that of no subcommand that takes scripts
 abbrev pub IsOfTool : List ℕ → Type 0
-IsOfTool name = (name ≢ codes "circle") × (name ≢ codes "run") × (name ≢ codes "record")
+IsOfTool name = (name ≢ codes "circle") × (name ≢ codes "why") × (name ≢ codes "run")
+    × (name ≢ codes "record")
 
 -- The program ends with an answer of which this holds.
 abbrev pub IfAnswered : Ended → (CircleAnswer → Type 0) → Type 0
 IfAnswered (Answered answer) P = P answer
 IfAnswered _ P = ⊥
 
--- What each subcommand does: circle prints and answers; run prints, or writes logs to a folder, and
+-- What each subcommand does: circle prints and answers; why prints; run prints, or writes logs to a folder, and
 -- record writes a file, where both may explain and judge; and each other is a tool's.
 pub record DoesAsGiven {R V I W N : Type 0} (IsOpened : List ℕ → R → Type 0)
     (HasLeft : R → List ℕ → Type 0)
@@ -289,6 +321,9 @@ pub record DoesAsGiven {R V I W N : Type 0} (IsOpened : List ℕ → R → Type 
   pub circled : name ≡ codes "circle" → IfAnswered ended
       (CirclesAsGiven IsOpened HasLeft CannotOpen failed IsStanding HasNames HasTaken HasTold found
       old new before after)
+  pub asked_why : name ≡ codes "why" →
+      AnswersAsGiven IsOpened HasLeft CannotOpen failed IsStanding HasNames HasTaken HasTold found
+      old new before after × (ended ≡ Done)
   pub ran : name ≡ codes "run" →
       RunsAsGiven IsOpened HasLeft CannotOpen failed IsStanding HasNames IsPlaced HasWritten
       AreApart HasTaken HasTold found old new before after ended

@@ -15,6 +15,8 @@ use Rattle.program_tasks.specs.declared.recording.Recording.{Recording}
 use Rattle.program_tasks.specs.declared.session.Session.{Session}
 use Rattle.program_tasks.specs.Faults.{IsOfListing, IsOfScripts, IsOfOutput}
 use Rattle.program_tasks.specs.Subcommands.{IsTimeless, IsStreamingStopped, IsRecordingStopped}
+use Rattle.program_tasks.specs.Why.{IsOfQuestion}
+use Rattle.program_tasks.specs.declared.why_question.WhyQuestion.{WhyQuestion}
 use Rattle.program_tasks.specs.Tasks.{IsToolFault}
 use Rattle.program_tasks.specs.Times.{end_said, IsNoEnd}
 use Rattle.program_tasks.specs.declared.end_word.EndWord.{EndWord}
@@ -23,7 +25,7 @@ use Rattle.program_tasks.specs.declared.choice.Tool.{Tool}
 use Rattle.program_tasks.specs.declared.program_fault.ProgramFault.{ProgramFault}
 use Rattle.program_tasks.specs.declared.program_fault.ProgramFault.TheVariants.{NoSubcommand, NotAClient, NotAForm, NotAPort}
 use Rattle.program_tasks.specs.Program.{tool_name, IsNamedBy, IsReasoned}
-use Rattle.midiseq.specs.Given.{text_of, IsAsked, IsEndGiven, IsGiven, IsLogFolderGiven, AreGridWords, IsRecordingGiven, IsOfTool}
+use Rattle.midiseq.specs.Given.{text_of, IsAsked, IsEndGiven, IsGiven, IsQuestionGiven, IsLogFolderGiven, AreGridWords, IsRecordingGiven, IsOfTool}
 
 -- The word for the session's end says none.
 pub record IsOfEndWord (found : Found) (fault : ProgramFault) : Type 0 where
@@ -124,6 +126,20 @@ pub record IsCircleStopped {R N : Type 0} (IsOpened : List ℕ → R → Type 0)
       after fault
       ⊎ IsOfOutput stuck fault))
 
+-- The question of the words was not answered, for one of these reasons.
+pub record IsWhyStopped {R : Type 0} (IsOpened : List ℕ → R → Type 0) (HasLeft : R → List ℕ → Type 0)
+    (CannotOpen CannotList : List ℕ → Type 0) (failed : R → Bool) (stuck : Type 0) (found : Found)
+    (fault : ProgramFault) : Type 0 where
+  pub session : Session
+  pub given : IsGiven found session
+  pub question : WhyQuestion
+  pub asked : IsQuestionGiven found question
+  pub why :
+      IsOfListing CannotList (option_map (λ d. d.now) session.dir) fault
+      ⊎ (IsOfQuestion session.scripts.items question fault
+      ⊎ (IsOfScripts IsOpened HasLeft CannotOpen failed session.scripts.items fault
+      ⊎ IsOfOutput stuck fault))
+
 -- The session was not recorded so, for one of these reasons.
 pub record IsNotRecorded {R V N : Type 0} (IsOpened : List ℕ → R → Type 0)
     (HasLeft : R → List ℕ → Type 0)
@@ -219,6 +235,8 @@ pub record IsStoppedAsGiven {R V I N : Type 0} (IsOpened : List ℕ → R → Ty
       ⊎ (IsNotAClient (text_of found (codes "owner")) fault
       ⊎ IsCircleStopped IsOpened HasLeft CannotOpen CannotList failed IsStanding HasNames stuck
       HasTold found before after fault)
+  pub asked_why : name ≡ codes "why" → IsOfSessionWords found fault
+      ⊎ IsWhyStopped IsOpened HasLeft CannotOpen CannotList failed stuck found fault
   pub ran : name ≡ codes "run" → IsToldOf IsStanding found (λ e. IsOfSessionWords found e
       ⊎ IsRunStopped IsOpened HasLeft CannotOpen CannotList failed IsStanding HasNames AreOne
       IsPlaced HasWritten writer_failed takes_some CannotPlace stuck HasTold found before after e)

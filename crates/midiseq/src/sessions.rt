@@ -2,8 +2,8 @@
 
 ghost use Rattle.std.specs.Prelude.{◌≡◌, ◌⊎◌, ◌||◌, false, Some, codes, IfOk, IfErr, OnOk};
 ghost use Rattle.clap.specs.Matches.{found_of};
-ghost use Rattle.midiseq.specs.Given.{text_of, IsAsked, IsEndGiven, IsGiven, IsFlag, IsFormGiven, IsOnePortGiven, AreGridWords, PrintsAsGiven, StreamsAsGiven, RunsAsGiven, CirclesAsGiven, EndsRecorded, RecordsAsGiven};
-ghost use Rattle.midiseq.specs.Refused.{IsOfSessionWords, IsOfRecordingWords, IsNotAClient, IsNotAForm, IsNotAPort, IsUnprinted, IsUnstreamed, IsRunStopped, IsCircleStopped, IsNotRecorded, IsRecordStopped};
+ghost use Rattle.midiseq.specs.Given.{text_of, IsAsked, IsEndGiven, IsGiven, IsFlag, IsFormGiven, IsOnePortGiven, AreGridWords, PrintsAsGiven, StreamsAsGiven, RunsAsGiven, CirclesAsGiven, IsQuestionGiven, AnswersAsGiven, EndsRecorded, RecordsAsGiven};
+ghost use Rattle.midiseq.specs.Refused.{IsOfSessionWords, IsOfRecordingWords, IsNotAClient, IsNotAForm, IsNotAPort, IsUnprinted, IsUnstreamed, IsRunStopped, IsCircleStopped, IsWhyStopped, IsNotRecorded, IsRecordStopped};
 ghost use Rattle.seq_session.specs.Rising.{AreRising};
 ghost use Rattle.program_tasks.specs.Faults.{IsStuck};
 ghost use Rattle.program_tasks.specs.Sessions.{owners};
@@ -16,7 +16,7 @@ use log_forms::LogForm;
 use node_table::PortAddr;
 use program_tasks::{
     CircleAnswer, CircleQuestion, EndWord, Ended, GridWords, LogFolder, Notes, Printing,
-    ProgramFault, Recorded, Recording, Session, client_named, form_named, port_named, ports_named,
+    ProgramFault, Recorded, Recording, Session, WhyQuestion, client_named, form_named, port_named, ports_named,
 };
 use std::alloc::Global;
 
@@ -309,4 +309,38 @@ pub(crate) fn circle<'a, S: FileStore, W: Sink, N: Notes>(
     let in_session = found.get_flag("session");
     let question = CircleQuestion::Of { owner, in_session };
     program_tasks::circle(alloc, store, &session, question, out, notes)
+}
+
+/// What the words ask: with --log of a line, and else of a message.
+fn question_of<'a>(found: &ArgMatches<'a>) -> WhyQuestion<'a>
+    ensures { IsQuestionGiven (found_of found.now) result }
+{
+    match found.get_str("log") {
+        Some(word) => WhyQuestion::Line(word),
+        None => WhyQuestion::Message {
+            from: found.get_str("from").unwrap_or(""),
+            message: found.get_str("message").unwrap_or(""),
+        },
+    }
+}
+
+/// Prints what becomes of the message of --message from the port of --from, or what the line of --log did not do.
+pub(crate) fn why<'a, S: FileStore, W: Sink, N: Notes>(
+    alloc: Global,
+    store: &S,
+    found: &ArgMatches<'a>,
+    out: &mut W,
+    notes: &mut N,
+) -> Result<(), ProgramFault<'a>>
+    requires { W.failed out.old ≡ false }
+    ensures printed { OnOk result (AnswersAsGiven S.IsOpened S.Reader.HasLeft S.CannotOpen
+        S.Reader.failed S.IsStanding S.HasNames W.HasTaken N.HasTold (found_of found.now)
+        out.old out.new notes.old notes.new) }
+    ensures fault { IfErr result (λ e. IsOfSessionWords (found_of found.now) e
+        ⊎ IsWhyStopped S.IsOpened S.Reader.HasLeft S.CannotOpen S.CannotList S.Reader.failed
+        (IsStuck W.failed W.takes_some out.old out.new) (found_of found.now) e) }
+{
+    let session = session_of(alloc, found)?;
+    let question = question_of(found);
+    program_tasks::why(alloc, store, &session, question, out, notes)
 }

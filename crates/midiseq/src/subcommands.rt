@@ -42,6 +42,10 @@ pub(crate) fn perform<'a, S: FileStore, I: Source, W: Sink, N: Notes>(
             let answer = sessions::circle(alloc, store, found, out, notes)?;
             Ok(Ended::Answered(answer))
         }
+        "why" => {
+            sessions::why(alloc, store, found, out, notes)?;
+            Ok(Ended::Done)
+        }
         "run" => reasons::run(alloc, store, found, out, notes),
         "record" => reasons::record(alloc, store, found, notes),
         _ => {

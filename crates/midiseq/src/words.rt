@@ -204,6 +204,30 @@ Example, with the lines of `midiseq run --help`:
       how that is mended, and `open`, each on a line. With 2 in place of 66 it
       prints the first two lines and `shut`.";
 
+const WHY_HELP: &str = "\
+With --from, --at and --message: the scripts are run as by `midiseq run` until
+the moment N, and each line says what would become of the message, were it sent
+from the port then: on which way it goes, and whether it arrives, is stopped by
+a filter and by which test, or is lost in a full input pool. Nothing is sent.
+The oldest way comes first; of more than 1000 ways the last line says how many
+more there are.
+
+With --log PATH:LINE: what that line of a script did not do, and what to do
+about it, as --explain of `midiseq run` has it. Without --at the run goes on to
+its end.
+
+Examples, with these lines in keys.txt and synth.txt:
+  0 open keys 100 100             0 open synth 100 100
+  0 port 0 out 33                 0 port 0 in 66
+  5 send 0 90 3C 40               0 filter 0 66 65535 1023 60 127 0
+  6 start 128:q0                  0 connect 128:p0 129:f0
+                                  0 connect 129:f0 129:p0
+  midiseq why --from 128:p0 --at 5 --message \"90 24 64\" \\
+      128=keys.txt 129=synth.txt
+      prints `128:p0 > 129:f0 stopped: note 36 is below 60`
+  midiseq why --log keys.txt:4 128=keys.txt 129=synth.txt
+      prints what is wrong with line 4 of keys.txt";
+
 /// The program's subcommands with their words.
 pub(crate) fn command<'a>(alloc: Global) -> Result<Command<'a>, AllocError> {
     let program = Command::new(alloc, "midiseq")
@@ -213,6 +237,7 @@ pub(crate) fn command<'a>(alloc: Global) -> Result<Command<'a>, AllocError> {
     let program = with(program, run(alloc))?;
     let program = with(program, record(alloc))?;
     let program = with(program, circle(alloc))?;
+    let program = with(program, why(alloc))?;
     let program = with(program, thru(alloc))?;
     let program = with(program, wire(alloc))?;
     with(program, dump(alloc))
@@ -274,6 +299,18 @@ fn circle<'a>(alloc: Global) -> Result<Command<'a>, AllocError> {
         .arg(dir(alloc))?
         .arg(owner(alloc))?
         .arg(session(alloc)?)?
+        .arg(scripts(alloc))
+}
+
+fn why<'a>(alloc: Global) -> Result<Command<'a>, AllocError> {
+    Command::new(alloc, "why")
+        .about("Says why a message did not come, or why a line of a script did nothing")
+        .after_help(WHY_HELP)
+        .arg(from(alloc)?)?
+        .arg(at(alloc)?)?
+        .arg(message(alloc)?)?
+        .arg(log(alloc)?)?
+        .arg(dir(alloc))?
         .arg(scripts(alloc))
 }
 
@@ -427,6 +464,45 @@ fn like<'a>(alloc: Global) -> Result<Arg<'a>, AllocError> {
         .conflicts_with("port")?
         .conflicts_with("ppq")?
         .conflicts_with("bpm")
+}
+
+fn from<'a>(alloc: Global) -> Result<Arg<'a>, AllocError> {
+    Arg::new(alloc, "from")
+        .long("from")
+        .value_name("CLIENT:pN")
+        .help("the port that the message is sent from, as 128:p0")
+        .required_unless_present("log")?
+        .requires_arg("until")?
+        .requires_arg("message")
+}
+
+/// The moment that is asked about: the session ends there.
+fn at<'a>(alloc: Global) -> Result<Arg<'a>, AllocError> {
+    Arg::new(alloc, "until")
+        .long("at")
+        .default_value("18446744073709551615")
+        .hide_default_value(true)
+        .value_name("N")
+        .allow_negative_numbers(true)
+        .help("the moment in nanoseconds")
+        .visible_alias("until")
+}
+
+fn message<'a>(alloc: Global) -> Result<Arg<'a>, AllocError> {
+    Arg::new(alloc, "message")
+        .long("message")
+        .value_name("HEX")
+        .help("the message, as \"90 24 64\"")
+        .requires_arg("from")
+}
+
+fn log<'a>(alloc: Global) -> Result<Arg<'a>, AllocError> {
+    Arg::new(alloc, "log")
+        .long("log")
+        .value_name("PATH:LINE")
+        .help("or a line of a script, as synth.txt:4")
+        .conflicts_with("from")?
+        .conflicts_with("message")
 }
 
 fn owner<'a>(alloc: Global) -> Arg<'a> {

@@ -17,6 +17,7 @@ pub mod Circles
 pub mod Recorded
 pub mod Faults
 pub mod Grid
+pub mod Why
 pub mod LogFiles
 pub mod Tasks
 pub mod Subcommands

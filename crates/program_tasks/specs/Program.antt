@@ -22,7 +22,7 @@ use Rattle.program_tasks.specs.declared.run_answer.RunAnswer.TheVariants.{Comple
 use Rattle.tool_text.specs.declared.fault.ToolFault.{ToolFault}
 use Rattle.tool_text.specs.declared.fault.ToolFault.TheVariants as tool
 use Rattle.program_tasks.specs.declared.program_fault.ProgramFault.{ProgramFault}
-use Rattle.program_tasks.specs.declared.program_fault.ProgramFault.TheVariants.{NotUtf8, NoSubcommand, NotAMoment, NotATime, NotAPort, NotPorts, NotAPpq, NotABpm, NotAForm, NotAClient, NotAScript, TwoScripts, OutIsRead, GoesBack, CannotRead, CannotWrite, OutOfMemory, CannotRecord, Smf, Unreadable, LogIsRead, CannotWriteLog}
+use Rattle.program_tasks.specs.declared.program_fault.ProgramFault.TheVariants.{NotUtf8, NoSubcommand, NotAMoment, NotATime, NotAPort, NotPorts, NotAPpq, NotABpm, NotAForm, NotASource, NotAMessage, NotALine, NotAClient, NotAScript, TwoScripts, OutIsRead, GoesBack, CannotRead, CannotWrite, OutOfMemory, CannotRecord, Smf, Unreadable, LogIsRead, CannotWriteLog}
 
 -- ---- the choice
 
@@ -81,6 +81,14 @@ program_fault_text (NotABpm word) =
     escaped_text word.now ++ codes " is no number of quarter notes a minute, 4 to 60000000"
 program_fault_text (NotAForm word) =
     escaped_text word.now ++ codes " is no form of logs (text, json or csv)"
+program_fault_text (NotASource word) =
+    escaped_text word.now
+    ++ codes " names no port (as 128:p0: a client 128 to 191, and a port 0 to 15)"
+program_fault_text (NotAMessage word) =
+    escaped_text word.now
+    ++ codes " is not exactly one MIDI message in hexadecimal (as \"90 3C 40\")"
+program_fault_text (NotALine word) =
+    escaped_text word.now ++ codes " names no line of a script (as synth.txt:4)"
 program_fault_text (NotAClient word) = escaped_text word.now ++ codes " is no client 128 to 191"
 program_fault_text (NotAScript word) =
     escaped_text word.now
@@ -123,6 +131,9 @@ is_helped (NotPorts word) = true
 is_helped (NotAPpq word) = true
 is_helped (NotABpm word) = true
 is_helped (NotAForm word) = true
+is_helped (NotASource word) = true
+is_helped (NotAMessage word) = true
+is_helped (NotALine word) = true
 is_helped (NotAClient word) = true
 is_helped (NotAScript word) = true
 is_helped (TwoScripts client) = true
@@ -173,6 +184,9 @@ exit_status (NotPorts word) = 2
 exit_status (NotAPpq word) = 2
 exit_status (NotABpm word) = 2
 exit_status (NotAForm word) = 2
+exit_status (NotASource word) = 2
+exit_status (NotAMessage word) = 2
+exit_status (NotALine word) = 2
 exit_status (NotAClient word) = 2
 exit_status (NotAScript word) = 2
 exit_status (TwoScripts client) = 2

@@ -22,6 +22,8 @@ use Rattle.program_tasks.specs.Opened.{IsFolder}
 use Rattle.program_tasks.specs.declared.answer.CircleAnswer.{CircleAnswer}
 use Rattle.program_tasks.specs.declared.question.CircleQuestion.{CircleQuestion}
 use Rattle.program_tasks.specs.Circles.{IsCirclePrinted, IsOfTime}
+use Rattle.program_tasks.specs.declared.why_question.WhyQuestion.{WhyQuestion}
+use Rattle.program_tasks.specs.Why.{IsWhyPrinted}
 use Rattle.program_tasks.specs.Printed.{IsSessionPrinted}
 use Rattle.program_tasks.specs.Recorded.{IsSessionRecorded}
 
@@ -106,6 +108,16 @@ module _ {R : Type 0} (IsOpened : List ℕ → R → Type 0) (HasLeft : R → Li
     pub printed :
         IsCirclePrinted IsOpened HasLeft HasTaken files session.until session.scripts.items question
         answer old new
+
+  -- The sink took the answer to a question about the session.
+  pub record IsWhyAnswered {W N : Type 0} (HasTaken : W → List ℕ → Type 0)
+      (HasTold : N → List ℕ → Type 0)
+      (session : Session) (question : WhyQuestion) (old new : W) (before after : N) : Type 0 where
+    pub files : FolderContents
+    pub are : AreFilesOf HasTold false (option_map (λ d. d.now) session.dir) before after files
+    pub printed :
+        IsWhyPrinted IsOpened HasLeft HasTaken files session.until session.scripts.items question
+        old new
 
   -- A line goes back in time in the session, which has no end.
   pub record IsTimeless {N : Type 0} (HasTold : N → List ℕ → Type 0) (session : Session)

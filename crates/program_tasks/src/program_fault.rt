@@ -33,6 +33,12 @@ pub enum ProgramFault<'a> {
     NotABpm(&'a str),
     /// The word names no form of logs.
     NotAForm(&'a str),
+    /// The word names no port as scripts do.
+    NotASource(&'a str),
+    /// The word is not exactly one message.
+    NotAMessage(&'a str),
+    /// The word names no line of a script.
+    NotALine(&'a str),
     /// The word names no client.
     NotAClient(&'a str),
     /// The word names no client with its script.
@@ -97,6 +103,9 @@ impl<'a> ProgramFault<'a> {
             | ProgramFault::NotAPpq(_)
             | ProgramFault::NotABpm(_)
             | ProgramFault::NotAForm(_)
+            | ProgramFault::NotASource(_)
+            | ProgramFault::NotAMessage(_)
+            | ProgramFault::NotALine(_)
             | ProgramFault::NotAClient(_)
             | ProgramFault::NotAScript(_)
             | ProgramFault::TwoScripts(_)
@@ -127,6 +136,9 @@ impl<'a> ProgramFault<'a> {
                 | ProgramFault::NotAPpq(_)
                 | ProgramFault::NotABpm(_)
                 | ProgramFault::NotAForm(_)
+                | ProgramFault::NotASource(_)
+                | ProgramFault::NotAMessage(_)
+                | ProgramFault::NotALine(_)
                 | ProgramFault::NotAClient(_)
                 | ProgramFault::NotAScript(_)
                 | ProgramFault::TwoScripts(_)
@@ -201,6 +213,24 @@ impl fmt::Display for ProgramFault<'_> {
             ProgramFault::NotAForm(word) => {
                 let word = Escaped(word);
                 write!(f, "{word} is no form of logs (text, json or csv)")
+            }
+            ProgramFault::NotASource(word) => {
+                let word = Escaped(word);
+                write!(
+                    f,
+                    "{word} names no port (as 128:p0: a client 128 to 191, and a port 0 to 15)"
+                )
+            }
+            ProgramFault::NotAMessage(word) => {
+                let word = Escaped(word);
+                write!(
+                    f,
+                    "{word} is not exactly one MIDI message in hexadecimal (as \"90 3C 40\")"
+                )
+            }
+            ProgramFault::NotALine(word) => {
+                let word = Escaped(word);
+                write!(f, "{word} names no line of a script (as synth.txt:4)")
             }
             ProgramFault::NotAClient(word) => {
                 let word = Escaped(word);

@@ -8,7 +8,8 @@ ghost use Rattle.program_tasks.specs.Explained.{told_where};
 ghost use Rattle.program_tasks.specs.Faults.{IsOfListing, IsOfScripts, IsOfOutput, IsStuck};
 ghost use Rattle.program_tasks.specs.LogFiles.{IsOfReadLog};
 ghost use Rattle.program_tasks.specs.Sessions.{owners};
-ghost use Rattle.program_tasks.specs.Subcommands.{IsRunPrinted, IsRunStreamed, IsStreamingStopped, IsRunExplained, IsCircleAnswered, IsTimeless, IsRunRecorded, IsRecordingStopped};
+ghost use Rattle.program_tasks.specs.Subcommands.{IsRunPrinted, IsRunStreamed, IsStreamingStopped, IsRunExplained, IsCircleAnswered, IsTimeless, IsWhyAnswered, IsRunRecorded, IsRecordingStopped};
+ghost use Rattle.program_tasks.specs.Why.{IsOfQuestion};
 
 use crate::answer::CircleAnswer;
 use crate::answering::print_circle;
@@ -25,6 +26,8 @@ use crate::recording::{Recording, record_session};
 use crate::run_answer::RunAnswer;
 use crate::session::Session;
 use crate::streaming::stream_session;
+use crate::why::print_why;
+use crate::why_question::WhyQuestion;
 use byte_io::Sink;
 use file_store::FileStore;
 use std::alloc::Global;
@@ -148,6 +151,34 @@ pub fn circle<'a, S: FileStore, W: Sink, N: Notes>(
     let folder = Folder::read(alloc, store, session.dir)?;
     let opened = folder.open(alloc, false, notes)?;
     print_circle(alloc, store, session, &named(&opened), question, out)
+}
+
+/// Prints what is asked of a message that did not come, or of a line that did nothing.
+///
+/// Tells which files of the folder are left out.
+pub fn why<'a, S: FileStore, W: Sink, N: Notes>(
+    alloc: Global,
+    store: &S,
+    session: &Session<'a>,
+    question: WhyQuestion<'a>,
+    out: &mut W,
+    notes: &mut N,
+) -> Result<(), ProgramFault<'a>>
+    requires rising { AreRising (owners session.now.scripts.items) }
+    requires sound { W.failed out.old ≡ false }
+    ensures printed { OnOk result (IsWhyAnswered S.IsOpened S.Reader.HasLeft S.CannotOpen
+        S.Reader.failed S.IsStanding S.HasNames W.HasTaken N.HasTold session.now question.entry
+        out.old out.new notes.old notes.new) }
+    ensures fault { IfErr result (λ e.
+        IsOfListing S.CannotList (option_map (λ d. d.now) session.now.dir) e
+        ⊎ (IsOfQuestion session.now.scripts.items question.entry e
+        ⊎ (IsOfScripts S.IsOpened S.Reader.HasLeft S.CannotOpen S.Reader.failed
+        session.now.scripts.items e
+        ⊎ IsOfOutput (IsStuck W.failed W.takes_some out.old out.new) e))) }
+{
+    let folder = Folder::read(alloc, store, session.dir)?;
+    let opened = folder.open(alloc, false, notes)?;
+    print_why(alloc, store, session, &named(&opened), question, out)
 }
 
 /// Runs the scripts of a session, and writes what is recorded of it to a file, once all else is done, as

@@ -4,7 +4,7 @@ ghost use Rattle.std.specs.Prelude.{◌≡◌, ◌++◌};
 ghost use Rattle.std.specs.Fmt.{WritesOnOk, decimal};
 ghost use Rattle.node_table.specs.Text.{addr_text};
 ghost use Rattle.node_table.specs.declared.number.Node.TheVariants.{Port};
-ghost use Rattle.program_tasks.specs.Explained.{skipped_since, place_text, said_text, tempo_meant, messages_text, channel_text, note_text};
+ghost use Rattle.program_tasks.specs.Explained.{skipped_since, said_text, tempo_meant, messages_text, channel_text, note_text};
 
 use crate::escaped::Escaped;
 use crate::program_fault::write_start;
@@ -53,14 +53,23 @@ impl fmt::Display for CauseText {
     }
 }
 
-/// Writes which line of a script it is; of the whole script nothing.
-fn write_place<W: fmt::Write>(line: u64, f: &mut fmt::Formatter<W>) -> fmt::Result
-    ensures { WritesOnOk W.write_str_gives f.old result (place_text line) f.new }
-{
-    if line == 0 {
-        return Ok(());
+/// Which line of a script it is; of the whole script nothing.
+#[derive(Clone, Copy, Debug)]
+pub(crate) struct Place(pub(crate) u64);
+
+impl fmt::Display for Place {
+    ghost use Rattle.std.specs.Prelude.{Some};
+    ghost use Rattle.program_tasks.specs.Explained.{place_text};
+
+    ghost output = { λ p. Some (place_text p.0) };
+
+    fn fmt<W: fmt::Write>(&self, f: &mut fmt::Formatter<W>) -> fmt::Result {
+        let line = self.0;
+        if line == 0 {
+            return Ok(());
+        }
+        write!(f, ":{line}")
     }
-    write!(f, ":{line}")
 }
 
 /// The line that tells of a line of a script that did nothing, with the control characters of the path escaped.
@@ -80,9 +89,8 @@ impl fmt::Display for DiagnosticLine<'_> {
     fn fmt<W: fmt::Write>(&self, f: &mut fmt::Formatter<W>) -> fmt::Result {
         let path = Escaped(self.path);
         let cause = CauseText(self.diagnostic.cause);
-        write!(f, "{path}")?;
-        write_place(self.diagnostic.line, f)?;
-        write!(f, ": {cause}")
+        let place = Place(self.diagnostic.line);
+        write!(f, "{path}{place}: {cause}")
     }
 }
 
@@ -148,9 +156,8 @@ impl fmt::Display for SlipLine<'_> {
     fn fmt<W: fmt::Write>(&self, f: &mut fmt::Formatter<W>) -> fmt::Result {
         let path = Escaped(self.path);
         let slip = SlipText(self.slip.slip);
-        write!(f, "{path}")?;
-        write_place(self.slip.line, f)?;
-        write!(f, ": {slip}")
+        let place = Place(self.slip.line);
+        write!(f, "{path}{place}: {slip}")
     }
 }
 
