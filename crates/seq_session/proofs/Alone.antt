@@ -22,7 +22,7 @@ use Rattle.seq_session.specs.Merging.{lines_of, merge_of}
 use Rattle.seq_session.specs.Logs.{log_text}
 use Rattle.seq_session.specs.AllLogs.{clients_read, logs_of}
 use Rattle.seq_session.specs.Sessions.{FolderContents, script_reading, session, happens, log_of, all_logs, listing_after, script_clients, script_for}
-use Rattle.seq_session.specs.Devices.{clients, AreRead, AreOpen, Wrote, AreTextsAlone, AreAlone, IsSession, IsRunOf, log_of_fault, IsReading, LogsTell}
+use Rattle.seq_session.specs.Devices.{clients, AreRead, AreOpen, Wrote, AreAlone, IsSession, IsRunOf, log_of_fault, IsReading, LogsTell}
 use Rattle.seq_session.proofs.Blamed.{none_told}
 use Rattle.seq_session.proofs.Isolated.{log_law}
 
@@ -88,14 +88,6 @@ own_scripts : (scripts : List Script) → AreRising (script_clients scripts) →
 own_scripts [] r = tt
 own_scripts (s ∷ scripts) r =
     (ap (λ b. cond b (Some s) (script_for s.client scripts)) (eq-eqb s.client s.client refl), later_scripts s s.client scripts scripts (omega arith) r (own_from s.client scripts r))
-
-module _ (folder : FolderContents) (end : ℕ) (scripts : List Script) (rise : AreRising (script_clients scripts)) where
-  texts_alone : (owners : List Script) → AllByRecursion (λ x. script_for x.client scripts ≡ Some x) owners → AreTextsAlone folder end scripts owners (map (log_of folder end scripts) owners)
-  texts_alone [] own = tt
-  texts_alone (s ∷ owners) own = (λ member closed. log_law folder end s member scripts rise own.0 closed, texts_alone owners own.1)
-
-  pub all_texts_alone : (texts : List (List ℕ)) → texts ≡ all_logs folder end scripts → AreTextsAlone folder end scripts scripts texts
-  all_texts_alone texts same = subst (AreTextsAlone folder end scripts scripts) (sym same) (texts_alone scripts (own_scripts scripts rise))
 
 module _ {W : Type 0} (folder : FolderContents) (end : ℕ) (HasTaken : W → List ℕ → Type 0) (scripts : List Script) (rise : AreRising (script_clients scripts)) where
   each_alone : (owners : List Script) (olds news : List W) → AllByRecursion (λ x. script_for x.client scripts ≡ Some x) owners → Wrote HasTaken olds news (map (log_of folder end scripts) owners) → AreAlone folder end HasTaken scripts owners olds news

@@ -6,7 +6,6 @@ use Rattle.script_text.specs.declared.script.TheConstants.{MOST_SCRIPT}
 use Rattle.seq_session.specs.declared.fault.SessionFault.{SessionFault}
 use Rattle.seq_session.specs.declared.fault.SessionFault.TheVariants.{OutOfMemory, Read, Write, WriteListing}
 use Rattle.seq_session.specs.declared.source.Script.{Script}
-use Rattle.seq_session.specs.declared.session_logs.SessionLogs.{SessionLogs}
 use Rattle.seq_session.specs.declared.session_run.SessionRun.{SessionRun}
 use Rattle.seq_session.specs.declared.source.ScriptSource.{ScriptSource}
 use Rattle.seq_session.specs.Merging.{inputs_of, lines_of}
@@ -78,13 +77,6 @@ IsTextAlone folder end scripts owner text =
     ≡ blank member (script_reading folder end owner)
     (log_of folder end (only_scripts member scripts) owner)
 
--- so of each text; `owners` are the clients' scripts
-abbrev pub AreTextsAlone : FolderContents → ℕ → List Script → List Script → List (List ℕ) → Type 0
-AreTextsAlone folder end scripts (s ∷ owners) (t ∷ texts) =
-    IsTextAlone folder end scripts s t × AreTextsAlone folder end scripts owners texts
-AreTextsAlone folder end scripts [] [] = Unit {0}
-AreTextsAlone folder end scripts _ _ = ⊥
-
 -- So of what a log has gained.
 pub record IsAlone {W : Type 0} (folder : FolderContents) (end : ℕ) (HasTaken : W → List ℕ → Type 0)
     (scripts : List Script)
@@ -151,16 +143,6 @@ pub record IsSession {T R W : Type 0} (HasLeft : R → List ℕ → Type 0)
   pub scripts : List Script
   pub read : AreRead HasLeft sources rests scripts
   pub written : IsWritten HasTaken folder end scripts olds news before after result
-
--- Scripts were read from these readers, and the logs and the listing are those of the session of
--- just these scripts; and each log is alone within its circles.
-pub record AreLogsOf {R : Type 0} (HasLeft : R → List ℕ → Type 0) (folder : FolderContents)
-    (end : ℕ) (sources rests : List (ScriptSource R)) (made : SessionLogs) : Type 0 where
-  pub scripts : List Script
-  pub read : AreRead HasLeft sources rests scripts
-  pub logs : map (λ l. l.items) made.logs ≡ all_logs folder end scripts
-  pub listing : made.listing ≡ listing_after folder end scripts
-  pub isolated : AreTextsAlone folder end scripts scripts (map (λ l. l.items) made.logs)
 
 -- The run is that of these scripts.
 pub record IsRunOf (folder : FolderContents) (end : ℕ) (scripts : List Script)

@@ -1,7 +1,7 @@
 //! Sessions: the scripts of many clients, merged and run together, and the log of each.
 //!
-//! `log_sessions` goes from the bytes of scripts to the texts of logs, and `run_sessions` writes these. Their contracts
-//! say what each log tells, and that it tells within a closed circle of clients what it tells in the session of the
+//! `stream_sessions` goes from the bytes of scripts to logs that are written while the session runs. Its contract
+//! says what each log tells, and that it tells within a closed circle of clients what it tells in the session of the
 //! circle's scripts alone.
 #![tactic(auto)]
 
@@ -48,6 +48,6 @@ pub use rows::worked_logs;
 pub use script_text::{MOST_FILES, MOST_SCRIPT, ScriptInput, ScriptRead, Skip, SkipReason};
 pub use session_logs::SessionLogs;
 pub use session_run::SessionRun;
-pub use sessions::{log_sessions, run_scripts, run_sessions, stream_sessions};
+pub use sessions::{run_scripts, run_sessions, stream_sessions};
 pub use slip::{Slip, SlipOnLine};
 pub use source::{Script, ScriptSource, clients_rise, logs_are_open, readers_are_sound};

@@ -10,7 +10,7 @@ ghost use Rattle.seq_session.specs.AllLogs.{clients_read};
 ghost use Rattle.seq_session.specs.Rising.{AreRising};
 ghost use Rattle.seq_session.specs.Merging.{inputs_of};
 ghost use Rattle.seq_session.specs.Sessions.{all_logs, listing_after, script_clients};
-ghost use Rattle.seq_session.specs.Devices.{clients, AreSound, AreOpen, Wrote, IsSession, IsRun, IsRunOf, AreLogsOf};
+ghost use Rattle.seq_session.specs.Devices.{clients, AreSound, AreOpen, Wrote, IsSession, IsRun, IsRunOf};
 ghost use Rattle.seq_session.specs.Streams.{logs_after, IsStoppedAt, IsStreamed, IsCutShort};
 ghost use Rattle.seq_session.specs.Devices.{reader_blamed, log_blamed, blames_listing, has_read, IsAmong, IsReading, ReadersTell, IsTold, LogsTell};
 
@@ -33,44 +33,14 @@ use memory::{Items, OutOfMemory};
 use seq_engine::{RunLog, run};
 use std::alloc::Global;
 
-/// Reads the script of each client, runs all of them together up to `until`, and makes each client's log, and the
-/// listing at the end. What a step of the run gives is added to the logs at once.
-///
-/// The numbers of the clients rise, no device has failed, and the agenda is empty. Of a script with more than
-/// `MOST_SCRIPT` bytes one byte more is read. A reader that finds no memory is `Read`; `OutOfMemory` is out of memory
-/// anywhere else.
-pub fn log_sessions<'f, 'b, R: Source, A: Agenda + Drop>(
-    alloc: Global,
-    scripts: &mut [ScriptSource<R>],
-    files: &NamedFiles<'f, 'b>,
-    agenda: A,
-    until: u64,
-) -> Result<SessionLogs, SessionFault>
-    requires rising { AreRising (clients scripts.old) }
-    requires readers { AreSound R.failed scripts.old }
-    requires empty { A.content agenda ≡ finmap.empty }
-
-    // There are scripts, each what the calls of its reader gave, and the logs and the listing are those of the session
-    // of just these. Where a circle of clients is closed round the owner of a log, the log tells what it tells in the
-    // session of the circle's scripts alone, whatever all others say.
-    ensures logged { IfOk result (λ logs.
-        AreLogsOf R.HasLeft files.now until scripts.old scripts.new logs) }
-
-    ensures only { IfErr result IsReading }
-    ensures clients { clients scripts.new ≡ clients scripts.old }
-    ensures reader_marks { ReadersTell R.failed (reader_blamed result) scripts.new }
-    ensures reader_blamed { IfSome (reader_blamed result) (λ k. IsAmong k (clients scripts.old)) }
-{
-    let mut told = Vec::new(alloc);
-    read_all(alloc, scripts, &mut told)?;
-    Ok(log_told(alloc, told.as_slice(), files, agenda, until)?)
-}
-
-/// The same as `log_sessions`, but that the logs, in the order of the scripts, are written to devices while the session
-/// runs, many lines at once, and only the listing is kept for the end. `progress` is told of each input, and of the end.
+/// Reads the script of each client, runs all of them together up to `until`, and writes each client's log, in the order
+/// of the scripts, to a device while they run, many lines at once. It gives the listing at the end. `progress` is told
+/// of each input, and of the end.
 ///
 /// The numbers of the clients rise, `logs` are as many as the scripts, no device has failed, and the agenda is empty.
-/// All scripts are read before anything is written. A sink that finds no memory has failed: that is `Write`.
+/// All scripts are read before anything is written; of one with more than `MOST_SCRIPT` bytes one byte more is read. A
+/// reader that finds no memory is `Read`, a sink that finds none has failed, which is `Write`, and `OutOfMemory` is out
+/// of memory anywhere else.
 pub fn stream_sessions<'f, 'b, R: Source, W: Sink, A: Agenda + Drop, P: Progress>(
     alloc: Global,
     scripts: &mut [ScriptSource<R>],
@@ -118,8 +88,8 @@ pub fn stream_sessions<'f, 'b, R: Source, W: Sink, A: Agenda + Drop, P: Progress
     )
 }
 
-/// The same as `log_sessions`, but that the logs, in the order of the scripts, and then the listing are written to
-/// devices.
+/// The same as `stream_sessions`, but that the logs, in the order of the scripts, and then the listing are written to
+/// devices when the run is over.
 ///
 /// The numbers of the clients rise, `logs` are as many as the scripts, no device has failed, and the
 /// agenda is empty. All is read, and the texts of all logs and of the listing are made, before

@@ -22,7 +22,7 @@ pub struct Script {
     pub text: Items<u8>,
 }
 
-/// Whether each client's number is above the one before, as `log_sessions` and `run_sessions` ask.
+/// Whether each client's number is above the one before, as `stream_sessions` and `run_scripts` ask.
 pub fn clients_rise<R>(scripts: &[ScriptSource<R>]) -> bool
     ensures { IsTrue result ↔ AreRising (clients scripts.now) }
 {
@@ -40,7 +40,7 @@ pub fn clients_rise<R>(scripts: &[ScriptSource<R>]) -> bool
     true
 }
 
-/// Whether no reader has failed, as `log_sessions` and `run_sessions` ask.
+/// Whether no reader has failed, as `stream_sessions` and `run_scripts` ask.
 pub fn readers_are_sound<R: Source>(scripts: &[ScriptSource<R>]) -> bool
     ensures { IsTrue result ↔ AreSound R.failed scripts.now }
 {
@@ -50,7 +50,7 @@ pub fn readers_are_sound<R: Source>(scripts: &[ScriptSource<R>]) -> bool
     }
 }
 
-/// Whether no log has failed, as `run_sessions` asks.
+/// Whether no log has failed, as `stream_sessions` asks.
 pub fn logs_are_open<W: Sink>(logs: &[W]) -> bool
     ensures { IsTrue result ↔ AreOpen W.failed logs.now }
 {
