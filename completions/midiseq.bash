@@ -23,7 +23,7 @@ _midiseq_word() {
 }
 
 _midiseq() {
-    local word sub previous subcommands='run record circle thru wire dump'
+    local word sub previous subcommands='run record circle why thru wire dump'
     word=$(_midiseq_word)
     sub=${COMP_WORDS[1]}
     previous=${COMP_WORDS[COMP_CWORD - 1]}
@@ -46,18 +46,23 @@ _midiseq() {
             _midiseq_files "$word" .mid .MID .midi
             return
             ;;
+        --log)
+            _midiseq_files "$word"
+            return
+            ;;
         --format)
             mapfile -t COMPREPLY < <(compgen -W 'text json csv' -- "$word")
             return
             ;;
-        --until | --for | --port | --ports | --ppq | --bpm | --owner) return ;;
+        --until | --for | --port | --ports | --ppq | --bpm | --owner | --from | --at | --message) return ;;
     esac
     case $sub in
-        run | record | circle)
+        run | record | circle | why)
             if [[ $word == -* ]]; then
-                local options='--until --for --to-end --dir --list --explain --strict --format --logs --append --help'
+                local options='--until --for --to-end --dir --list --explain --strict --format --logs --append --quiet --help'
                 [[ $sub == record ]] && options='--until --for --to-end --dir --explain --strict --raw --port --ports --ppq --bpm --like --out --help'
                 [[ $sub == circle ]] && options='--until --for --to-end --dir --owner --session --help'
+                [[ $sub == why ]] && options='--from --at --message --log --dir --help'
                 mapfile -t COMPREPLY < <(compgen -W "$options" -- "$word")
             elif [[ $word == *=* ]]; then
                 _midiseq_files "${word#*=}"

@@ -11,20 +11,22 @@ use clap::ArgMatches;
 use clap::error::ErrorKind;
 use file_store::SystemFiles;
 use program_tasks::{
-    Ended, LINE_START, Notes, ProgramFault, STANDARD, StandardError, Task, finish, perform,
+    Ended, LINE_START, Notes, ProgramFault, ProgressLine, STANDARD, StandardError, Task, finish, perform,
 };
 use std::alloc::{AllocError, Global};
+use std::io::IsTerminal;
 use std::process::ExitCode;
 use std::rt::{Env, Files};
 use std::{env, io};
 
 fn main(rt: HostRuntime) -> ExitCode {
     let mut notes = StandardError::new(&rt);
+    let mut progress = ProgressLine::new(&rt, rt.stderr().is_terminal());
     let words = match read_words(&rt) {
         Ok(words) => words,
         Err(fault) => return ExitCode::from(finish(Err(fault), &mut notes)),
     };
-    let ended = program(&rt, words.as_slice(), &mut notes);
+    let ended = program(&rt, words.as_slice(), &mut notes, &mut progress);
     ExitCode::from(finish(ended, &mut notes))
 }
 
@@ -65,6 +67,7 @@ fn program<'a>(
     rt: &(impl Files + Input + Print + Eprint + AllocGlobal + Clone + Drop),
     words: &'a [String],
     notes: &mut impl Notes,
+    progress: &mut ProgressLine<'_, impl Eprint>,
 ) -> Result<Ended, ProgramFault<'a>> {
     let alloc = rt.alloc();
     let store = SystemFiles::new(rt.clone()?);
@@ -79,7 +82,16 @@ fn program<'a>(
             let Some((name, found)) = matches.subcommand() else {
                 return Err(ProgramFault::NoSubcommand);
             };
-            subcommands::perform(alloc, &store, name, found, &mut input, &mut out, notes)
+            subcommands::perform(
+                alloc,
+                &store,
+                name,
+                found,
+                &mut input,
+                &mut out,
+                notes,
+                progress,
+            )
         }
         Err(error) => shown(rt, &error),
     }

@@ -10,16 +10,18 @@ use crate::sessions::{self, is_asked};
 use byte_io::Sink;
 use clap::ArgMatches;
 use file_store::FileStore;
-use program_tasks::{Ended, Notes, ProgramFault, reasoned};
+use program_tasks::{Ended, Notes, ProgramFault, ProgressLine, reasoned};
 use std::alloc::Global;
 
-/// Runs scripts as `sessions::run` does, and tells why a path could not be read where that is asked for.
-pub(crate) fn run<'a, S: FileStore, W: Sink, N: Notes>(
+/// Runs scripts as `sessions::run` does, and tells why a path could not be read where that is asked for. The progress
+/// line goes before anything more is told.
+pub(crate) fn run<'a, S: FileStore, W: Sink, N: Notes, R: Eprint>(
     alloc: Global,
     store: &S,
     found: &ArgMatches<'a>,
     out: &mut W,
     notes: &mut N,
+    progress: &mut ProgressLine<'_, R>,
 ) -> Result<Ended, ProgramFault<'a>>
     requires { W.failed out.old ≡ false }
     ensures ran { IfOk result (RunsAsGiven S.IsOpened S.Reader.HasLeft S.CannotOpen S.Reader.failed
@@ -32,7 +34,9 @@ pub(crate) fn run<'a, S: FileStore, W: Sink, N: Notes>(
         S.Writer.takes_some S.CannotPlace (IsStuck W.failed W.takes_some out.old out.new) N.HasTold
         (found_of found.now) notes.old notes.new e)) }
 {
-    match sessions::run(alloc, store, found, out, notes) {
+    let ended = sessions::run(alloc, store, found, out, notes, progress);
+    progress.end();
+    match ended {
         Ok(ended) => Ok(ended),
         Err(fault) => Err(told(store, found, fault)),
     }

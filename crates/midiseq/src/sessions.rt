@@ -16,7 +16,7 @@ use log_forms::LogForm;
 use node_table::PortAddr;
 use program_tasks::{
     CircleAnswer, CircleQuestion, EndWord, Ended, GridWords, LogFolder, Notes, Printing,
-    ProgramFault, Recorded, Recording, Session, WhyQuestion, client_named, form_named, port_named, ports_named,
+    ProgramFault, ProgressLine, Recorded, Recording, Session, WhyQuestion, client_named, form_named, port_named, ports_named,
 };
 use std::alloc::Global;
 
@@ -45,12 +45,13 @@ fn session_of<'a>(alloc: Global, found: &ArgMatches<'a>) -> Result<Session<'a>, 
 
 /// Runs the scripts. Without --logs it prints each client's log, and with it writes each to a file of that folder while
 /// they run.
-pub(crate) fn run<'a, S: FileStore, W: Sink, N: Notes>(
+pub(crate) fn run<'a, S: FileStore, W: Sink, N: Notes, R: Eprint>(
     alloc: Global,
     store: &S,
     found: &ArgMatches<'a>,
     out: &mut W,
     notes: &mut N,
+    progress: &mut ProgressLine<'_, R>,
 ) -> Result<Ended, ProgramFault<'a>>
     requires { W.failed out.old ≡ false }
     ensures ran { IfOk result (RunsAsGiven S.IsOpened S.Reader.HasLeft S.CannotOpen S.Reader.failed
@@ -63,21 +64,30 @@ pub(crate) fn run<'a, S: FileStore, W: Sink, N: Notes>(
         (found_of found.now) notes.old notes.new e) }
 {
     let session = session_of(alloc, found)?;
+    follow(found, session.until, progress);
     let Some(path) = found.get_str("logs") else {
-        return print_run(alloc, store, found, &session, out, notes);
+        return print_run(alloc, store, found, &session, out, notes, progress);
     };
-    stream_run(alloc, store, found, &session, path, out, notes)
+    stream_run(alloc, store, found, &session, path, out, notes, progress)
+}
+
+/// Lets the progress line follow a session, where --quiet does not say otherwise.
+fn follow<R: Eprint>(found: &ArgMatches<'_>, until: u64, progress: &mut ProgressLine<'_, R>) {
+    if !found.get_flag("quiet") {
+        progress.begin(until);
+    }
 }
 
 /// Runs a session, and prints each client's log and, where asked for, the listing at the end. With --explain and
 /// --strict it tells what the run did not do, and with --strict whether that is nothing.
-fn print_run<'a, S: FileStore, W: Sink, N: Notes>(
+fn print_run<'a, S: FileStore, W: Sink, N: Notes, R: Eprint>(
     alloc: Global,
     store: &S,
     found: &ArgMatches<'a>,
     session: &Session<'a>,
     out: &mut W,
     notes: &mut N,
+    progress: &mut ProgressLine<'_, R>,
 ) -> Result<Ended, ProgramFault<'a>>
     requires rising { AreRising (owners session.now.scripts.items) }
     requires sound { W.failed out.old ≡ false }
@@ -101,7 +111,7 @@ fn print_run<'a, S: FileStore, W: Sink, N: Notes>(
         program_tasks::explain(alloc, store, session, printing, out, notes)?;
         return Ok(Ended::Done);
     }
-    program_tasks::run(alloc, store, session, printing, out, notes)?;
+    program_tasks::run(alloc, store, session, printing, out, notes, progress)?;
     Ok(Ended::Done)
 }
 
@@ -124,7 +134,7 @@ fn printing_of<'a>(found: &ArgMatches<'a>) -> Result<Printing, ProgramFault<'a>>
 
 /// Runs a session, writes each client's log to a file of the folder at this path, and prints the listing where asked
 /// for.
-fn stream_run<'a, S: FileStore, W: Sink, N: Notes>(
+fn stream_run<'a, S: FileStore, W: Sink, N: Notes, R: Eprint>(
     alloc: Global,
     store: &S,
     found: &ArgMatches<'a>,
@@ -132,6 +142,7 @@ fn stream_run<'a, S: FileStore, W: Sink, N: Notes>(
     path: &'a str,
     out: &mut W,
     notes: &mut N,
+    progress: &mut ProgressLine<'_, R>,
 ) -> Result<Ended, ProgramFault<'a>>
     requires rising { AreRising (owners session.now.scripts.items) }
     requires sound { W.failed out.old ≡ false }
@@ -148,7 +159,7 @@ fn stream_run<'a, S: FileStore, W: Sink, N: Notes>(
     let append = found.get_flag("append");
     let logs = LogFolder { path, append };
     let listed = found.get_flag("list");
-    program_tasks::stream(alloc, store, session, &logs, listed, out, notes)?;
+    program_tasks::stream(alloc, store, session, &logs, listed, out, notes, progress)?;
     Ok(Ended::Done)
 }
 

@@ -10,12 +10,12 @@ use crate::{reasons, sessions};
 use byte_io::{Sink, Source};
 use clap::ArgMatches;
 use file_store::FileStore;
-use program_tasks::{Ended, Notes, ProgramFault, STANDARD, Task};
+use program_tasks::{Ended, Notes, ProgramFault, ProgressLine, STANDARD, Task};
 use std::alloc::Global;
 
 /// Does what a subcommand says, with the words that clap has found for it.
 #[inline(never)]
-pub(crate) fn perform<'a, S: FileStore, I: Source, W: Sink, N: Notes>(
+pub(crate) fn perform<'a, S: FileStore, I: Source, W: Sink, N: Notes, R: Eprint>(
     alloc: Global,
     store: &S,
     name: &str,
@@ -23,6 +23,7 @@ pub(crate) fn perform<'a, S: FileStore, I: Source, W: Sink, N: Notes>(
     input: &mut I,
     out: &mut W,
     notes: &mut N,
+    progress: &mut ProgressLine<'_, R>,
 ) -> Result<Ended, ProgramFault<'a>>
     requires input_sound { I.failed input.old ≡ false }
     requires out_sound { W.failed out.old ≡ false }
@@ -46,7 +47,7 @@ pub(crate) fn perform<'a, S: FileStore, I: Source, W: Sink, N: Notes>(
             sessions::why(alloc, store, found, out, notes)?;
             Ok(Ended::Done)
         }
-        "run" => reasons::run(alloc, store, found, out, notes),
+        "run" => reasons::run(alloc, store, found, out, notes, progress),
         "record" => reasons::record(alloc, store, found, notes),
         _ => {
             perform_tool(alloc, store, name, found, input, out)?;

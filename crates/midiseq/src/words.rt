@@ -6,10 +6,11 @@ use std::alloc::{AllocError, Global};
 const VERSION: &str = "0.1.0";
 
 const EXAMPLES: &str = "\
-run, record and circle take a script for each client: a command a line, each
-with its moment in nanoseconds. thru and wire take raw MIDI bytes, as they come
-from a cable; dump takes a Standard MIDI File (.mid). FILE may be - for standard
-input. `midiseq` alone does `thru -`: it waits for MIDI bytes on standard input.
+run, record, circle and why take a script for each client: a command a line,
+each with its moment in nanoseconds. thru and wire take raw MIDI bytes, as they
+come from a cable; dump takes a Standard MIDI File (.mid). FILE may be - for
+standard input. `midiseq` alone does `thru -`: it waits for MIDI bytes on
+standard input.
 
 Examples:
   printf '\\x90\\x3C\\x40' | midiseq thru -
@@ -31,6 +32,9 @@ Examples:
       the same for two ports, each a track of the file takes.mid
   midiseq circle --for 1s --owner 129 128=keys.txt 129=synth.txt
       prints who can change what client 129 hears, and last `shut`, or `open`
+  midiseq why --from 128:p0 --at 5 --message \"90 24 64\" 128=keys.txt \\
+      129=synth.txt
+      prints where this note would arrive, be lost, or be stopped, and by what
 
 Status:
   0  done, or help or the version was asked for
@@ -266,6 +270,7 @@ fn run<'a>(alloc: Global) -> Result<Command<'a>, AllocError> {
         .arg(append(alloc)?)?
         .arg(explain(alloc))?
         .arg(strict(alloc))?
+        .arg(quiet(alloc))?
         .arg(scripts(alloc))
 }
 
@@ -405,6 +410,14 @@ fn strict<'a>(alloc: Global) -> Arg<'a> {
         .long("strict")
         .action(ArgAction::SetTrue)
         .help("the same, with status 3 where there is any")
+}
+
+fn quiet<'a>(alloc: Global) -> Arg<'a> {
+    Arg::new(alloc, "quiet")
+        .short('q')
+        .long("quiet")
+        .action(ArgAction::SetTrue)
+        .help("show no progress, as a terminal has it else")
 }
 
 fn raw<'a>(alloc: Global) -> Result<Arg<'a>, AllocError> {

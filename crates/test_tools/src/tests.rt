@@ -12,3 +12,4 @@ mod recording;
 mod refusals;
 mod sessions;
 mod streams;
+mod why;
