@@ -39,6 +39,7 @@ check: build
 	test/docs $(PROGRAM)
 	test/refused-calls $(PROGRAM)
 	test/refused-memory
+	test/progress $(PROGRAM)
 	test/hostile --program $(PROGRAM)
 	test/random-nets $(PROGRAM)
 	test/random-circles --count 1000 $(PROGRAM)

@@ -11,7 +11,8 @@ use clap::ArgMatches;
 use clap::error::ErrorKind;
 use file_store::SystemFiles;
 use program_tasks::{
-    Ended, LINE_START, Notes, ProgramFault, ProgressLine, STANDARD, StandardError, Task, finish, perform,
+    Ended, LINE_START, Notes, ProgramFault, ProgressLine, STANDARD, StandardError, Task, finish,
+    perform,
 };
 use std::alloc::{AllocError, Global};
 use std::io::IsTerminal;
@@ -83,14 +84,7 @@ fn program<'a>(
                 return Err(ProgramFault::NoSubcommand);
             };
             subcommands::perform(
-                alloc,
-                &store,
-                name,
-                found,
-                &mut input,
-                &mut out,
-                notes,
-                progress,
+                alloc, &store, name, found, &mut input, &mut out, notes, progress,
             )
         }
         Err(error) => shown(rt, &error),

@@ -16,7 +16,8 @@ use log_forms::LogForm;
 use node_table::PortAddr;
 use program_tasks::{
     CircleAnswer, CircleQuestion, EndWord, Ended, GridWords, LogFolder, Notes, Printing,
-    ProgramFault, ProgressLine, Recorded, Recording, Session, WhyQuestion, client_named, form_named, port_named, ports_named,
+    ProgramFault, ProgressLine, Recorded, Recording, Session, WhyQuestion, client_named,
+    form_named, port_named, ports_named,
 };
 use std::alloc::Global;
 

@@ -77,15 +77,7 @@ pub fn stream_sessions<'f, 'b, R: Source, W: Sink, A: Agenda + Drop, P: Progress
 {
     let mut told = Vec::new(alloc);
     read_all(alloc, scripts, &mut told)?;
-    stream_told(
-        alloc,
-        told.as_slice(),
-        files,
-        agenda,
-        until,
-        logs,
-        progress,
-    )
+    stream_told(alloc, told.as_slice(), files, agenda, until, logs, progress)
 }
 
 /// The same as `stream_sessions`, but that the logs, in the order of the scripts, and then the listing are written to
