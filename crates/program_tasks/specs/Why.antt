@@ -4,7 +4,6 @@ use Rattle.std.specs.List.{flat_map, starts_with}
 use Rattle.std.specs.Option.{option_and_then, option_map, option_or}
 use Rattle.std.specs.Str.{byte}
 use Rattle.byte_io.specs.Moved.{Took}
-use Rattle.node_table.specs.declared.number.Addr.{Addr}
 use Rattle.node_table.specs.declared.number.Node.{Node}
 use Rattle.node_table.specs.declared.number.Node.TheVariants.{Port, Filter}
 use Rattle.node_table.specs.declared.number.PortAddr.{PortAddr}

@@ -1,20 +1,17 @@
 -- Fates, found way by way.
-use Rattle.std.proofs.Common.{◌≡◌, ℕ, zero, suc, ◌+◌, ◌-◌, ◌<◌, ◌≤◌, Bool, true, false, cond, List, [], ◌∷◌, ◌++◌, take, Option, Some, None, refl, sym, ap, ◌∙◌, arith, append-nil, append_assoc}
+use Rattle.std.proofs.Common.{◌≡◌, ℕ, zero, suc, ◌+◌, ◌-◌, ◌<◌, ◌≤◌, Bool, cond, List, [], ◌∷◌, ◌++◌, take, Some, None, refl, sym, ap, ◌∙◌, arith, append-nil, append_assoc}
 use Rattle.std.specs.Prelude.{nat_lt, is_some, unwrap_or, slice_index}
-use Rattle.std.specs.Option.{option_and_then, option_map, option_or}
 use Rattle.std.specs.Ordering.{nat_cmp}
 use Rattle.std.specs.FinMap.{FinMap, get}
 use Rattle.node_table.specs.declared.number.Addr.{Addr}
 use Rattle.node_table.specs.declared.number.PortAddr.{PortAddr}
 use Rattle.patch_graph.specs.Cursor.{at_port}
 use Rattle.seq_state.specs.State.{Client}
-use Rattle.seq_state.specs.Copies.{filter_at, passed_by}
 use Rattle.seq_clients.specs.Roster.{input_size}
 use Rattle.way_fates.specs.Fates.{stopped_at}
 use Rattle.way_fates.specs.Kept.{one_less, end_client, fate_with, fate_by, rooms_past, fates_by}
 use Rattle.way_fates.specs.declared.fate.Fate.{Fate}
-use Rattle.way_fates.specs.declared.stop.Stop.{Stop}
-use Rattle.way_fates.specs.declared.fate.Fate.TheVariants.{Stopped, Arrives, Lost}
+use Rattle.way_fates.specs.declared.fate.Fate.TheVariants.{Arrives, Lost}
 use Rattle.way_fates.specs.declared.fate.WayFate.{WayFate}
 
 end-last : (front : List Addr) (a : Addr) → end_client (front ++ a ∷ []) ≡ a.client
