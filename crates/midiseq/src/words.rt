@@ -223,7 +223,7 @@ its end.
 Examples, with these lines in keys.txt and synth.txt:
   0 open keys 100 100             0 open synth 100 100
   0 port 0 out 33                 0 port 0 in 66
-  5 send 0 90 3C 40               0 filter 0 66 65535 1023 60 127 0
+  5 send 0 90 3C 40               0 filter 0 3 65535 1023 60 127 0
   6 start 128:q0                  0 connect 128:p0 129:f0
                                   0 connect 129:f0 129:p0
   midiseq why --from 128:p0 --at 5 --message \"90 24 64\" \\

@@ -19,7 +19,7 @@ const FILES: &[(&str, &[u8])] = &[
     ),
     (
         "synth.txt",
-        b"0 open synth 2 9\n0 port 0 in 66\n0 port 1 all 66\n0 filter 0 66 65535 1023 60 127 0\n\
+        b"0 open synth 2 9\n0 port 0 in 66\n0 port 1 all 66\n0 filter 0 3 65535 1023 60 127 0\n\
         0 connect 128:p0 129:f0\n0 connect 129:f0 129:p0\n0 connect 128:p0 129:p1\n",
     ),
 ];
