@@ -1,5 +1,5 @@
 -- Definition: What becomes of a message, as text, with a line for each way.
-use Rattle.std.specs.Prelude.{ℕ, ◌+◌, Bool, true, false, if◌then◌else◌, List, [], ◌∷◌, ◌++◌, codes}
+use Rattle.std.specs.Prelude.{ℕ, zero, suc, ◌+◌, Bool, true, false, if◌then◌else◌, List, [], ◌∷◌, ◌++◌, codes}
 use Rattle.std.specs.List.{flat_map}
 use Rattle.std.specs.Fmt.{decimal, signed_decimal}
 use Rattle.node_table.specs.Addresses.{same}
@@ -23,8 +23,8 @@ stop_text (NoteBelow note low) =
 stop_text (NoteAbove note high) =
     codes "note " ++ decimal note ++ codes " is above " ++ decimal high
 stop_text (NoteShifted note shift) =
-    codes "note " ++ decimal note ++ codes " shifted by " ++ signed_decimal shift
-    ++ codes " is no note"
+    (codes "note " ++ decimal note ++ codes " shifted by ")
+    ++ (signed_decimal shift ++ codes " is no note")
 
 abbrev pub fate_text : Fate → List ℕ
 fate_text (Stopped filter why) = codes " stopped: " ++ stop_text why
@@ -41,21 +41,24 @@ abbrev pub reached : Fate → List Addr → List Addr
 reached (Stopped filter why) route = up_to filter route
 reached _ route = route
 
-abbrev pub nodes_text : List Addr → List ℕ
-nodes_text nodes = flat_map (λ a. codes " > " ++ node_text a) nodes
+abbrev pub step_text : Addr → List ℕ
+step_text a = codes " > " ++ node_text a
+
+abbrev pub steps_text : List Addr → List ℕ
+steps_text nodes = flat_map step_text nodes
 
 -- `128:p0 > 131:f0 stopped: note 36 is below 60`
 abbrev pub way_line : Addr → WayFate → List ℕ
 way_line source way =
-    node_text source ++ (nodes_text (reached way.fate way.route) ++ (fate_text way.fate ++ 10 ∷ []))
+    node_text source ++ (steps_text (reached way.fate way.route) ++ (fate_text way.fate ++ 10 ∷ []))
 
 abbrev pub ways_text : Addr → List WayFate → List ℕ
 ways_text source ways = flat_map (way_line source) ways
 
 -- of how many ways more no line is told
 abbrev pub more_text : ℕ → List ℕ
-more_text 0 = []
-more_text n = codes "and " ++ decimal n ++ codes " ways more\n"
+more_text zero = []
+more_text (suc n) = codes "and " ++ decimal (suc n) ++ codes " ways more\n"
 
 -- what is said of a port from which no way leads
 abbrev pub no_way_text : Bool → Addr → List ℕ

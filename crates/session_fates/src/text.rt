@@ -2,10 +2,10 @@
 
 ghost use Rattle.std.specs.Prelude.{◌≡◌, ◌++◌, IfOk, OnOk};
 ghost use Rattle.seq_state.specs.Step.{port_addr};
-ghost use Rattle.session_fates.specs.Told.{nodes_text, up_to, reached, way_line, ways_text, more_text, no_way_text, fates_text};
+ghost use Rattle.session_fates.specs.Told.{step_text, steps_text, up_to, reached, way_line, ways_text, more_text, no_way_text, fates_text};
 
 use crate::asking::SessionFates;
-use crate::phrases::{push_fate, push_node};
+use crate::phrases::{push_fate, push_node, push_words};
 use memory::OutOfMemory;
 use node_table::{Addr, PortAddr};
 use std::alloc::Global;
@@ -23,26 +23,32 @@ fn push_up_to(
     last: &Addr,
 ) -> Result<(), OutOfMemory>
     ensures { OnOk result
-        (text.new.items ≡ text.old.items ++ nodes_text (up_to last.now nodes.now)) }
+        (text.new.items ≡ text.old.items ++ steps_text (up_to last.now nodes.now)) }
 {
     let Some((node, more)) = nodes.split_first() else {
         return Ok(());
     };
-    push_nodes(text, alloc, &nodes[..1])?;
+    push_step(text, alloc, node)?;
     if node == last {
         return Ok(());
     }
     push_up_to(text, alloc, more, last)
 }
 
-fn push_nodes(text: &mut Vec<u8>, alloc: Global, nodes: &[Addr]) -> Result<(), OutOfMemory>
-    ensures { OnOk result (text.new.items ≡ text.old.items ++ nodes_text nodes.now) }
+fn push_steps(text: &mut Vec<u8>, alloc: Global, nodes: &[Addr]) -> Result<(), OutOfMemory>
+    ensures { OnOk result (text.new.items ≡ text.old.items ++ steps_text nodes.now) }
 {
     for node in nodes {
-        text.extend_from_slice(b" > ")?;
-        push_node(text, alloc, node)?;
+        push_step(text, alloc, node)?;
     }
     Ok(())
+}
+
+fn push_step(text: &mut Vec<u8>, alloc: Global, node: &Addr) -> Result<(), OutOfMemory>
+    ensures { OnOk result (text.new.items ≡ text.old.items ++ step_text node.now) }
+{
+    push_words(text, " > ")?;
+    push_node(text, alloc, node)
 }
 
 /// Adds the nodes of a way that a message comes to.
@@ -53,11 +59,11 @@ fn push_reached(
     fate: Fate,
 ) -> Result<(), OutOfMemory>
     ensures { OnOk result
-        (text.new.items ≡ text.old.items ++ nodes_text (reached fate nodes.now)) }
+        (text.new.items ≡ text.old.items ++ steps_text (reached fate nodes.now)) }
 {
     match fate {
         Fate::Stopped { filter, .. } => push_up_to(text, alloc, nodes, &filter),
-        Fate::Arrives | Fate::Lost { .. } => push_nodes(text, alloc, nodes),
+        Fate::Arrives | Fate::Lost { .. } => push_steps(text, alloc, nodes),
     }
 }
 
@@ -73,8 +79,7 @@ fn push_way(
     push_node(text, alloc, source)?;
     push_reached(text, alloc, way.route.nodes(), way.fate)?;
     push_fate(text, alloc, way.fate)?;
-    text.push(b'\n')?;
-    Ok(())
+    push_words(text, "\n")
 }
 
 fn push_ways(
@@ -98,8 +103,7 @@ fn push_more(text: &mut Vec<u8>, alloc: Global, more: u64) -> Result<(), OutOfMe
     if more == 0 {
         return Ok(());
     }
-    text.extend_from_slice(format!(in alloc; "and {more} ways more\n")?.as_bytes())?;
-    Ok(())
+    push_words(text, format!(in alloc; "and {more} ways more\n")?.as_str())
 }
 
 /// Adds what is said of a port from which no way leads.
@@ -113,11 +117,10 @@ fn push_no_way(
 {
     push_node(text, alloc, source)?;
     if is_there {
-        text.extend_from_slice(b" leads to no port\n")?;
+        push_words(text, " leads to no port\n")
     } else {
-        text.extend_from_slice(b" is not there\n")?;
+        push_words(text, " is not there\n")
     }
-    Ok(())
 }
 
 /// What becomes of a message from a port, with a line for each way, and behind them how many ways more there are. Where
