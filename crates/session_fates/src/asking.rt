@@ -1,10 +1,12 @@
 //! What becomes of a message in a session at a moment.
 
 ghost use Rattle.std.specs.Prelude.{◌≡◌, ◌-◌, take, IfOk, OnOk};
-ghost use Rattle.std.specs.FinMap as finmap;
+ghost use Rattle.std.specs.FinMap.{get};
+ghost use Rattle.seq_state.specs.Effect.{has_port};
 ghost use Rattle.seq_state.specs.Step.{IsTimed, port_addr};
 ghost use Rattle.seq_engine.specs.Begun.{seen_at_start};
 ghost use Rattle.way_fates.specs.Counts.{way_count};
+ghost use Rattle.way_fates.specs.Fates.{fates};
 ghost use Rattle.way_fates.specs.Laws.{fates_of};
 ghost use Rattle.session_fates.specs.Asked.{state_by, state_at, is_there};
 
@@ -13,6 +15,7 @@ use memory::OutOfMemory;
 use midi_wire::Message;
 use node_table::{Addr, PortAddr};
 use seq_engine::{Engine, EngineFault};
+use seq_patchbay::Patchbay;
 use seq_session::{NamedFiles, Script, merge, parse_all};
 use seq_state::Input;
 use std::alloc::Global;
@@ -43,27 +46,28 @@ fn run_to<A: Agenda>(
     Ok(())
 }
 
-/// What becomes of a message from a port as an engine stands.
-fn fates_now<A: Agenda>(
+/// What becomes of a message from a port.
+fn fates_from(
     alloc: Global,
-    engine: &Engine<'_, '_, A>,
+    patchbay: &Patchbay,
     moment: u64,
     port: PortAddr,
     message: &Message,
     most: usize,
 ) -> Result<SessionFates, OutOfMemory>
     ensures ways { let source = port_addr port.client port.port in
-        IfOk result (λ f.
-        f.fates.ways ≡ take most (fates_of engine.now.state moment source message.now)) }
+        let meant = fates patchbay.now.clients patchbay.now.graph moment source message.now in
+        IfOk result (λ f. f.fates.ways ≡ take most meant) }
     ensures more { let source = port_addr port.client port.port in
-        IfOk result (λ f. f.fates.more ≡ way_count engine.now.state.edges source - most) }
-    ensures there { IfOk result (λ f. f.is_there ≡ is_there engine.now.state port) }
+        IfOk result (λ f. f.fates.more ≡ way_count patchbay.now.graph source - most) }
+    ensures there { let client = get patchbay.now.clients.clients port.client in
+        IfOk result (λ f. f.is_there ≡ has_port client port.port) }
 {
-    let patchbay = engine.patchbay();
     let source = Addr::from(port);
-    let fates = fates(alloc, patchbay, moment, &source, message, most)?;
-    let is_there = patchbay.clients().has_port(port.client, port.port);
-    Ok(SessionFates { fates, is_there })
+    Ok(SessionFates {
+        fates: fates(alloc, patchbay, moment, &source, message, most)?,
+        is_there: patchbay.clients().has_port(port.client, port.port),
+    })
 }
 
 /// What becomes of a message from a port once these inputs were taken, and what is due by a moment was sent.
@@ -91,7 +95,7 @@ fn fates_by<A: Agenda>(
     let Ok(()) = run_to(engine, inputs, moment) else {
         return Err(OutOfMemory);
     };
-    fates_now(alloc, engine, moment, port, message, most)
+    fates_from(alloc, engine.patchbay(), moment, port, message, most)
 }
 
 /// Runs the scripts of a session up to a moment, in nanoseconds, and says what would become of a message that were then

@@ -49,14 +49,20 @@ fn push_stop(text: &mut Vec<u8>, alloc: Global, why: Stop) -> Result<(), OutOfMe
 fn push_below(text: &mut Vec<u8>, alloc: Global, note: u8, low: u8) -> Result<(), OutOfMemory>
     ensures { OnOk result (text.new.items ≡ text.old.items ++ stop_text (NoteBelow note low)) }
 {
-    push_words(text, format!(in alloc; "note {note} is below {low}")?.as_str())
+    push_words(
+        text,
+        format!(in alloc; "note {note} is below {low}")?.as_str(),
+    )
 }
 
 /// Adds that a note lies above a range.
 fn push_above(text: &mut Vec<u8>, alloc: Global, note: u8, high: u8) -> Result<(), OutOfMemory>
     ensures { OnOk result (text.new.items ≡ text.old.items ++ stop_text (NoteAbove note high)) }
 {
-    push_words(text, format!(in alloc; "note {note} is above {high}")?.as_str())
+    push_words(
+        text,
+        format!(in alloc; "note {note} is above {high}")?.as_str(),
+    )
 }
 
 /// Adds that a note that is shifted is none.
@@ -73,7 +79,10 @@ fn push_channel(text: &mut Vec<u8>, alloc: Global, channel: u8) -> Result<(), Ou
     ensures { OnOk result (text.new.items ≡ text.old.items ++ stop_text (Channel channel)) }
 {
     let number = u16::from(channel) + 1;
-    push_words(text, format!(in alloc; "channel {number} is not let through")?.as_str())
+    push_words(
+        text,
+        format!(in alloc; "channel {number} is not let through")?.as_str(),
+    )
 }
 
 /// Adds what becomes of a message.
@@ -87,7 +96,10 @@ pub(crate) fn push_fate(text: &mut Vec<u8>, alloc: Global, fate: Fate) -> Result
         }
         Fate::Arrives => push_words(text, " arrives"),
         Fate::Lost { size } => {
-            push_words(text, format!(in alloc; " lost: pool of {size} full")?.as_str())
+            push_words(
+                text,
+                format!(in alloc; " lost: pool of {size} full")?.as_str(),
+            )
         }
     }
 }

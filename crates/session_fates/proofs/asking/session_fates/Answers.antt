@@ -1,0 +1,13 @@
+use Rattle.std.proofs.Common.{◌≡◌, ◌∙◌, map, ap, sym, subst}
+use Rattle.seq_state.specs.Step.{IsTimed}
+use Rattle.seq_session.specs.declared.merged.Merged.{Merged}
+use Rattle.seq_session.specs.Merging.{merge_of, AreSorted}
+use Rattle.seq_session.specs.Sessions.{script_reading}
+use Rattle.seq_session.proofs.Joining.{readings_sorted}
+use Rattle.seq_session.proofs.Isolated.{timed_law}
+use Rattle.session_fates.proofs.asking.session_fates.Goals as goal
+
+pub merge-requires : goal.merge-requires
+merge-requires c =
+    let reads : c.as_slice.result.now ≡ map (script_reading c.args.files.now c.args.moment) c.args.scripts.now = c.as_slice.ensures.value ∙ c.in_ok-reads.ensures.readings in
+    subst AreSorted (sym reads) (readings_sorted c.args.files.now c.args.moment c.args.scripts.now)
