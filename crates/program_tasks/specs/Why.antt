@@ -1,8 +1,8 @@
 -- Definition: Why a message did not come, and why a line did nothing.
-use Rattle.std.specs.Prelude.{◌≡◌, ◌⊎◌, ℕ, ◌-◌, ◌==◌, nat_eq, Bool, ◌&&◌, if◌then◌else◌, List, [], ◌∷◌, ◌++◌, codes, drop, length, take, Option, Some, None}
-use Rattle.std.specs.List.{flat_map, starts_with}
+use Rattle.std.specs.Prelude.{◌≡◌, ◌⊎◌, ℕ, ◌-◌, ◌==◌, Bool, ◌&&◌, if◌then◌else◌, List, [], ◌∷◌, ◌++◌, codes, drop, length, take, Option, Some, None}
+use Rattle.std.specs.List.{flat_map}
 use Rattle.std.specs.Option.{option_and_then, option_map, option_or}
-use Rattle.std.specs.Str.{byte}
+use Rattle.std.specs.Str.{byte, bytes_eq}
 use Rattle.byte_io.specs.Moved.{Took}
 use Rattle.node_table.specs.declared.number.Node.{Node}
 use Rattle.node_table.specs.declared.number.Node.TheVariants.{Port, Filter}
@@ -50,7 +50,8 @@ behind_colon (b ∷ digits) = if b == byte ":" then says.u64 digits else None
 -- the line that a word names behind this path, `PATH:LINE`
 abbrev pub line_behind : List ℕ → List ℕ → Option ℕ
 line_behind path word =
-    if starts_with nat_eq word path then behind_colon (drop (length path) word) else None
+    if bytes_eq (take (length path) word) path
+    then behind_colon (drop (length path) word) else None
 
 -- the client and the line that a word names behind the path of the first of these scripts
 abbrev pub line_named : List ScriptWord → List ℕ → Option (ℕ × ℕ)

@@ -95,7 +95,15 @@ fn message_answer<'a, S: FileStore>(
     let message = message_said(alloc, message)?;
     let scripts = read_scripts(alloc, store, session)?;
     let scripts = scripts.as_slice();
-    let told = session_fates(alloc, scripts, files, session.until, port, &message, MOST_TOLD)?;
+    let told = session_fates(
+        alloc,
+        scripts,
+        files,
+        session.until,
+        port,
+        &message,
+        MOST_TOLD,
+    )?;
     Ok(fates_text(alloc, port, &told)?)
 }
 
@@ -217,12 +225,7 @@ fn push_slip(
 }
 
 /// Adds that there is nothing to tell of a line.
-fn push_nothing(
-    text: &mut Vec<u8>,
-    alloc: Global,
-    path: &str,
-    line: u64,
-) -> Result<(), OutOfMemory>
+fn push_nothing(text: &mut Vec<u8>, alloc: Global, path: &str, line: u64) -> Result<(), OutOfMemory>
     ensures { OnOk result (text.new.items ≡ text.old.items ++ nothing_text path.now line) }
 {
     let path = Escaped(path);

@@ -38,10 +38,7 @@ pub(crate) fn source_named<'a>(word: &'a str) -> Result<PortAddr, ProgramFault<'
 }
 
 /// The message whose bytes a word says in hexadecimal.
-pub(crate) fn message_said<'a>(
-    alloc: Global,
-    word: &'a str,
-) -> Result<Message, ProgramFault<'a>>
+pub(crate) fn message_said<'a>(alloc: Global, word: &'a str) -> Result<Message, ProgramFault<'a>>
     ensures said { IfOk result (λ m. message_said word.now ≡ Some m) }
     ensures fault { IfErr result (IsOfMessage word.now) }
 {
