@@ -8,7 +8,7 @@ use Rattle.seq_session.specs.Devices.{IsRunOf}
 use Rattle.seq_session.specs.Diagnostics.{diagnostics}
 use Rattle.seq_session.specs.MadePorts.{had_port}
 use Rattle.seq_session.specs.Merging.{inputs_of, lines_of, merge_of}
-use Rattle.seq_session.specs.Sessions.{FolderContents, script_reading, session, happens, diagnosed_in, slips_in}
+use Rattle.seq_session.specs.Sessions.{FolderContents, script_reading, session, diagnosed_in, slips_in}
 use Rattle.seq_session.specs.Slips.{slips}
 use Rattle.sounding_notes.specs.Sounding.{sounding}
 use Rattle.program_tasks.specs.declared.explanation.Explanation.{Explanation}

@@ -8,6 +8,7 @@ pub mod Told
 pub mod Unread
 pub mod Found
 pub mod Fronts
+pub mod Held
 pub mod Ordered
 pub mod Places
 pub mod Endless

@@ -6,7 +6,6 @@ use Rattle.std.specs.Ordering.{nat_cmp}
 use Rattle.std.specs.Cmp.Lexicographic.{slice_cmp}
 use Rattle.std.specs.Str.{str_eq_ignore_ascii_case}
 use Rattle.file_store.specs.declared.standing.Standing.{Standing}
-use Rattle.smf_grammar.specs.declared.fault.SmfFault.{SmfFault}
 use Rattle.smf_grammar.specs.Files.{MidiFile, IsFile, Fault}
 use Rattle.program_tasks.specs.declared.left_out.LeftOutFile.{LeftOutFile}
 use Rattle.program_tasks.specs.declared.left_out.WhyLeftOut.{WhyLeftOut}

@@ -8,6 +8,7 @@ pub mod LogsPrinted
 pub mod Recording
 pub mod Rows
 pub mod Opened
+pub mod Held
 pub mod Apart
 pub mod Sessions
 pub mod Printed

@@ -2,16 +2,21 @@
 use Rattle.std.specs.Prelude.{◌≡◌, ℕ, Bool, true, false, List, ◌++◌, map}
 use Rattle.std.specs.List.{flat_map}
 use Rattle.byte_io.specs.Moved.{Took}
-use Rattle.seq_session.specs.declared.session_logs.SessionLogs.{SessionLogs}
+use Rattle.seq_session.specs.declared.fault.SessionFault.{SessionFault}
 use Rattle.seq_session.specs.declared.source.Script.{Script}
+use Rattle.seq_session.specs.declared.source.ScriptSource.{ScriptSource}
+use Rattle.seq_session.specs.Devices.{reader_of, AreRead, ReadersTell}
 use Rattle.seq_session.specs.Sessions.{FolderContents, log_of, all_logs, listing_after}
 use Rattle.program_tasks.specs.declared.words.ScriptWord.{ScriptWord}
 use Rattle.log_forms.specs.Forms.{log_in, head_of}
 use Rattle.log_forms.specs.declared.form.LogForm.{LogForm}
 use Rattle.log_forms.specs.declared.form.LogForm.TheVariants.{Text}
 use Rattle.program_tasks.specs.declared.form_word.Printing.{Printing}
+use Rattle.program_tasks.specs.declared.program_fault.ProgramFault.{ProgramFault}
+use Rattle.program_tasks.specs.declared.running.HeldLogs.{HeldLogs}
 use Rattle.program_tasks.specs.LogsPrinted.{headed_log, listing_there, listing_where}
 use Rattle.program_tasks.specs.Opened.{AreOfFiles}
+use Rattle.program_tasks.specs.Sessions.{IsToldAs}
 
 -- each client's number and its log
 abbrev pub headed_logs : FolderContents → ℕ → List Script → List ℕ
@@ -53,13 +58,31 @@ pub record IsSessionPrinted {R W : Type 0} (IsOpened : List ℕ → R → Type 0
   pub read : AreOfFiles IsOpened HasLeft words scripts
   pub took : Took HasTaken old (session_text printing folder end scripts) new
 
--- The scripts were read from the files that the words name, and the logs and the listing are those
--- of the session of just these.
-pub record IsSessionLogged {R : Type 0} (IsOpened : List ℕ → R → Type 0)
+-- ---- what is held until it is printed
+
+-- Scripts were read from these readers, and what is held are the logs and the listing of the
+-- session of just these scripts.
+pub record AreLogsHeld {R : Type 0} (HasLeft : R → List ℕ → Type 0) (folder : FolderContents)
+    (end : ℕ) (sources rests : List (ScriptSource R)) (held : HeldLogs) : Type 0 where
+  pub scripts : List Script
+  pub read : AreRead HasLeft sources rests scripts
+  pub logs : map (λ l. l.taken) held.logs.items ≡ all_logs folder end scripts
+  pub listing : held.listing ≡ listing_after folder end scripts
+
+-- A session stopped at a fault, which is told so, and a reader that is blamed has failed.
+pub record HoldingStopsAs {R : Type 0} (failed : R → Bool) (words : List ScriptWord)
+    (rests : List (ScriptSource R)) (told : ProgramFault) : Type 0 where
+  pub fault : SessionFault
+  pub told_as : IsToldAs words fault told
+  pub readers : ReadersTell failed (reader_of fault) rests
+
+-- The scripts were read from the files that the words name, and what is held are the logs and the
+-- listing of the session of just these.
+pub record IsSessionHeld {R : Type 0} (IsOpened : List ℕ → R → Type 0)
     (HasLeft : R → List ℕ → Type 0)
-    (folder : FolderContents) (end : ℕ) (words : List ScriptWord) (made : SessionLogs)
+    (folder : FolderContents) (end : ℕ) (words : List ScriptWord) (held : HeldLogs)
     : Type 0 where
   pub scripts : List Script
   pub read : AreOfFiles IsOpened HasLeft words scripts
-  pub logs : map (λ l. l.items) made.logs ≡ all_logs folder end scripts
-  pub listing : made.listing ≡ listing_after folder end scripts
+  pub logs : map (λ l. l.taken) held.logs.items ≡ all_logs folder end scripts
+  pub listing : held.listing ≡ listing_after folder end scripts

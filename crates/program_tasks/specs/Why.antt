@@ -4,8 +4,6 @@ use Rattle.std.specs.List.{flat_map}
 use Rattle.std.specs.Option.{option_and_then, option_map, option_or}
 use Rattle.std.specs.Str.{byte, bytes_eq}
 use Rattle.byte_io.specs.Moved.{Took}
-use Rattle.node_table.specs.declared.number.Node.{Node}
-use Rattle.node_table.specs.declared.number.Node.TheVariants.{Port, Filter}
 use Rattle.node_table.specs.declared.number.PortAddr.{PortAddr}
 use Rattle.seq_state.specs.Step.{port_addr}
 use Rattle.script_text.specs.Numbers as says
@@ -27,16 +25,22 @@ use Rattle.program_tasks.specs.declared.words.ScriptWord.{ScriptWord}
 use Rattle.program_tasks.specs.Explained.{diagnostic_line, slip_line, path_for, place_text}
 use Rattle.program_tasks.specs.Opened.{AreOfFiles}
 use Rattle.program_tasks.specs.Program.{escaped_text}
+use Rattle.program_tasks.specs.Words.{parts_at}
 
 -- ---- words
 
-abbrev pub port_there : ℕ → Node → Option PortAddr
-port_there client (Port n) = Some (record { client = client; port = n })
-port_there client (Filter n) = None
+-- the number of a port behind a `p`
+abbrev pub port_behind : List ℕ → Option ℕ
+port_behind [] = None
+port_behind (b ∷ digits) = if b == byte "p" then says.node_number digits else None
 
 -- a port, as `128:p0`
 abbrev pub source_named : List ℕ → Option PortAddr
-source_named word = option_and_then (λ a. port_there a.client a.node) (says.addr word)
+source_named word =
+    option_and_then
+    (λ c. says.both (λ n p. record { client = n; port = p }) (says.client_number c.0)
+    (port_behind c.1))
+    (parts_at (byte ":") word)
 
 -- the bytes of one message in hexadecimal, as `90 24 64`
 abbrev pub message_said : List ℕ → Option (List ℕ)

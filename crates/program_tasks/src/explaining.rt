@@ -8,7 +8,7 @@ ghost use Rattle.program_tasks.specs.Sessions.{owners};
 
 use crate::explanation::Explanation;
 use crate::form_word::Printing;
-use crate::logs::slices_of;
+use crate::held_log::held_of;
 use crate::printing::print_texts;
 use crate::program_fault::ProgramFault;
 use crate::running::run_session;
@@ -40,7 +40,7 @@ pub fn explain_session<'a, S: FileStore, W: Sink>(
     let run = run_session(alloc, store, session, files)?;
     let explanation = Explanation::of_run(alloc, &run, &[])?;
     let texts = run.logs(alloc)?;
-    let logs = slices_of(alloc, texts.as_slice())?;
+    let logs = held_of(alloc, texts)?;
     let listing = run.log.listing.as_slice();
     print_texts(alloc, session, logs.as_slice(), listing, printing, out)?;
     Ok(explanation)

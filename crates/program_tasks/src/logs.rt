@@ -1,12 +1,13 @@
 //! The printing of logs.
 
-ghost use Rattle.std.specs.Prelude.{◌≡◌, ◌++◌, false, map, IfErr, IfOk, OnOk, OnErr};
+ghost use Rattle.std.specs.Prelude.{◌≡◌, ◌++◌, false, map, IfErr, OnOk, OnErr};
 ghost use Rattle.std.specs.Option.{option_map};
 ghost use Rattle.byte_io.specs.Marks.{SinkMarks};
 ghost use Rattle.byte_io.specs.Moved.{Took, TookPart};
 ghost use Rattle.tool_text.specs.Faults.{blames_sink};
 ghost use Rattle.program_tasks.specs.LogsPrinted.{client_heading, headed_log, logs_text, printed_text, IsOfPrinting};
 
+use crate::held_log::HeldLog;
 use crate::words::ScriptWord;
 use byte_io::Sink;
 use memory::OutOfMemory;
@@ -16,24 +17,24 @@ use text_forms::push_decimal;
 use tool_text::{ToolFault, send};
 
 /// Prints the number of each script's client and the log in the same place, and then the listing where there is one.
-/// Where one of both lists is longer, what is left of it is not printed. Each log is written at once, and only the
-/// lines with the numbers take memory.
+/// Where one of both lists is longer, what is left of it is not printed. The pieces of a log are written as they are,
+/// and only the lines with the numbers take memory.
 ///
 /// At a fault the sink has taken the first part of the text.
 pub fn print_logs<W: Sink>(
     alloc: Global,
     scripts: &[ScriptWord<'_>],
-    logs: &[&[u8]],
+    logs: &[HeldLog],
     listing: Option<&[u8]>,
     out: &mut W,
 ) -> Result<(), ToolFault>
     requires sound { W.failed out.old ≡ false }
 
     ensures text { OnOk result (Took W.HasTaken out.old
-        (printed_text scripts.now (map (λ l. l.now) logs.now)
+        (printed_text scripts.now (map (λ l. l.taken) logs.now)
         (option_map (λ l. l.now) listing.entry)) out.new) }
     ensures short { OnErr result (TookPart W.HasTaken out.old
-        (printed_text scripts.now (map (λ l. l.now) logs.now)
+        (printed_text scripts.now (map (λ l. l.taken) logs.now)
         (option_map (λ l. l.now) listing.entry)) out.new) }
     ensures marks { SinkMarks W.failed W.takes_some out.old out.new (blames_sink result) }
     ensures only { IfErr result IsOfPrinting }
@@ -50,15 +51,15 @@ pub fn print_logs<W: Sink>(
 // There are at most as many as clients, so this goes no deeper.
 fn print_all<W: Sink>(
     scripts: &[ScriptWord<'_>],
-    logs: &[&[u8]],
+    logs: &[HeldLog],
     line: &mut Vec<u8>,
     out: &mut W,
 ) -> Result<(), ToolFault>
     requires sound { W.failed out.old ≡ false }
     ensures text { OnOk result
-        (Took W.HasTaken out.old (logs_text scripts.now (map (λ l. l.now) logs.now)) out.new) }
-    ensures short { OnErr result
-        (TookPart W.HasTaken out.old (logs_text scripts.now (map (λ l. l.now) logs.now)) out.new) }
+        (Took W.HasTaken out.old (logs_text scripts.now (map (λ l. l.taken) logs.now)) out.new) }
+    ensures short { OnErr result (TookPart W.HasTaken out.old
+        (logs_text scripts.now (map (λ l. l.taken) logs.now)) out.new) }
     ensures marks { SinkMarks W.failed W.takes_some out.old out.new (blames_sink result) }
     ensures only { IfErr result IsOfPrinting }
 {
@@ -75,21 +76,21 @@ fn print_all<W: Sink>(
 /// Prints a client's number and its log. What was in `line` is lost.
 fn print_log<W: Sink>(
     client: ClientId,
-    log: &[u8],
+    log: &HeldLog,
     line: &mut Vec<u8>,
     out: &mut W,
 ) -> Result<(), ToolFault>
     requires { W.failed out.old ≡ false }
-    ensures text { OnOk result (Took W.HasTaken out.old (headed_log client log.now) out.new) }
+    ensures text { OnOk result (Took W.HasTaken out.old (headed_log client log.now.taken) out.new) }
     ensures short { OnErr result
-        (TookPart W.HasTaken out.old (headed_log client log.now) out.new) }
+        (TookPart W.HasTaken out.old (headed_log client log.now.taken) out.new) }
     ensures marks { SinkMarks W.failed W.takes_some out.old out.new (blames_sink result) }
     ensures only { IfErr result IsOfPrinting }
 {
     line.clear();
     push_client(line, client)?;
     send(out, line.as_slice())?;
-    send(out, log)
+    log.send_to(out)
 }
 
 fn push_client(line: &mut Vec<u8>, client: ClientId) -> Result<(), OutOfMemory>
@@ -99,18 +100,4 @@ fn push_client(line: &mut Vec<u8>, client: ClientId) -> Result<(), OutOfMemory>
     push_decimal(line, u64::from(client.number()))?;
     line.push(b'\n')?;
     Ok(())
-}
-
-/// The bytes of each text.
-pub(crate) fn slices_of<'l>(
-    alloc: Global,
-    texts: &'l [Vec<u8>],
-) -> Result<Vec<&'l [u8]>, OutOfMemory>
-    ensures { IfOk result (λ v. map (λ t. t.now) v.items ≡ map (λ l. l.items) texts.now) }
-{
-    let mut slices = Vec::new(alloc);
-    for text in texts {
-        slices.push(text.as_slice())?;
-    }
-    Ok(slices)
 }

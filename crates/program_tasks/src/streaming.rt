@@ -18,15 +18,16 @@ use agenda_heap::HeapAgenda;
 use byte_io::{Sink, Source, write_all};
 use file_store::FileStore;
 use memory::Items;
-use seq_session::{NamedFiles, ScriptSource, stream_sessions};
+use seq_session::{NamedFiles, Progress, ScriptSource, stream_sessions};
 use std::alloc::Global;
 
 /// Runs the scripts of a session, and writes each client's log to a file of the folder, many lines at once, while the
 /// session runs. At the end, where `listed` says so, it prints the listing.
 ///
 /// No log may be one of the scripts. Where a log cannot be written, or memory is refused, each log has what it says up
-/// to one input, the same for all but where a write stopped in between.
-pub fn stream_session<'a, S: FileStore, W: Sink>(
+/// to one input, the same for all but where a write stopped in between. `progress` is told how far the session has
+/// come.
+pub fn stream_session<'a, S: FileStore, W: Sink, P: Progress>(
     alloc: Global,
     store: &S,
     session: &Session<'a>,
@@ -34,6 +35,7 @@ pub fn stream_session<'a, S: FileStore, W: Sink>(
     logs: &LogFolder<'a>,
     listed: bool,
     out: &mut W,
+    progress: &mut P,
 ) -> Result<(), ProgramFault<'a>>
     requires rising { AreRising (owners session.now.scripts.items) }
     requires sound { W.failed out.old ≡ false }
@@ -57,17 +59,18 @@ pub fn stream_session<'a, S: FileStore, W: Sink>(
         session.scripts.as_slice(),
         session.scripts.as_slice(),
     )?;
-    let listing = write_logs(alloc, store, session, files, logs)?;
+    let listing = write_logs(alloc, store, session, files, logs, progress)?;
     print_listing(listing.as_slice(), listed, out)
 }
 
 /// Opens the scripts of a session, begins the logs, and runs it. It gives the listing at the end.
-fn write_logs<'a, S: FileStore>(
+fn write_logs<'a, S: FileStore, P: Progress>(
     alloc: Global,
     store: &S,
     session: &Session<'a>,
     files: &NamedFiles<'_, '_>,
     logs: &LogFolder<'a>,
+    progress: &mut P,
 ) -> Result<Items<u8>, ProgramFault<'a>>
     requires { AreRising (owners session.now.scripts.items) }
     ensures written { IfOk result (AreLogsWritten S.IsOpened S.Reader.HasLeft S.IsPlaced
@@ -80,18 +83,27 @@ fn write_logs<'a, S: FileStore>(
         session.now.scripts.items e) }
 {
     let mut sources = session.open(alloc, store)?;
-    write_from(alloc, store, session, files, logs, sources.as_mut_slice())
+    write_from(
+        alloc,
+        store,
+        session,
+        files,
+        logs,
+        sources.as_mut_slice(),
+        progress,
+    )
 }
 
 /// Begins the logs, and runs the scripts of these sources.
 // What owns the sources lends them, since the logs may not be begun.
-fn write_from<'a, S: FileStore>(
+fn write_from<'a, S: FileStore, P: Progress>(
     alloc: Global,
     store: &S,
     session: &Session<'a>,
     files: &NamedFiles<'_, '_>,
     logs: &LogFolder<'a>,
     sources: &mut [ScriptSource<S::Reader>],
+    progress: &mut P,
 ) -> Result<Items<u8>, ProgramFault<'a>>
     requires rising { AreRising (owners session.now.scripts.items) }
     requires opened { AreSourcesOf S.IsOpened session.now.scripts.items sources.old }
@@ -108,17 +120,26 @@ fn write_from<'a, S: FileStore>(
 {
     let mut writers = Vec::new(alloc);
     logs.begin(alloc, store, session.scripts.as_slice(), &mut writers)?;
-    stream_to(alloc, session, files, logs, sources, writers.as_mut_slice())
+    stream_to(
+        alloc,
+        session,
+        files,
+        logs,
+        sources,
+        writers.as_mut_slice(),
+        progress,
+    )
 }
 
 /// Runs the scripts of these sources, and writes the logs to these writers.
-fn stream_to<'a, R: Source, V: Sink>(
+fn stream_to<'a, R: Source, V: Sink, P: Progress>(
     alloc: Global,
     session: &Session<'a>,
     files: &NamedFiles<'_, '_>,
     logs: &LogFolder<'a>,
     sources: &mut [ScriptSource<R>],
     writers: &mut [V],
+    progress: &mut P,
 ) -> Result<Items<u8>, ProgramFault<'a>>
     requires rising { AreRising (owners session.now.scripts.items) }
     requires clients { clients sources.old ≡ owners session.now.scripts.items }
@@ -133,7 +154,8 @@ fn stream_to<'a, R: Source, V: Sink>(
         sources.old sources.new writers.old writers.new) }
 {
     let agenda = HeapAgenda::new(alloc);
-    match stream_sessions(alloc, sources, files, agenda, session.until, writers) {
+    let until = session.until;
+    match stream_sessions(alloc, sources, files, agenda, until, writers, progress) {
         Ok(listing) => Ok(listing),
         Err(fault) => Err(logs.fault_of(session, fault)),
     }

@@ -26,23 +26,25 @@ use crate::recording::{Recording, record_session};
 use crate::run_answer::RunAnswer;
 use crate::session::Session;
 use crate::streaming::stream_session;
-use crate::why::print_why;
+use crate::why_answer::print_why;
 use crate::why_question::WhyQuestion;
 use byte_io::Sink;
 use file_store::FileStore;
+use seq_session::Progress;
 use std::alloc::Global;
 
 /// Runs the scripts of a session, and prints each client's log in a form and, where asked for, the listing at the
-/// end.
+/// end. `progress` is told how far the run has come.
 ///
 /// Tells which files of the folder are left out.
-pub fn run<'a, S: FileStore, W: Sink, N: Notes>(
+pub fn run<'a, S: FileStore, W: Sink, N: Notes, P: Progress>(
     alloc: Global,
     store: &S,
     session: &Session<'a>,
     printing: Printing,
     out: &mut W,
     notes: &mut N,
+    progress: &mut P,
 ) -> Result<(), ProgramFault<'a>>
     requires rising { AreRising (owners session.now.scripts.items) }
     requires sound { W.failed out.old ≡ false }
@@ -57,14 +59,15 @@ pub fn run<'a, S: FileStore, W: Sink, N: Notes>(
 {
     let folder = Folder::read(alloc, store, session.dir)?;
     let opened = folder.open(alloc, false, notes)?;
-    print_session(alloc, store, session, &named(&opened), printing, out)
+    let files = named(&opened);
+    print_session(alloc, store, session, &files, printing, out, progress)
 }
 
 /// Runs the scripts of a session, and writes each client's log to a file while it runs, as `stream_session` does. Where
 /// `listed` says so it prints the listing at the end.
 ///
 /// Tells which files of the session's folder are left out.
-pub fn stream<'a, S: FileStore, W: Sink, N: Notes>(
+pub fn stream<'a, S: FileStore, W: Sink, N: Notes, P: Progress>(
     alloc: Global,
     store: &S,
     session: &Session<'a>,
@@ -72,6 +75,7 @@ pub fn stream<'a, S: FileStore, W: Sink, N: Notes>(
     listed: bool,
     out: &mut W,
     notes: &mut N,
+    progress: &mut P,
 ) -> Result<(), ProgramFault<'a>>
     requires rising { AreRising (owners session.now.scripts.items) }
     requires sound { W.failed out.old ≡ false }
@@ -90,7 +94,8 @@ pub fn stream<'a, S: FileStore, W: Sink, N: Notes>(
 {
     let folder = Folder::read(alloc, store, session.dir)?;
     let opened = folder.open(alloc, false, notes)?;
-    stream_session(alloc, store, session, &named(&opened), logs, listed, out)
+    let files = named(&opened);
+    stream_session(alloc, store, session, &files, logs, listed, out, progress)
 }
 
 /// Runs the scripts of a session and prints its logs, as `run` does, and tells which lines did nothing, and why, which

@@ -2,13 +2,13 @@
 
 ghost use Rattle.std.specs.Prelude.{◌≡◌, IfErr, IfOk};
 ghost use Rattle.std.specs.Option.{option_map};
-ghost use Rattle.program_tasks.specs.Why.{is_at, source_named, message_said, line_behind, line_named, IsOfSource, IsOfMessage, IsOfLineWord};
+ghost use Rattle.program_tasks.specs.Why.{is_at, port_behind, source_named, message_said, line_behind, line_named, IsOfSource, IsOfMessage, IsOfLineWord};
 
 use crate::program_fault::ProgramFault;
 use crate::words::ScriptWord;
 use midi_wire::Message;
-use node_table::{ClientId, Node, PortAddr};
-use script_text::{addr_of, message_of, number_of};
+use node_table::{ClientId, PortAddr, PortNo};
+use script_text::{client_of, message_of, number_of, port_of};
 use std::alloc::Global;
 
 /// What is asked of a session, as words say it.
@@ -20,20 +20,34 @@ pub enum WhyQuestion<'a> {
     Line(&'a str),
 }
 
+/// The number of a port behind a `p`.
+fn port_behind(word: &str) -> Option<PortNo>
+    ensures { result ≡ port_behind word.now }
+{
+    match word.as_bytes() {
+        [b'p', digits @ ..] => port_of(digits),
+        _ => None,
+    }
+}
+
 /// The port that a word names, `128:p0`.
+fn source_of(word: &str) -> Option<PortAddr>
+    ensures { result ≡ source_named word.now }
+{
+    let (client, port) = word.split_once(':')?;
+    let client = client_of(client.as_bytes())?;
+    let port = port_behind(port)?;
+    Some(PortAddr { client, port })
+}
+
+/// The port that a word names, `128:p0`; another word is a fault.
 pub(crate) fn source_named<'a>(word: &'a str) -> Result<PortAddr, ProgramFault<'a>>
     ensures named { IfOk result (λ p. source_named word.now ≡ Some p) }
     ensures fault { IfErr result (IsOfSource word.now) }
 {
-    let Some(addr) = addr_of(word.as_bytes()) else {
-        return Err(ProgramFault::NotASource(word));
-    };
-    match addr.node {
-        Node::Port(port) => Ok(PortAddr {
-            client: addr.client,
-            port,
-        }),
-        Node::Filter(_) => Err(ProgramFault::NotASource(word)),
+    match source_of(word) {
+        Some(port) => Ok(port),
+        None => Err(ProgramFault::NotASource(word)),
     }
 }
 
@@ -58,8 +72,8 @@ pub(crate) struct ScriptLine {
 
 impl ScriptLine {
     /// Whether it is the line of this number of the client's script.
-    pub(crate) fn is(self, client: ClientId, line: u64) -> bool
-        ensures { result ≡ is_at self.client self.line client line }
+    pub(crate) fn is(&self, client: ClientId, line: u64) -> bool
+        ensures { result ≡ is_at self.now.client self.now.line client line }
     {
         client == self.client && line == self.line
     }

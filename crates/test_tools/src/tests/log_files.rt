@@ -6,6 +6,7 @@ use super::circles::{Counted, MemFiles};
 use byte_io::MemSink;
 use memory::OutOfMemory;
 use program_tasks::{EndWord, LogFolder, ProgramFault, Session, stream};
+use seq_session::Unwatched;
 use std::alloc::Global;
 use std::process::Abort;
 use std::test::Fail;
@@ -52,7 +53,16 @@ fn streamed(
         path,
         append: false,
     };
-    stream(alloc, &store, &session, &logs, listed, out, &mut notes)
+    stream(
+        alloc,
+        &store,
+        &session,
+        &logs,
+        listed,
+        out,
+        &mut notes,
+        &mut Unwatched,
+    )
 }
 
 /// The logs are written to a folder, or not for the reason of this text; and this is printed.

@@ -2,14 +2,14 @@
 
 ghost use Rattle.std.specs.Prelude.{◌≡◌, IfOk, false};
 
-use byte_io::MemSink;
+use byte_io::{MemSink, Sink};
 use file_store::Standing;
 use memory::OutOfMemory;
 use node_table::{ClientId, PortAddr, PortNo};
 use program_tasks::{
-    EndWord, FolderFiles, LeftOutFile, ProgramFault, ScriptWord, WhyLeftOut, capital_files,
-    client_named, midi_files, open_files, port_named, ports_named, print_logs, scripts_named,
-    taken_files, time_named, until_named,
+    EndWord, FolderFiles, HeldLog, LeftOutFile, ProgramFault, ScriptWord, WhyLeftOut,
+    capital_files, client_named, midi_files, open_files, port_named, ports_named, print_logs,
+    scripts_named, taken_files, time_named, until_named,
 };
 use smf_files::SmfFault;
 use std::alloc::Global;
@@ -313,9 +313,20 @@ fn script<'a>(client: ClientId) -> ScriptWord<'a> {
     ScriptWord { client, path: "a" }
 }
 
-/// Prints the logs of clients 128 and 191, of which the one has a line, and the listing, and tells the outcome.
+/// A log that is written in these pieces.
+fn log_of(alloc: Global, pieces: &[&str]) -> Result<HeldLog, Fail> {
+    let mut log = HeldLog::new(alloc);
+    for piece in pieces {
+        log.write(piece.as_bytes())?;
+    }
+    Ok(log)
+}
+
+/// Prints the logs of clients 128 and 191, of which the one is written in these pieces and the other has no line, and
+/// the listing, and tells the outcome.
 fn print(
     alloc: Global,
+    pieces: &[&str],
     listing: Option<&[u8]>,
     out: &mut MemSink,
 ) -> Result<Result<(), ToolFault>, Fail>
@@ -324,7 +335,8 @@ fn print(
     let first = ClientId::new(128).ok_or("a client number")?;
     let second = ClientId::new(191).ok_or("a client number")?;
     let scripts = [script(first), script(second)];
-    let logs = [b"0 line 1 ok\n".as_slice(), b"".as_slice()];
+    let other = HeldLog::of_text(alloc, Vec::new(alloc))?;
+    let logs = [log_of(alloc, pieces)?, other];
     Ok(print_logs(alloc, &scripts, &logs, listing, out))
 }
 
@@ -332,7 +344,8 @@ fn print(
 fn prints_logs_and_the_listing(rt: HostRuntime) -> Result<(), Fail> {
     let mut out = sink(rt.alloc())?;
     let listing = b"client 128 keys in 1 out 1\n".as_slice();
-    assert!(rt; print(rt.alloc(), Some(listing), &mut out)? == Ok(()));
+    let line = ["0 line 1 ok\n"];
+    assert!(rt; print(rt.alloc(), &line, Some(listing), &mut out)? == Ok(()));
     let text = b"client 128\n0 line 1 ok\nclient 191\nclient 128 keys in 1 out 1\n";
     assert!(rt; out.bytes() == text.as_slice());
     Ok(())
@@ -342,7 +355,35 @@ fn prints_logs_and_the_listing(rt: HostRuntime) -> Result<(), Fail> {
 fn stops_at_a_failed_write(rt: HostRuntime) -> Result<(), Fail> {
     let mut out = sink(rt.alloc())?;
     out.fail_at(2);
-    assert!(rt; print(rt.alloc(), None, &mut out)? == Err(ToolFault::Write));
+    let line = ["0 line 1 ok\n"];
+    assert!(rt; print(rt.alloc(), &line, None, &mut out)? == Err(ToolFault::Write));
     assert!(rt; out.bytes() == b"client 128\n0 line 1 ok\n".as_slice());
+    Ok(())
+}
+
+#[test]
+fn prints_a_log_piece_by_piece(rt: HostRuntime) -> Result<(), Fail> {
+    let pieces = ["0 line 1 ok\n", "", "5 line 2 ok\n7 li", "ne 3 ok\n"];
+    for (fails_at, outcome, text) in [
+        (
+            9,
+            Ok(()),
+            "client 128\n0 line 1 ok\n5 line 2 ok\n7 line 3 ok\nclient 191\n",
+        ),
+        (
+            3,
+            Err(ToolFault::Write),
+            "client 128\n0 line 1 ok\n5 line 2 ok\n7 li",
+        ),
+        (1, Err(ToolFault::Write), "client 128\n"),
+    ] {
+        let mut out = sink(rt.alloc())?;
+        out.fail_at(fails_at);
+        assert!(rt;
+            print(rt.alloc(), &pieces, None, &mut out)? == outcome,
+            "{text}"
+        );
+        assert!(rt; out.bytes() == text.as_bytes(), "{text}");
+    }
     Ok(())
 }

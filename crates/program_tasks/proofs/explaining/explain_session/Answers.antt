@@ -10,9 +10,8 @@ returns-clause-explained g c =
     let r = c.in_ok-run.ensures.run in
     let files = c.args.files.now in
     let until = c.args.session.now.until in
-    let logs : map (λ l. l.now) c.as_slice-2.result.now ≡ all_logs files until r.scripts =
-    ap (map (λ l. l.now)) c.as_slice-2.ensures.value ∙ c.in_ok-logs.ensures ∙ ap (map (λ l. l.items)) c.as_slice.ensures.value
-    ∙ c.in_ok-texts.ensures ∙ logs_made files until r.scripts c.in_ok-run.run' r.is in
+    let logs : map (λ l. l.taken) c.as_slice.result.now ≡ all_logs files until r.scripts =
+    ap (map (λ l. l.taken)) c.as_slice.ensures.value ∙ c.in_ok-logs.ensures ∙ c.in_ok-texts.ensures ∙ logs_made files until r.scripts c.in_ok-run.run' r.is in
     let listing : c.as_slice-listing.result.now ≡ listing_after files until r.scripts = c.as_slice-listing.ensures ∙ r.is.listing in
     record {
       scripts = r.scripts;

@@ -1,4 +1,4 @@
-use Rattle.std.proofs.Common.{map, take}
+use Rattle.std.proofs.Common.{take}
 use Rattle.std.specs.Prelude.{string_bytes}
 use Rattle.byte_io.specs.Moved.{Took}
 use Rattle.program_tasks.specs.Explained.{lines_told}

@@ -7,11 +7,10 @@ use Rattle.program_tasks.proofs.printing.print_session.Goals as goal
 
 pub returns-clause-printed : goal.returns-clause-printed
 returns-clause-printed g c =
-    let r = c.in_ok-made.ensures.logged in
+    let r = c.in_ok-held.ensures.held in
     let files = c.args.files.now in
     let until = c.args.session.now.until in
-    let logs : map (λ l. l.now) c.as_slice-2.result.now ≡ all_logs files until r.scripts =
-    ap (map (λ l. l.now)) c.as_slice-2.ensures.value ∙ c.in_ok-logs.ensures ∙ ap (map (λ l. l.items)) c.as_slice.ensures ∙ r.logs in
+    let logs : map (λ l. l.taken) c.as_slice-logs.result.now ≡ all_logs files until r.scripts = ap (map (λ l. l.taken)) c.as_slice-logs.ensures.value ∙ r.logs in
     let listing : c.as_slice-listing.result.now ≡ listing_after files until r.scripts = c.as_slice-listing.ensures ∙ r.listing in
     on_ok_weaker c.print_texts.result
     (λ took. record {

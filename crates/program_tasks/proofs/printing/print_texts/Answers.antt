@@ -12,5 +12,5 @@ returns-in-Ok-clause-printed g c =
       | then-printing w ↦ ap (option_map (λ l. l.now)) w.listing-is ∙ ap (λ b. listing_where b c.args.listing.now) (sym w.if-printing.true)
       | else-printing w ↦ ap (option_map (λ l. l.now)) w.listing-is ∙ ap (λ b. listing_where b c.args.listing.now) (sym w.if-printing.false)
     ] in
-    subst (λ o. Took g.W.Sink.HasTaken c.args.out.now (printed_in c.args.printing.form c.args.session.now.scripts.items (map (λ l. l.now) c.args.logs.now) o) c.print_in.new.out) same
-    (subst (λ words. Took g.W.Sink.HasTaken c.args.out.now (printed_in c.args.printing.form words (map (λ l. l.now) c.args.logs.now) (option_map (λ l. l.now) c.if-printing.listing)) c.print_in.new.out) c.as_slice-scripts.ensures.value c.in-Ok.ensures.text)
+    subst (λ o. Took g.W.Sink.HasTaken c.args.out.now (printed_in c.args.printing.form c.args.session.now.scripts.items (map (λ l. l.taken) c.args.logs.now) o) c.print_in.new.out) same
+    (subst (λ words. Took g.W.Sink.HasTaken c.args.out.now (printed_in c.args.printing.form words (map (λ l. l.taken) c.args.logs.now) (option_map (λ l. l.now) c.if-printing.listing)) c.print_in.new.out) c.as_slice-scripts.ensures.value c.in-Ok.ensures.text)

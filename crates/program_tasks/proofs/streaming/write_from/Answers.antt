@@ -1,8 +1,6 @@
-use Rattle.std.proofs.Common.{◌≡◌, ◌∙◌, ap, length, subst, sym}
+use Rattle.std.proofs.Common.{◌∙◌, ap, length, subst, sym}
 use Rattle.std.proofs.lemmas.List.{length-map}
 use Rattle.std.proofs.lemmas.Result.{IfErr-weaker, IfOk-weaker}
-use Rattle.byte_io.specs.Moved.{Took}
-use Rattle.seq_session.specs.Devices.{Wrote, AreAlone}
 use Rattle.program_tasks.specs.LogFiles.{AreLogsPlaced}
 use Rattle.program_tasks.proofs.Files.{of_files}
 use Rattle.program_tasks.proofs.LogFiles.{placed_length, stream_stopped}

@@ -1,4 +1,4 @@
-use Rattle.std.proofs.Common.{rules, subst}
+use Rattle.std.proofs.Common.{rules}
 use Rattle.std.proofs.lemmas.Result.{on_ok_weaker}
 use Rattle.program_tasks.specs.Apart.{AreScriptsApart}
 use Rattle.program_tasks.specs.LogFiles.{log_path}

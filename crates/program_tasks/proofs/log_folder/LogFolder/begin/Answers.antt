@@ -1,6 +1,5 @@
 use Rattle.std.proofs.Common.{◌≡◌, false, subst, sym, [], rules}
 use Rattle.seq_session.specs.Devices.{AreOpen}
-use Rattle.std.specs.Prelude.{string_bytes}
 use Rattle.program_tasks.specs.LogFiles.{log_path, AreLogsPlaced}
 use Rattle.program_tasks.proofs.LogFiles.{placed_next}
 use Rattle.program_tasks.proofs.Opened.{all-more}

@@ -1,4 +1,4 @@
-use Rattle.std.proofs.Common.{◌≡◌, take}
+use Rattle.std.proofs.Common.{take}
 use Rattle.seq_session.specs.Devices.{AreOpen}
 use Rattle.program_tasks.specs.LogFiles.{AreLogsPlaced}
 use Rattle.program_tasks.proofs.log_folder.LogFolder.begin.Given as goal

@@ -1,6 +1,6 @@
 use Rattle.std.proofs.Common.{subst, rules}
 use Rattle.byte_io.specs.Moved.{Took}
-use Rattle.program_tasks.proofs.why.print_why.Goals as goal
+use Rattle.program_tasks.proofs.why_answer.print_why.Goals as goal
 
 pub returns-clause-printed : goal.returns-clause-printed
 returns-clause-printed g c =

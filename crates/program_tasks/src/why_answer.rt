@@ -83,10 +83,10 @@ fn message_answer<'a, S: FileStore>(
     from: &'a str,
     message: &'a str,
 ) -> Result<Vec<u8>, ProgramFault<'a>>
-    ensures told { let asked = WhyQuestion.Message from message in
+    ensures told { let asked = WhyQuestion.Message from.entry message.entry in
         IfOk result (λ text. IsWhyTold S.IsOpened S.Reader.HasLeft files.now
         session.now.until session.now.scripts.items asked text.items) }
-    ensures fault { let asked = WhyQuestion.Message from message in IfErr result (λ e.
+    ensures fault { let asked = WhyQuestion.Message from.entry message.entry in IfErr result (λ e.
         IsOfQuestion session.now.scripts.items asked e
         ⊎ IsOfScripts S.IsOpened S.Reader.HasLeft S.CannotOpen S.Reader.failed
         session.now.scripts.items e) }
@@ -116,10 +116,10 @@ fn line_answer<'a, S: FileStore>(
     word: &'a str,
 ) -> Result<Vec<u8>, ProgramFault<'a>>
     requires { AreRising (owners session.now.scripts.items) }
-    ensures told { let asked = WhyQuestion.Line word in
+    ensures told { let asked = WhyQuestion.Line word.entry in
         IfOk result (λ text. IsWhyTold S.IsOpened S.Reader.HasLeft files.now
         session.now.until session.now.scripts.items asked text.items) }
-    ensures fault { let asked = WhyQuestion.Line word in IfErr result (λ e.
+    ensures fault { let asked = WhyQuestion.Line word.entry in IfErr result (λ e.
         IsOfQuestion session.now.scripts.items asked e
         ⊎ IsOfScripts S.IsOpened S.Reader.HasLeft S.CannotOpen S.Reader.failed
         session.now.scripts.items e) }
@@ -127,18 +127,18 @@ fn line_answer<'a, S: FileStore>(
     let at = line_named(session.scripts.as_slice(), word)?;
     let run = run_session(alloc, store, session, files)?;
     let explanation = Explanation::of_run(alloc, &run, &[])?;
-    Ok(line_text(alloc, session, at, &explanation)?)
+    Ok(line_text(alloc, session, &at, &explanation)?)
 }
 
 /// What is told of a line.
 fn line_text(
     alloc: Global,
     session: &Session<'_>,
-    at: ScriptLine,
+    at: &ScriptLine,
     explanation: &Explanation,
 ) -> Result<Vec<u8>, OutOfMemory>
     ensures { IfOk result (λ text. text.items ≡ told_of_line session.now.scripts.items
-        at.client at.line explanation.now.diagnostics.items explanation.now.slips.items) }
+        at.now.client at.now.line explanation.now.diagnostics.items explanation.now.slips.items) }
 {
     let mut text = Vec::new(alloc);
     let diagnostics = explanation.diagnostics.as_slice();
@@ -155,12 +155,12 @@ fn push_diagnostics(
     text: &mut Vec<u8>,
     alloc: Global,
     session: &Session<'_>,
-    at: ScriptLine,
+    at: &ScriptLine,
     diagnostics: &[Diagnostic],
 ) -> Result<(), OutOfMemory>
     ensures { let paths = session.now.scripts.items in
         OnOk result (text.new.items ≡ text.old.items
-        ++ flat_map (diagnostic_at paths at.client at.line) diagnostics.now) }
+        ++ flat_map (diagnostic_at paths at.now.client at.now.line) diagnostics.now) }
 {
     for diagnostic in diagnostics {
         push_diagnostic(text, alloc, session, at, *diagnostic)?;
@@ -172,11 +172,11 @@ fn push_diagnostic(
     text: &mut Vec<u8>,
     alloc: Global,
     session: &Session<'_>,
-    at: ScriptLine,
+    at: &ScriptLine,
     diagnostic: Diagnostic,
 ) -> Result<(), OutOfMemory>
     ensures { OnOk result (text.new.items ≡ text.old.items
-        ++ diagnostic_at session.now.scripts.items at.client at.line diagnostic) }
+        ++ diagnostic_at session.now.scripts.items at.now.client at.now.line diagnostic) }
 {
     if !at.is(diagnostic.client, diagnostic.line) {
         return Ok(());
@@ -192,12 +192,12 @@ fn push_slips(
     text: &mut Vec<u8>,
     alloc: Global,
     session: &Session<'_>,
-    at: ScriptLine,
+    at: &ScriptLine,
     slips: &[SlipOnLine],
 ) -> Result<(), OutOfMemory>
     ensures { let paths = session.now.scripts.items in
         OnOk result (text.new.items
-        ≡ text.old.items ++ flat_map (slip_at paths at.client at.line) slips.now) }
+        ≡ text.old.items ++ flat_map (slip_at paths at.now.client at.now.line) slips.now) }
 {
     for slip in slips {
         push_slip(text, alloc, session, at, *slip)?;
@@ -209,11 +209,11 @@ fn push_slip(
     text: &mut Vec<u8>,
     alloc: Global,
     session: &Session<'_>,
-    at: ScriptLine,
+    at: &ScriptLine,
     slip: SlipOnLine,
 ) -> Result<(), OutOfMemory>
     ensures { OnOk result (text.new.items
-        ≡ text.old.items ++ slip_at session.now.scripts.items at.client at.line slip) }
+        ≡ text.old.items ++ slip_at session.now.scripts.items at.now.client at.now.line slip) }
 {
     if !at.is(slip.client, slip.line) {
         return Ok(());
