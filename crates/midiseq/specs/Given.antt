@@ -305,8 +305,8 @@ abbrev pub IfAnswered : Ended → (CircleAnswer → Type 0) → Type 0
 IfAnswered (Answered answer) P = P answer
 IfAnswered _ P = ⊥
 
--- What each subcommand does: circle prints and answers; why prints; run prints, or writes logs to a folder, and
--- record writes a file, where both may explain and judge; and each other is a tool's.
+-- What each subcommand does: circle prints and answers; why prints; run prints, or writes logs to a
+-- folder, and record writes a file, where both may explain and judge; and each other is a tool's.
 pub record DoesAsGiven {R V I W N : Type 0} (IsOpened : List ℕ → R → Type 0)
     (HasLeft : R → List ℕ → Type 0)
     (CannotOpen : List ℕ → Type 0) (failed : R → Bool) (IsStanding : List ℕ → Standing → Type 0)

@@ -127,9 +127,9 @@ pub record IsCircleStopped {R N : Type 0} (IsOpened : List ℕ → R → Type 0)
       ⊎ IsOfOutput stuck fault))
 
 -- The question of the words was not answered, for one of these reasons.
-pub record IsWhyStopped {R : Type 0} (IsOpened : List ℕ → R → Type 0) (HasLeft : R → List ℕ → Type 0)
-    (CannotOpen CannotList : List ℕ → Type 0) (failed : R → Bool) (stuck : Type 0) (found : Found)
-    (fault : ProgramFault) : Type 0 where
+pub record IsWhyStopped {R : Type 0} (IsOpened : List ℕ → R → Type 0)
+    (HasLeft : R → List ℕ → Type 0) (CannotOpen CannotList : List ℕ → Type 0) (failed : R → Bool)
+    (stuck : Type 0) (found : Found) (fault : ProgramFault) : Type 0 where
   pub session : Session
   pub given : IsGiven found session
   pub question : WhyQuestion
