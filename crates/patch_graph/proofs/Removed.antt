@@ -16,29 +16,13 @@ use Rattle.patch_graph.specs.Index.{targets_of, origins_of, LosesOne, HasPlace}
 use Rattle.patch_graph.proofs.Lists.{and_both, not_by, not_true, refuted, filter-none, filter-outside, list_any-filter}
 use Rattle.patch_graph.proofs.Same.{same-is, same-refl, place-is}
 use Rattle.patch_graph.proofs.Indexed.{same_edge}
-use Rattle.patch_graph.proofs.Searched.{in_from_get}
+use Rattle.patch_graph.proofs.Searched.{in_from_get, origins-in}
 
 pub or_true : (b c : Bool) → c ≡ true → (b || c) ≡ true
 or_true true c h = refl
 or_true false c h = h
 
 -- ---- the neighbours
-
-pub origins-in : (edges : List Edge) (a x : Addr) → list_any (same x) (origins_of edges a) ≡ has_edge edges x a
-origins-in [] a x = refl
-origins-in (e ∷ es) a x = by (same a e.target) (origins-in es a x)
-  where
-    and_true : (b : Bool) → (b && true) ≡ b
-    and_true true = refl
-    and_true false = refl
-
-    and_false : (b : Bool) → (b && false) ≡ false
-    and_false true = refl
-    and_false false = refl
-
-    by : (b : Bool) → list_any (same x) (origins_of es a) ≡ has_edge es x a → list_any (same x) (map (λ e. e.source) (cond b (e ∷ filter (λ e. same a e.target) es) (filter (λ e. same a e.target) es))) ≡ ((same x e.source && b) || has_edge es x a)
-    by true h = ap (λ c. same x e.source || c) h ∙ sym (ap (λ c. c || has_edge es x a) (and_true (same x e.source)))
-    by false h = h ∙ sym (ap (λ c. c || has_edge es x a) (and_false (same x e.source)))
 
 -- ---- one edge of a node is gone
 

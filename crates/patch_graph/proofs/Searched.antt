@@ -1,4 +1,4 @@
--- A search through filters: what it has found is reached, and in the end nothing else is.
+-- A search through filters, from the last backwards: what it has found reaches it, and in the end nothing else does.
 use Rattle.std.proofs.Common.{◌≡◌, ◌⊎◌, ◌↔◌, inl, inr, ℕ, zero, suc, ◌+◌, ◌<◌, ◌≤◌, Bool, true, false, cond, if◌then◌else◌, ◌&&◌, ◌||◌, List, [], ◌∷◌, ◌++◌, map, length, Some, None, refl, ap, sym, subst, ◌∙◌, arith}
 use Rattle.std.specs.List.{filter, list_any, slice_get}
 use Rattle.std.proofs.lemmas.Bool.{false≢true, or_cases, cases_lt}
@@ -10,10 +10,10 @@ use Rattle.node_table.specs.declared.number.Addr.{Addr}
 use Rattle.patch_graph.specs.declared.edge.Edge.{Edge}
 use Rattle.patch_graph.specs.Edges.{has_edge}
 use Rattle.patch_graph.specs.Chains.{Reaches}
-use Rattle.patch_graph.specs.Index.{targets_of}
+use Rattle.patch_graph.specs.Index.{origins_of}
 use Rattle.patch_graph.specs.Found.{with_found, with_filters}
 use Rattle.patch_graph.proofs.Same.{same-is, same-refl, same-from}
-use Rattle.patch_graph.proofs.Chained.{IsHop, one_hop, reach_on, along_reached, reach_end}
+use Rattle.patch_graph.proofs.Chained.{IsHop, one_hop, hop_on, along_reached, reach_start}
 
 abbrev pub In : Addr → List Addr → Type 0
 In x xs = list_any (same x) xs ≡ true
@@ -168,72 +168,77 @@ past_end [] i h = omega arith
 past_end (x ∷ xs) zero h = cc
 past_end (x ∷ xs) (suc i) h = let k : length xs ≤ i = past_end xs i h in omega arith
 
-pub targets-in : (edges : List Edge) (a x : Addr) → list_any (same x) (targets_of edges a) ≡ has_edge edges a x
-targets-in [] a x = refl
-targets-in (e ∷ es) a x = by (same a e.source) (targets-in es a x)
+pub origins-in : (edges : List Edge) (a x : Addr) → list_any (same x) (origins_of edges a) ≡ has_edge edges x a
+origins-in [] a x = refl
+origins-in (e ∷ es) a x = by (same a e.target) (origins-in es a x)
   where
-    by : (b : Bool) → list_any (same x) (targets_of es a) ≡ has_edge es a x → list_any (same x) (map (λ e. e.target) (cond b (e ∷ filter (λ e. same a e.source) es) (filter (λ e. same a e.source) es))) ≡ ((b && same x e.target) || has_edge es a x)
-    by true h = ap (λ c. same x e.target || c) h
-    by false h = h
+    and_true : (b : Bool) → (b && true) ≡ b
+    and_true true = refl
+    and_true false = refl
+
+    and_false : (b : Bool) → (b && false) ≡ false
+    and_false true = refl
+    and_false false = refl
+
+    by : (b : Bool) → list_any (same x) (origins_of es a) ≡ has_edge es x a → list_any (same x) (map (λ e. e.source) (cond b (e ∷ filter (λ e. same a e.target) es) (filter (λ e. same a e.target) es))) ≡ ((same x e.source && b) || has_edge es x a)
+    by true h = ap (λ c. same x e.source || c) h ∙ sym (ap (λ c. c || has_edge es x a) (and_true (same x e.source)))
+    by false h = h ∙ sym (ap (λ c. c || has_edge es x a) (and_false (same x e.source)))
 
 -- ---- the search
 
--- as many turns are done, and all filters next to their nodes are found
-pub record IsSearch (edges : List Edge) (from : Addr) (found : List Addr) (turn : ℕ) : Type 0 where
-  pub sound : (x : Addr) → In x found → Reaches edges from x
-  pub start : (x : Addr) → IsHop edges from x → In x found
-  pub done : (i : ℕ) (x : Addr) → i < turn → slice_get found i ≡ Some x → (y : Addr) → IsHop edges x y → In y found
+-- as many turns are done, and all filters that are joined to their nodes are found
+pub record IsSearch (edges : List Edge) (to : Addr) (found : List Addr) (turn : ℕ) : Type 0 where
+  pub sound : (x : Addr) → In x found → Reaches edges x to
+  pub start : (x : Addr) → IsHop edges x to → In x found
+  pub done : (i : ℕ) (x : Addr) → i < turn → slice_get found i ≡ Some x → (y : Addr) → IsHop edges y x → In y found
   pub within : turn ≤ length found
 
-hop_found : (edges : List Edge) (a x : Addr) (xs : List Addr) → IsHop edges a x → In x (with_filters xs (targets_of edges a))
-hop_found edges a x xs h = filters_new (targets_of edges a) xs x (targets-in edges a x ∙ h.there) h.to_filter
+hop_found : (edges : List Edge) (x a : Addr) (xs : List Addr) → IsHop edges x a → In x (with_filters xs (origins_of edges a))
+hop_found edges x a xs h = filters_new (origins_of edges a) xs x (origins-in edges a x ∙ h.there) h.from_filter
 
-pub search-start : (edges : List Edge) (from : Addr) (found : List Addr) → is_filter from ≡ true → found ≡ with_filters [] (targets_of edges from) → IsSearch edges from found 0
-search-start edges from found f e =
-    subst (λ xs. IsSearch edges from xs 0) (sym e) (record {
-      sound = λ x h. by x (filters_from (targets_of edges from) [] x h);
-      start = λ x h. hop_found edges from x [] h;
+pub search-start : (edges : List Edge) (to : Addr) (found : List Addr) → is_filter to ≡ true → found ≡ with_filters [] (origins_of edges to) → IsSearch edges to found 0
+search-start edges to found f e =
+    subst (λ xs. IsSearch edges to xs 0) (sym e) (record {
+      sound = λ x h. by x (filters_from (origins_of edges to) [] x h);
+      start = λ x h. hop_found edges x to [] h;
       done = λ i x l. absurd (omega arith);
       within = omega arith;
     })
   where
-    by : (x : Addr) → In x [] ⊎ (In x (targets_of edges from) × (is_filter x ≡ true)) → Reaches edges from x
+    by : (x : Addr) → In x [] ⊎ (In x (origins_of edges to) × (is_filter x ≡ true)) → Reaches edges x to
     by x (inl h) = absurd (false≢true h)
-    by x (inr h) = one_hop edges from x (record { there = sym (targets-in edges from x) ∙ h.0; from_filter = f; to_filter = h.1 })
+    by x (inr h) = one_hop edges x to (record { there = sym (origins-in edges to x) ∙ h.0; from_filter = h.1; to_filter = f })
 
-pub search-more : (edges : List Edge) (from : Addr) (found new : List Addr) (turn : ℕ) (node : Addr) → IsSearch edges from found turn → slice_get found turn ≡ Some node → new ≡ with_filters found (targets_of edges node) → IsSearch edges from new (turn + 1)
-search-more edges from found new turn node h at e =
-    subst (λ xs. IsSearch edges from xs (turn + 1)) (sym e) (record {
-      sound = λ x k. by x (filters_from (targets_of edges node) found x k);
-      start = λ x k. filters_kept (targets_of edges node) found x (h.start x k);
+pub search-more : (edges : List Edge) (to : Addr) (found new : List Addr) (turn : ℕ) (node : Addr) → IsSearch edges to found turn → slice_get found turn ≡ Some node → new ≡ with_filters found (origins_of edges node) → IsSearch edges to new (turn + 1)
+search-more edges to found new turn node h at e =
+    subst (λ xs. IsSearch edges to xs (turn + 1)) (sym e) (record {
+      sound = λ x k. by x (filters_from (origins_of edges node) found x k);
+      start = λ x k. filters_kept (origins_of edges node) found x (h.start x k);
       done = λ i x l k y hop. elim (cases_lt i turn) [
-        | inl below ↦ filters_kept (targets_of edges node) found y (h.done i x below (sym (filters_get (targets_of edges node) found i (omega (arith, inside))) ∙ k) y hop)
+        | inl below ↦ filters_kept (origins_of edges node) found y (h.done i x below (sym (filters_get (origins_of edges node) found i (omega (arith, inside))) ∙ k) y hop)
         | inr above ↦ let same_turn : i ≡ turn = omega arith in
-            let is : Some node ≡ Some x = sym at ∙ sym (filters_get (targets_of edges node) found turn inside) ∙ ap (slice_get (with_filters found (targets_of edges node))) (sym same_turn) ∙ k in
+            let is : Some node ≡ Some x = sym at ∙ sym (filters_get (origins_of edges node) found turn inside) ∙ ap (slice_get (with_filters found (origins_of edges node))) (sym same_turn) ∙ k in
             let node_is : x ≡ node = cc in
-            hop_found edges node y found (subst (λ z. IsHop edges z y) node_is hop)
+            hop_found edges y node found (subst (IsHop edges y) node_is hop)
       ];
-      within = let k : length found ≤ length (with_filters found (targets_of edges node)) = filters_length (targets_of edges node) found in omega (arith, inside);
+      within = let k : length found ≤ length (with_filters found (origins_of edges node)) = filters_length (origins_of edges node) found in omega (arith, inside);
     })
   where
     inside : turn < length found
     inside = slice_get_within found turn node at
 
-    to_node : Reaches edges from node
-    to_node = h.sound node (in_from_get found turn node at)
+    to_end : Reaches edges node to
+    to_end = h.sound node (in_from_get found turn node at)
 
-    by : (x : Addr) → In x found ⊎ (In x (targets_of edges node) × (is_filter x ≡ true)) → Reaches edges from x
+    by : (x : Addr) → In x found ⊎ (In x (origins_of edges node) × (is_filter x ≡ true)) → Reaches edges x to
     by x (inl k) = h.sound x k
-    by x (inr k) = reach_on edges from node x to_node (inr (one_hop edges node x (record { there = sym (targets-in edges node x) ∙ k.0; from_filter = reach_end edges from node to_node; to_filter = k.1 })))
+    by x (inr k) = hop_on edges x node to (record { there = sym (origins-in edges node x) ∙ k.0; from_filter = k.1; to_filter = reach_start edges node to to_end }) to_end
 
 -- after the last turn
-pub search-end : (edges : List Edge) (from : Addr) (found : List Addr) (turn : ℕ) (to : Addr) → IsSearch edges from found turn → slice_get found turn ≡ None → In to found ↔ Reaches edges from to
-search-end edges from found turn to h last = (h.sound to, λ r. along_reached edges to P (λ a hop closed. closed to hop) (λ a b hop more closed. more (closed_in b (closed b hop))) from r h.start)
+pub search-end : (edges : List Edge) (to : Addr) (found : List Addr) (turn : ℕ) (from : Addr) → IsSearch edges to found turn → slice_get found turn ≡ None → In from found ↔ Reaches edges from to
+search-end edges to found turn from h last = (h.sound from, along_reached edges to (λ a. In a found) h.start (λ a b hop k. closed_in b k a hop) from)
   where
-    P : Addr → Type 0
-    P a = ((y : Addr) → IsHop edges a y → In y found) → In to found
-
-    closed_in : (b : Addr) → In b found → (y : Addr) → IsHop edges b y → In y found
+    closed_in : (b : Addr) → In b found → (y : Addr) → IsHop edges y b → In y found
     closed_in b k y hop = let m : (i : ℕ) × (i < length found) × (slice_get found i ≡ Some b) = get_from_in found b k in
         let end : length found ≤ turn = past_end found turn last in
         h.done m.0 b (omega (arith, m.1)) m.2 y hop

@@ -376,32 +376,33 @@ impl PatchGraph {
     }
 
     /// Whether a chain of edges leads from one node to the other through filters alone, both of them filters too. It
-    /// takes no memory, and goes along each edge at most once.
+    /// takes no memory, and goes along each edge between filters at most once.
+    // From the end, since at most `MOST_SOURCES` edges end at a node, where any number may begin there.
     // Not inline: what a search has found takes 22 KiB of stack, which a caller need not have where a port is joined.
     #[inline(never)]
     pub fn reaches(&self, from: &Addr, to: &Addr) -> bool
         ensures { IsTrue result ↔ Reaches self.now from.now to.now }
     {
-        if !from.is_filter() {
+        if !to.is_filter() {
             return false;
         }
-        let mut found = Found::new(*from);
-        self.find_filters(from, &mut found);
+        let mut found = Found::new(*to);
+        self.find_filters(to, &mut found);
         let mut turn = 0;
         while let Some(node) = found.get(turn) {
             self.find_filters(&node, &mut found);
             turn += 1;
         }
-        found.contains(to)
+        found.contains(from)
     }
 
-    /// Adds the filters among the targets of a node.
+    /// Adds the filters that are joined to a node.
     fn find_filters(&self, node: &Addr, found: &mut Found)
-        ensures { found.new ≡ with_filters found.old (targets_of self.now node.now) }
+        ensures { found.new ≡ with_filters found.old (origins_of self.now node.now) }
     {
-        for target in self.targets(node) {
-            if target.is_filter() {
-                found.add(target);
+        for source in self.origins(node) {
+            if source.is_filter() {
+                found.add(source);
             }
         }
     }

@@ -3,7 +3,7 @@ use Rattle.std.specs.List.{list_any}
 use Rattle.node_table.specs.Addresses.{same}
 use Rattle.node_table.specs.declared.number.Addr.{Addr}
 use Rattle.patch_graph.proofs.Same.{addr_eq, same-sym}
-use Rattle.patch_graph.proofs.Removed.{origins-in}
+use Rattle.patch_graph.proofs.Searched.{origins-in}
 use Rattle.patch_graph.proofs.graph.PatchGraph.has_edge.Goals as goal
 
 pub returns : goal.returns

@@ -2,18 +2,18 @@ use Rattle.std.proofs.Common.{◌<◌, length, ap, sym, arith, ◌∙◌}
 use Rattle.std.proofs.lemmas.Bool.{false≢true}
 use Rattle.std.proofs.lemmas.Option.{slice_get_within}
 use Rattle.patch_graph.specs.Found.{with_filters}
-use Rattle.patch_graph.specs.Index.{targets_of}
+use Rattle.patch_graph.specs.Index.{origins_of}
 use Rattle.patch_graph.proofs.Searched.{search-start, search-more, search-end}
-use Rattle.patch_graph.proofs.Chained.{reach_start}
+use Rattle.patch_graph.proofs.Chained.{reach_end}
 use Rattle.patch_graph.proofs.graph.PatchGraph.reaches.Goals as goal
 
 pub returns-then-not-is_filter : goal.returns-then-not-is_filter
 returns-then-not-is_filter c =
-    (λ h. absurd (false≢true h), λ r. absurd (false≢true (sym c.if-not-is_filter.true ∙ c.is_filter.ensures ∙ reach_start c.args.self.now c.args.from.now c.args.to.now r)))
+    (λ h. absurd (false≢true h), λ r. absurd (false≢true (sym c.if-not-is_filter.true ∙ c.is_filter.ensures ∙ reach_end c.args.self.now c.args.from.now c.args.to.now r)))
 
 pub loop-node-init : goal.loop-node-init
 loop-node-init c =
-    search-start _ _ _ (sym c.is_filter.ensures ∙ c.if-not-is_filter.false) (c.find_filters.ensures ∙ ap (λ xs. with_filters xs (targets_of c.args.self.now c.args.from.now)) c.new-found.ensures)
+    search-start _ _ _ (sym c.is_filter.ensures ∙ c.if-not-is_filter.false) (c.find_filters.ensures ∙ ap (λ xs. with_filters xs (origins_of c.args.self.now c.args.to.now)) c.new-found.ensures)
 
 pub loop-node-smaller : goal.loop-node-smaller
 loop-node-smaller c =
@@ -25,5 +25,5 @@ loop-node-preserved c = search-more _ _ _ _ _ _ c.loop-node.invariant (sym c.in-
 
 pub returns : goal.returns
 returns c =
-    let h = search-end _ _ _ _ c.args.to.now c.loop-node.invariant (sym c.in_default.ensures.node) in
+    let h = search-end _ _ _ _ c.args.from.now c.loop-node.invariant (sym c.in_default.ensures.node) in
     (λ k. h.0 (sym c.contains.ensures ∙ k), λ r. c.contains.ensures ∙ h.1 r)
