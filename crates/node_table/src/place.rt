@@ -21,17 +21,18 @@ pub fn row_of(client: ClientId) -> usize
     ensures start { client ≡ first_client + result }
     ensures small { result < most_clients }
 {
-    (client.number() - FIRST_CLIENT) as usize
+    client.number() as usize - FIRST_CLIENT as usize
 }
 
 /// The place of an address among all that may be: each client has sixteen ports, then sixteen filters.
+// All is reckoned in `usize`, so that what is constant goes into the address of what stands there.
 pub fn place_of(addr: &Addr) -> usize
     ensures place { (row : ℕ) × IsPlace addr.now row result }
     ensures small { result < places }
 {
     let number = match addr.node {
         Node::Port(port) => port.number() as usize,
-        Node::Filter(filter) => (MOST_PORTS + filter.number()) as usize,
+        Node::Filter(filter) => MOST_PORTS as usize + filter.number() as usize,
     };
     row_of(addr.client) * CLIENT_PLACES + number
 }

@@ -1,7 +1,7 @@
 -- A search through filters, from the last backwards: what it has found reaches it, and in the end nothing else does.
-use Rattle.std.proofs.Common.{◌≡◌, ◌⊎◌, ◌↔◌, inl, inr, ℕ, zero, suc, ◌+◌, ◌<◌, ◌≤◌, Bool, true, false, cond, if◌then◌else◌, ◌&&◌, ◌||◌, List, [], ◌∷◌, ◌++◌, map, length, Some, None, refl, ap, sym, subst, ◌∙◌, arith}
+use Rattle.std.proofs.Common.{◌≡◌, ◌⊎◌, ◌↔◌, inl, inr, ℕ, zero, suc, ◌+◌, ◌<◌, ◌≤◌, ◌==◌, Bool, true, false, cond, if◌then◌else◌, ◌&&◌, ◌||◌, List, [], ◌∷◌, ◌++◌, map, length, Some, None, refl, ap, sym, subst, ◌∙◌, arith}
 use Rattle.std.specs.List.{filter, list_any, slice_get}
-use Rattle.std.proofs.lemmas.Bool.{false≢true, or_cases, cases_lt}
+use Rattle.std.proofs.lemmas.Bool.{false≢true, or_cases, cases_lt, eqb-true}
 use Rattle.std.proofs.lemmas.List.{length-append}
 use Rattle.std.proofs.lemmas.List.Folds.{list_any-append}
 use Rattle.std.proofs.lemmas.Option.{slice_get_within}
@@ -242,3 +242,8 @@ search-end edges to found turn from h last = (h.sound from, along_reached edges 
     closed_in b k y hop = let m : (i : ℕ) × (i < length found) × (slice_get found i ≡ Some b) = get_from_in found b k in
         let end : length found ≤ turn = past_end found turn last in
         h.done m.0 b (omega (arith, m.1)) m.2 y hop
+
+-- where nothing is joined to the last
+pub none-joined : (edges : List Edge) (from to : Addr) (xs : List Addr) → is_filter to ≡ true → xs ≡ origins_of edges to → (length xs == 0) ≡ true → Reaches edges from to → ⊥
+none-joined edges from to (x ∷ xs) f e h r = let k : length (x ∷ xs) ≡ 0 = eqb-true (length (x ∷ xs)) 0 h in absurd (omega arith)
+none-joined edges from to [] f e h r = false≢true ((search-end edges to [] 0 from (search-start edges to [] f (ap (with_filters []) e)) refl).1 r)

@@ -386,6 +386,9 @@ impl PatchGraph {
         if !to.is_filter() {
             return false;
         }
+        if self.origins(to).is_empty() {
+            return false;
+        }
         let mut found = Found::new(*to);
         self.find_filters(to, &mut found);
         let mut turn = 0;
