@@ -3,6 +3,7 @@ pub mod Numbers
 pub mod Table
 pub mod Reasons
 pub mod Scripts
+pub mod LiveLines
 pub mod Parsing
 pub mod LineFaults
 pub mod Laws

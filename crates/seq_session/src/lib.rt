@@ -38,6 +38,7 @@ pub use about::{About, Capability};
 pub use diagnostic::{Cause, Diagnostic};
 pub use fault::SessionFault;
 pub use laws::{logs_alone, merges_of_a_circle, readings_are_sorted, sessions_are_timed};
+pub use lines::{Scratch, push_delivery, push_reply, push_skip};
 pub use log::{log_text, log_texts};
 pub use merged::Merged;
 pub use merging::merge;

@@ -16,9 +16,9 @@ use seq_state::{Arrival, Delivery, LogEntry, Refusal, Reply};
 use std::alloc::Global;
 use text_forms::{push_decimal, push_spaced_line};
 
-/// What is kept from one line to the next.
+/// What is kept from one line of logs to the next, for speed alone.
 #[derive(Drop)]
-pub(crate) struct Scratch {
+pub struct Scratch {
     /// The bytes of the last long message.
     bytes: Vec<u8>,
     /// The last moment.
@@ -26,7 +26,8 @@ pub(crate) struct Scratch {
 }
 
 impl Scratch {
-    pub(crate) fn new(alloc: Global) -> Scratch {
+    /// It takes no memory yet.
+    pub fn new(alloc: Global) -> Scratch {
         Scratch {
             bytes: Vec::new(alloc),
             moment: MomentText::new(0),
@@ -45,7 +46,8 @@ fn reason_word(why: SkipReason) -> &'static [u8]
     }
 }
 
-fn push_skip(text: &mut Vec<u8>, skip: Skip) -> Result<(), OutOfMemory>
+/// Adds the line of a skipped line. After an error the text ends within it.
+pub fn push_skip(text: &mut Vec<u8>, skip: Skip) -> Result<(), OutOfMemory>
     ensures { OnOk result (text.new.items ≡ text.old.items ++ skip_line skip) }
 {
     text.extend_from_slice(b"skip ")?;
@@ -120,8 +122,9 @@ fn push_long(
     push_spaced_line(text, scratch.bytes.as_slice())
 }
 
+/// Adds the line of a delivery. After an error the text ends within it.
 #[inline(always)]
-pub(crate) fn push_delivery(
+pub fn push_delivery(
     text: &mut Vec<u8>,
     scratch: &mut Scratch,
     delivery: &Delivery,
@@ -222,8 +225,8 @@ fn name_numbered(number: u8) -> &'static [u8]
     }
 }
 
-/// Adds a reply to the input of a line.
-fn push_reply(
+/// Adds the lines of a reply to the input of a line, at a moment in nanoseconds. After an error the text ends within them.
+pub fn push_reply(
     text: &mut Vec<u8>,
     scratch: &mut Scratch,
     moment: u64,
