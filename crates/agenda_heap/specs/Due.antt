@@ -25,9 +25,17 @@ pub record IsFirstDue
   pub least : (q : ℕ) (k : DueKey) → get m q ≡ Some k → due_cmp k key ≢ Less
   pub due : key.moment ≤ moment
 
+-- some cell has this key, and no key is less
+abbrev pub IsFirst : FinMap nat_cmp DueKey → DueKey → Type 0
+IsFirst m key = (cell : ℕ) × IsFirstDue m cell key key.moment
+
 -- each key's moment is still to come
 abbrev pub NoneDue : FinMap nat_cmp DueKey → ℕ → Type 0
 NoneDue m moment = (q : ℕ) (k : DueKey) → get m q ≡ Some k → moment < k.moment
+
+-- no cell has a key
+abbrev pub IsBare : FinMap nat_cmp DueKey → Type 0
+IsBare m = (moment : ℕ) → NoneDue m moment
 
 -- as three numbers
 abbrev pub coded_due_key : Coded DueKey

@@ -4,7 +4,7 @@ ghost use Rattle.std.specs.Prelude.{◌≡◌, ◌≤◌, ◌+◌, ◌*◌, ◌�
 ghost use Rattle.std.specs.FinMap as map;
 ghost use Rattle.std.specs.BinaryHeap.{heap_items, heap_len, IsHeap, KeepsHeap};
 ghost use Rattle.std.specs.VecDeque.{deque_len};
-ghost use Rattle.agenda_heap.specs.Due.{IsFirstDue, NoneDue};
+ghost use Rattle.agenda_heap.specs.Due.{IsFirst, IsFirstDue, IsBare, NoneDue};
 ghost use Rattle.agenda_heap.specs.Stored.{heap_item, reversed_cmp, slack, AllLater, Ascends, GainsEntry, IsLeast, IsStored, HoldsCells, HoldsOthers};
 
 use crate::agenda::Agenda;
@@ -149,8 +149,57 @@ impl Agenda for HeapAgenda {
     }
 
     #[inline]
+    fn first(&mut self) -> Option<DueKey> {
+        first_live(&mut self.ascending, &mut self.heap, &self.table)
+    }
+
+    #[inline]
     fn len(&self) -> usize {
         self.table.len()
+    }
+}
+
+/// Drops the entries before the first that is not stale, and gives its key.
+fn first_live(
+    ascending: &mut VecDeque<Reverse<Entry>>,
+    heap: &mut BinaryHeap<Reverse<Entry>>,
+    table: &KeyTable,
+) -> Option<DueKey>
+    requires { IsStored table.now ascending.old.items (heap_items heap.old) }
+    ensures some { IfSome result (λ key. IsFirst table.now key) }
+    ensures none { IfNone result (IsBare table.now) }
+    ensures kept { IsStored table.now ascending.new.items (heap_items heap.new) }
+{
+    while let Some((least, is_listed)) = first_of(ascending, heap) {
+        if table.has(&least) {
+            return Some(least.key);
+        }
+        drop_first(ascending, heap, least, is_listed);
+    }
+    None
+}
+
+/// Drops the list's first entry or the heap's top, which is this.
+#[inline]
+fn drop_first(
+    ascending: &mut VecDeque<Reverse<Entry>>,
+    heap: &mut BinaryHeap<Reverse<Entry>>,
+    first: Entry,
+    is_listed: bool,
+)
+    requires ascends { Ascends ascending.old.items }
+    requires order { IsHeap reversed_cmp (heap_items heap.old) }
+    requires place { slice_get (if is_listed then ascending.old.items else heap_items heap.old) 0
+        ≡ Some (record { 0 = first }) }
+    ensures ascends { Ascends ascending.new.items }
+    ensures order { IsHeap reversed_cmp (heap_items heap.new) }
+    ensures popped { GainsEntry (ascending.new.items ++ heap_items heap.new)
+        (ascending.old.items ++ heap_items heap.old) first.key first.cell }
+{
+    if is_listed {
+        ascending.pop_front();
+    } else {
+        heap.pop();
     }
 }
 
@@ -253,11 +302,7 @@ fn pop_first(
     if first.key.moment > moment {
         return None;
     }
-    if is_listed {
-        ascending.pop_front();
-    } else {
-        heap.pop();
-    }
+    drop_first(ascending, heap, first, is_listed);
     Some(first)
 }
 

@@ -80,6 +80,13 @@ impl Agenda for SortedAgenda {
         Some(last)
     }
 
+    fn first(&mut self) -> Option<DueKey> {
+        let last = self.entries.pop()?;
+        let key = last.1;
+        self.entries.push(last).ok().unwrap();
+        Some(key)
+    }
+
     fn len(&self) -> usize {
         self.entries.len()
     }

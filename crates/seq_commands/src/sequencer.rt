@@ -6,6 +6,7 @@ ghost use Rattle.seq_clients.specs.Roster.{lost_count};
 ghost use Rattle.seq_state.specs.State.{start};
 ghost use Rattle.seq_state.specs.Step.{settle};
 ghost use Rattle.seq_settle.specs.Cells.{AreCells};
+ghost use Rattle.seq_settle.specs.Next.{next_moment};
 ghost use Rattle.seq_settle.specs.Order.{AreTimed, NoneComes};
 ghost use Rattle.seq_settle.specs.Waiting.{cell_at};
 ghost use Rattle.seq_settle.specs.declared.waiting.QueueKey.{QueueKey};
@@ -17,7 +18,7 @@ use agenda_heap::Agenda;
 use memory::OutOfMemory;
 use node_table::ClientId;
 use seq_patchbay::Patchbay;
-use seq_settle::{Cells, QueueOrder, settle_all};
+use seq_settle::{Cells, QueueOrder, settle_all, soonest};
 use seq_state::Delivery;
 use std::alloc::Global;
 
@@ -119,6 +120,29 @@ impl<'f, 'b> Sequencer<'f, 'b> {
             self.steps,
             moment,
             out,
+        )
+    }
+
+    /// When the next event is due, in nanoseconds, by the queues as they run now; `None` where no event has a moment. It
+    /// takes no memory.
+    pub fn next_due<A: Agenda>(&mut self, agenda: &mut A) -> Option<u64>
+        requires cells { AreCells self.old.cells.cells self.old.steps }
+        requires timed { AreTimed (clients_of self.old) self.old.cells.cells self.old.order
+            (A.content agenda.old) }
+        ensures moment { result ≡ next_moment (state_of self.old) }
+        ensures state { state_of self.new ≡ state_of self.old }
+        ensures cells { AreCells self.new.cells.cells self.new.steps }
+        ensures timed { AreTimed (clients_of self.new) self.new.cells.cells self.new.order
+            (A.content agenda.new) }
+        ensures files { self.new.files ≡ self.old.files }
+        ensures steps { self.new.steps ≡ self.old.steps }
+    {
+        soonest(
+            &self.patchbay,
+            &self.cells,
+            &mut self.order,
+            agenda,
+            self.steps,
         )
     }
 

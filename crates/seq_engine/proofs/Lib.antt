@@ -4,3 +4,4 @@ pub mod Heard
 pub mod Idle
 pub mod Lost
 pub mod Ending
+pub mod Soonest

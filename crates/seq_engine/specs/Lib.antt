@@ -3,3 +3,4 @@ pub mod Begun
 pub mod Ending
 pub mod Faults
 pub mod Losses
+pub mod NextLaws

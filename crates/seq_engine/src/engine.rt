@@ -8,6 +8,7 @@ ghost use Rattle.smf_grammar.specs.Played.{as_played};
 ghost use Rattle.seq_engine.specs.Ending.{listing_of};
 ghost use Rattle.seq_clients.specs.Roster.{lost_count};
 ghost use Rattle.seq_commands.specs.Turns.{takes_none};
+ghost use Rattle.seq_settle.specs.Next.{next_moment};
 ghost use Rattle.seq_state.specs.State.{start};
 ghost use Rattle.seq_state.specs.Step.{due, step, settle, IsRefusal};
 ghost use Rattle.seq_state.specs.Laws.{has_ticks, Bounded};
@@ -201,6 +202,22 @@ impl<'f, 'b, A: Agenda> Engine<'f, 'b, A> {
         self.failed = false;
         self.moment = moment;
         Ok(delivered)
+    }
+
+    /// When the next event is due, in nanoseconds, by the queues as they run now; `None` where no event has a moment. It
+    /// takes no memory.
+    ///
+    /// To settle up to an earlier moment sends nothing.
+    pub fn next_due(&mut self) -> Result<Option<u64>, EngineFault>
+        ensures moment { IfOk result (λ m. m ≡ next_moment self.old.state) }
+        ensures same { self.new ≡ self.old }
+        ensures failed { IsErrOf result EngineFault.Failed ↔ IsTrue self.old.failed }
+        ensures sound { self.old.failed ≡ false → IsOk result }
+    {
+        if self.failed {
+            return Err(EngineFault::Failed);
+        }
+        Ok(self.sequencer.next_due(&mut self.agenda))
     }
 
     /// The listing: a line for each open client by number, each with its ports, filters and queues by number,

@@ -40,11 +40,11 @@ line-digit n t h = go (nat_lt n 10) refl
         one : (k : ℕ) → 10 < k → eqb k 10 ≡ false
         one k l = ne_eqb k 10 (λ e. omega arith)
 
-line-spaced : (bytes : List ℕ) → IsLine (spaced_hex bytes)
+pub line-spaced : (bytes : List ℕ) → IsLine (spaced_hex bytes)
 line-spaced [] = refl
 line-spaced (b ∷ bytes) = line-digit (b / 16) (digit (b % 16) ∷ spaced_hex bytes) (line-digit (b % 16) (spaced_hex bytes) (line-spaced bytes))
 
-line-why : (why : SkipReason) → IsLine (reason_text why)
+pub line-why : (why : SkipReason) → IsLine (reason_text why)
 line-why Unreadable = refl
 line-why PastEnd = refl
 line-why Late = refl
@@ -84,7 +84,7 @@ line-name_in (r ∷ rs) n = go (eqb (number_of r) n) (line-name_in rs n)
     go true more = line-refusal_name r
     go false more = more
 
-line-outcome : (reply : Reply) → IsLine (outcome reply)
+pub line-outcome : (reply : Reply) → IsLine (outcome reply)
 line-outcome Done = refl
 line-outcome (Messages n) = line-append (codes " ok ") (decimal n) refl (line-number n)
 line-outcome (Received arrivals) = line-append (codes " ok ") (decimal (length arrivals)) refl (line-number (length arrivals))

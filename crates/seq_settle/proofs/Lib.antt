@@ -18,3 +18,6 @@ pub mod NewKeys
 pub mod Counting
 pub mod Elsewhere
 pub mod FirstEvents
+pub mod Least
+pub mod NextMoment
+pub mod Sooner

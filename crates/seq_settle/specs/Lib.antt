@@ -8,3 +8,5 @@ pub mod Lists
 pub mod Waiting
 pub mod Order
 pub mod Waking
+pub mod Next
+pub mod Soonest

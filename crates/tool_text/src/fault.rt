@@ -13,7 +13,7 @@ use thiserror::Error;
 pub enum ToolFault {
     /// A growth was refused.
     OutOfMemory,
-    /// A read failed, or there were more than 16,777,216 bytes.
+    /// A read failed, or there were more bytes than may come.
     Read,
     /// A write failed, or took no byte.
     Write,

@@ -17,6 +17,7 @@ ghost use Rattle.tool_text.specs.Thru.{most_piece, after_input, IsPassing, IsFed
 
 use crate::fault::ToolFault;
 use crate::heading::Heading;
+use crate::limits::MOST;
 use crate::printing::{Printer, print_stream};
 use agenda_heap::{Agenda, HeapAgenda};
 use bitflags::Flags;
@@ -59,7 +60,7 @@ pub fn thru_text<R: Source, W: Sink>(
     ensures only { IfErr result IsOfStream }
 {
     let mut passage = Passage::new(alloc, HeapAgenda::new(alloc))?;
-    print_stream(alloc, &mut passage, input, out)
+    print_stream(alloc, &mut passage, input, out, MOST as u64)
 }
 
 /// A sequencer that a stream is passed through.
@@ -85,11 +86,14 @@ impl<'b, A: Agenda + Drop> Passage<'b, A> {
 
 impl<'b, A: Agenda> Printer for Passage<'b, A> {
     ghost use Rattle.tool_text.specs.Stream.{message_lines};
+    ghost use Rattle.smf_grammar.specs.Chunks.{most_bytes};
     ghost use Rattle.tool_text.specs.Thru.{thru_line, IsFed};
 
     ghost WasFed = { λ p read. IsFed p.engine read };
 
-    ghost lines = { message_lines thru_line };
+    ghost lines = { λ _. message_lines thru_line };
+
+    ghost most = { most_bytes };
 
     fn take(&mut self, piece: &[u8], text: &mut Vec<u8>) -> Result<(), ToolFault> {
         pass_on(self.alloc, &mut self.engine, piece, text)

@@ -14,6 +14,7 @@ ghost use Rattle.tool_text.specs.Stream.{message_lines, IsRendered, IsRenderedIn
 ghost use Rattle.tool_text.specs.Wire.{written_line, wire_text, IsCopied};
 
 use crate::fault::ToolFault;
+use crate::limits::MOST;
 use crate::printing::{Printer, flush, print_stream, spill};
 use byte_io::{Sink, Source};
 use memory::OutOfMemory;
@@ -52,7 +53,7 @@ pub fn wire_text<R: Source, W: Sink>(
     ensures only { IfErr result IsOfStream }
 {
     let mut copier = Copier::new(alloc);
-    print_stream(alloc, &mut copier, input, out)?;
+    print_stream(alloc, &mut copier, input, out, MOST as u64)?;
     print_written(alloc, copier.written.as_slice(), out)
 }
 
@@ -106,12 +107,15 @@ impl Copier {
 
 impl Printer for Copier {
     ghost use Rattle.tool_text.specs.Stream.{message_lines};
+    ghost use Rattle.smf_grammar.specs.Chunks.{most_bytes};
     ghost use Rattle.text_forms.specs.Hex.{hex_line};
     ghost use Rattle.tool_text.specs.Wire.{IsCopied};
 
     ghost WasFed = { λ c read. IsCopied c.parser c.writer c.written.items read };
 
-    ghost lines = { message_lines hex_line };
+    ghost lines = { λ _. message_lines hex_line };
+
+    ghost most = { most_bytes };
 
     fn take(&mut self, piece: &[u8], text: &mut Vec<u8>) -> Result<(), ToolFault> {
         self.copy(piece, text)

@@ -83,6 +83,58 @@ fn assert_step(
     Ok(())
 }
 
+/// What is said, a queue that stops and starts again among it, and when something is due next after each.
+const HELD_AND_STARTED_AGAIN: &[(u64, Say)] = &[
+    (0, Open("a", 8, 8)),
+    (0, Port(0, "out", 33)),
+    (0, Queue(0, 480, 500_000)),
+    (0, Schedule(128, DueAt::Nanos(5), b"\x90\x01\x40")),
+    (1, Start(128, 0)),
+    (3, Stop(128, 0)),
+    (9, Start(128, 0)),
+    // Its time has passed, so that it is due at once.
+    (10, Schedule(128, DueAt::Nanos(0), b"\x90\x02\x40")),
+    (12, Pools),
+    (14, Pools),
+];
+
+const DUE_AFTER: &[Option<u64>] = &[
+    None,
+    None,
+    None,
+    None,
+    Some(6),
+    None,
+    Some(14),
+    Some(10),
+    Some(14),
+    None,
+];
+
+#[test]
+fn tells_when_something_is_due(rt: HostRuntime) -> Result<(), Fail> {
+    let alloc = rt.alloc();
+    let mut lines = Lines::new(alloc);
+    lines.say_all(HELD_AND_STARTED_AGAIN)?;
+    let mut engine = Engine::new(alloc, &[], HeapAgenda::new(alloc));
+    assert_due(&rt, &mut engine, &lines)
+}
+
+fn assert_due(
+    rt: &impl Abort,
+    engine: &mut Engine<'_, '_, HeapAgenda>,
+    lines: &Lines,
+) -> Result<(), Fail> {
+    for (input, due) in lines.inputs().iter().zip(DUE_AFTER) {
+        assert!(rt; engine.now() <= input.moment);
+        assert!(rt; engine.steps() < u64::MAX);
+        drop(engine.step(input)?);
+        assert!(rt; engine.next_due()? == *due);
+    }
+    assert!(rt; engine.steps() == 10);
+    Ok(())
+}
+
 /// A run of nothing has an empty log.
 #[test]
 fn nobody_says_anything(rt: HostRuntime) -> Result<(), Fail> {

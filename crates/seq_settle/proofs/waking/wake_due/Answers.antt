@@ -31,7 +31,7 @@ loop-first-preserved-then-least-moment g c =
     record {
       fits = (omega arith, omega arith);
       timed = i.timed;
-      passed = passed-row (g.D.Desk.clients c.args.desk.now) c.args.cells.now.cells c.loop-first.order (g.A.Agenda.content c.loop-first.agenda) c.args.steps c.requires.cells i.timed c.loop-first.from c.args.moment c.loop-first.earliest i.passed c.in-Some.first.0 c.in-Some.first.1 c.in-Some.ensures.there c.in-Some.ensures.least
+      passed = passed-row (g.D.Desk.clients c.args.desk.now) c.args.cells.now.cells c.loop-first.order (g.A.Agenda.content c.loop-first.agenda) c.args.steps c.requires.cells i.timed c.loop-first.from c.in-Some.first.0 c.in-Some.first.1 c.in-Some.ensures.there c.in-Some.ensures.least c.args.moment c.loop-first.earliest i.passed
           x.0 x.1 c.least_moment-least.result (subst (λ h. IsLeastMoment (g.D.Desk.clients c.args.desk.now) h c.least_moment-least.result) x.2 c.least_moment-least.ensures.bound) c.if-least-moment.true c.min-earliest.result
           (omega (arith, c.min-earliest.ensures)) (omega (arith, c.min-earliest.ensures));
     }
@@ -44,7 +44,7 @@ loop-first-preserved-in_default-key_of g c =
     record {
       fits = (search, omega (arith, small.1, c.ranges.steps.fits));
       timed = i.timed;
-      passed = passed-one (g.D.Desk.clients c.args.desk.now) c.args.cells.now.cells c.loop-first.order (g.A.Agenda.content c.loop-first.agenda) c.args.steps c.requires.cells i.timed c.loop-first.from c.args.moment c.loop-first.earliest i.passed c.in-Some.first.0 c.in-Some.first.1 c.in-Some.ensures.there c.in-Some.ensures.least
+      passed = passed-one (g.D.Desk.clients c.args.desk.now) c.args.cells.now.cells c.loop-first.order (g.A.Agenda.content c.loop-first.agenda) c.args.steps c.requires.cells i.timed c.loop-first.from c.in-Some.first.0 c.in-Some.first.1 c.in-Some.ensures.there c.in-Some.ensures.least c.args.moment c.loop-first.earliest i.passed
           c.loop-first.order c.loop-first.earliest (λ k q e. e) (omega arith) (λ key e f. absurd (none-some key (sym none ∙ f)));
     }
 
@@ -60,7 +60,7 @@ loop-first-preserved-in-Continue-1 g c =
     record {
       fits = (search, omega (arith, small.1, c.ranges.steps.fits));
       timed = c.in_ok-wake_one.ensures.timed (g.D.Desk.clients c.args.desk.now) keyed i.timed;
-      passed = passed-one (g.D.Desk.clients c.args.desk.now) c.args.cells.now.cells c.loop-first.order (g.A.Agenda.content c.loop-first.agenda) c.args.steps c.requires.cells i.timed c.loop-first.from c.args.moment c.loop-first.earliest i.passed c.in-Some.first.0 c.in-Some.first.1 c.in-Some.ensures.there c.in-Some.ensures.least
+      passed = passed-one (g.D.Desk.clients c.args.desk.now) c.args.cells.now.cells c.loop-first.order (g.A.Agenda.content c.loop-first.agenda) c.args.steps c.requires.cells i.timed c.loop-first.from c.in-Some.first.0 c.in-Some.first.1 c.in-Some.ensures.there c.in-Some.ensures.least c.args.moment c.loop-first.earliest i.passed
           c.wake_one.new.order c.loop-first.earliest (λ k q e. (waits-left (cell_at c.loop-first.order.waiting) (cell_at c.wake_one.new.order.waiting) c.in-Some.first.0 c.in_ok-wake_one.ensures.waiting k q e).1) (omega arith)
           (λ key e f. absurd (none-some c.in-Some.first.1 (sym (waits-here (cell_at c.loop-first.order.waiting) (cell_at c.wake_one.new.order.waiting) c.in-Some.first.0 None c.in_ok-wake_one.ensures.waiting) ∙ e)));
     }
@@ -79,7 +79,7 @@ loop-first-preserved g c =
     record {
       fits = (search, omega (arith, small.1, c.ranges.steps.fits));
       timed = i.timed;
-      passed = passed-one (g.D.Desk.clients c.args.desk.now) c.args.cells.now.cells c.loop-first.order (g.A.Agenda.content c.loop-first.agenda) c.args.steps c.requires.cells i.timed c.loop-first.from c.args.moment c.loop-first.earliest i.passed c.in-Some.first.0 c.in-Some.first.1 c.in-Some.ensures.there c.in-Some.ensures.least
+      passed = passed-one (g.D.Desk.clients c.args.desk.now) c.args.cells.now.cells c.loop-first.order (g.A.Agenda.content c.loop-first.agenda) c.args.steps c.requires.cells i.timed c.loop-first.from c.in-Some.first.0 c.in-Some.first.1 c.in-Some.ensures.there c.in-Some.ensures.least c.args.moment c.loop-first.earliest i.passed
           c.loop-first.order c.min-earliest-else-due-moment.result (λ k q e. e) (omega (arith, c.min-earliest-else-due-moment.ensures))
           (λ key e f. let same : c.in-Some-key_of.due.moment ≡ key.moment = ap (λ (k : DueKey). k.moment) (same_Some c.in-Some-key_of.due key (sym keyed ∙ f)) in
           (omega (arith, same, c.if-due-moment.false), omega (arith, same, c.min-earliest-else-due-moment.ensures)));

@@ -10,7 +10,8 @@ invariant-pieces g l = record {
   eager : g.W.Sink.takes_some l.out ≡ g.W.Sink.takes_some l.fn.out;
   space : length l.chunk ≡ 4096;
   empty : l.text.items ≡ [];
-  passed : Passed g.R.Source.HasLeft g.W.Sink.HasTaken (g.P.Printer.WasFed l.printer) g.P.Printer.lines l.fn.input l.input l.fn.out l.out l.room;
+  same : g.P.Printer.lines l.printer ≡ g.P.Printer.lines l.fn.printer;
+  passed : Passed g.P.Printer.most g.R.Source.HasLeft g.W.Sink.HasTaken (g.P.Printer.WasFed l.printer) (g.P.Printer.lines l.fn.printer) l.fn.input l.input l.fn.out l.out l.room;
 }
 
 abbrev pub decreases-pieces : goal.decreases-pieces
