@@ -1,0 +1,13 @@
+pub mod Plain
+pub mod Alone
+pub mod Reading
+pub mod Clients
+pub mod Passing
+pub mod Fronts
+pub mod Blanked
+pub mod Shut
+pub mod Parted
+pub mod Fed
+pub mod Counted
+pub mod Ended
+pub mod Told

@@ -1,0 +1,5 @@
+use Rattle.memory.proofs.Outcomes.{on_ok}
+use Rattle.session_live.proofs.answers.list.Goals as goal
+
+pub returns-clause-counts : goal.returns-clause-counts
+returns-clause-counts g c = λ h a. on_ok c.end.result (c.in_ok-count.ensures.counts h a)
