@@ -14,25 +14,25 @@ onto_last [] part = part ∷ []
 onto_last (l ∷ []) part = (l ++ part) ∷ []
 onto_last (l ∷ m ∷ ls) part = l ∷ onto_last (m ∷ ls) part
 
--- a list that is not empty
-abbrev IsSome' : List (List ℕ) → Type 0
-IsSome' ls = (l : List ℕ) × (ms : List (List ℕ)) × (ls ≡ l ∷ ms)
+-- a list with a first
+abbrev HasFirst : List (List ℕ) → Type 0
+HasFirst ls = (l : List ℕ) × (ms : List (List ℕ)) × (ls ≡ l ∷ ms)
 
-some_lines : (text : List ℕ) → IsSome' (lines text)
+some_lines : (text : List ℕ) → HasFirst (lines text)
 some_lines text = by _ (lines text) (length-slice_split is_line_end text)
   where
-    by : (n : ℕ) (ls : List (List ℕ)) → length ls ≡ n + 1 → IsSome' ls
+    by : (n : ℕ) (ls : List (List ℕ)) → length ls ≡ n + 1 → HasFirst ls
     by n [] h = absurd (omega arith)
     by n (l ∷ ls) h = (l, ls, refl)
 
 -- ---- a part without a line feed
 
-first_last : (b : ℕ) (ls : List (List ℕ)) (part : List ℕ) → IsSome' ls → onto_first b (onto_last ls part) ≡ onto_last (onto_first b ls) part
+first_last : (b : ℕ) (ls : List (List ℕ)) (part : List ℕ) → HasFirst ls → onto_first b (onto_last ls part) ≡ onto_last (onto_first b ls) part
 first_last b [] part h = cc
 first_last b (l ∷ []) part h = refl
 first_last b (l ∷ m ∷ ls) part h = refl
 
-empty_last : (ls : List (List ℕ)) (part : List ℕ) → IsSome' ls → [] ∷ onto_last ls part ≡ onto_last ([] ∷ ls) part
+empty_last : (ls : List (List ℕ)) (part : List ℕ) → HasFirst ls → [] ∷ onto_last ls part ≡ onto_last ([] ∷ ls) part
 empty_last [] part h = cc
 empty_last (l ∷ ls) part h = refl
 
@@ -40,21 +40,21 @@ lines-kept : (text part : List ℕ) → lines part ≡ part ∷ [] → lines (te
 lines-kept [] part h = h
 lines-kept (b ∷ text) part h = by (is_line_end b) (lines-kept text part h) (some_lines text)
   where
-    by : (c : Bool) → lines (text ++ part) ≡ onto_last (lines text) part → IsSome' (lines text) →
+    by : (c : Bool) → lines (text ++ part) ≡ onto_last (lines text) part → HasFirst (lines text) →
         cond c ([] ∷ lines (text ++ part)) (onto_first b (lines (text ++ part))) ≡ onto_last (cond c ([] ∷ lines text) (onto_first b (lines text))) part
     by true e s = ap (λ ls. [] ∷ ls) e ∙ empty_last (lines text) part s
     by false e s = ap (onto_first b) e ∙ first_last b (lines text) part s
 
-some_onto : (ls : List (List ℕ)) (part : List ℕ) → IsSome' (onto_last ls part)
+some_onto : (ls : List (List ℕ)) (part : List ℕ) → HasFirst (onto_last ls part)
 some_onto [] part = (part, [], refl)
 some_onto (l ∷ []) part = (l ++ part, [], refl)
 some_onto (l ∷ m ∷ ls) part = (l, onto_last (m ∷ ls) part, refl)
 
-more_front : (l : List ℕ) (ls : List (List ℕ)) → IsSome' ls → all_but_last (l ∷ ls) ≡ l ∷ all_but_last ls
+more_front : (l : List ℕ) (ls : List (List ℕ)) → HasFirst ls → all_but_last (l ∷ ls) ≡ l ∷ all_but_last ls
 more_front l [] h = cc
 more_front l (m ∷ ls) h = refl
 
-more_last : (l : List ℕ) (ls : List (List ℕ)) → IsSome' ls → last_of (l ∷ ls) ≡ last_of ls
+more_last : (l : List ℕ) (ls : List (List ℕ)) → HasFirst ls → last_of (l ∷ ls) ≡ last_of ls
 more_last l [] h = cc
 more_last l (m ∷ ls) h = refl
 
@@ -75,7 +75,7 @@ whole-onto (l ∷ m ∷ ls) part = ap (λ x. l ∷ x) (whole-onto (m ∷ ls) par
 
 -- ---- a line feed
 
-feed_last : (b : ℕ) (ls : List (List ℕ)) → IsSome' ls → onto_first b (ls ++ [] ∷ []) ≡ onto_first b ls ++ [] ∷ []
+feed_last : (b : ℕ) (ls : List (List ℕ)) → HasFirst ls → onto_first b (ls ++ [] ∷ []) ≡ onto_first b ls ++ [] ∷ []
 feed_last b [] h = cc
 feed_last b (l ∷ ls) h = refl
 
@@ -83,7 +83,7 @@ lines-fed : (text : List ℕ) → lines (text ++ 10 ∷ []) ≡ lines text ++ []
 lines-fed [] = refl
 lines-fed (b ∷ text) = by (is_line_end b) (lines-fed text) (some_lines text)
   where
-    by : (c : Bool) → lines (text ++ 10 ∷ []) ≡ lines text ++ [] ∷ [] → IsSome' (lines text) →
+    by : (c : Bool) → lines (text ++ 10 ∷ []) ≡ lines text ++ [] ∷ [] → HasFirst (lines text) →
         cond c ([] ∷ lines (text ++ 10 ∷ [])) (onto_first b (lines (text ++ 10 ∷ []))) ≡ cond c ([] ∷ lines text) (onto_first b (lines text)) ++ [] ∷ []
     by true e s = ap (λ ls. [] ∷ ls) e
     by false e s = ap (onto_first b) e ∙ feed_last b (lines text) s
@@ -92,7 +92,7 @@ front-fed : (ls : List (List ℕ)) → all_but_last (ls ++ [] ∷ []) ≡ ls
 front-fed [] = refl
 front-fed (l ∷ ls) = more_front l (ls ++ [] ∷ []) (some_feed ls) ∙ ap (λ x. l ∷ x) (front-fed ls)
   where
-    some_feed : (ms : List (List ℕ)) → IsSome' (ms ++ [] ∷ [])
+    some_feed : (ms : List (List ℕ)) → HasFirst (ms ++ [] ∷ [])
     some_feed [] = ([], [], refl)
     some_feed (m ∷ ms) = (m, ms ++ [] ∷ [], refl)
 
@@ -112,7 +112,7 @@ open-kept text part h = ap last_of (lines-kept text part h) ∙ last-kept (lines
 pub whole-fed : (text : List ℕ) → whole_lines (text ++ 10 ∷ []) ≡ whole_lines text ++ open_line text ∷ []
 whole-fed text = ap all_but_last (lines-fed text) ∙ front-fed (lines text) ∙ by (lines text) (some_lines text)
   where
-    by : (ls : List (List ℕ)) → IsSome' ls → ls ≡ all_but_last ls ++ last_of ls ∷ []
+    by : (ls : List (List ℕ)) → HasFirst ls → ls ≡ all_but_last ls ++ last_of ls ∷ []
     by [] h = cc
     by (l ∷ []) h = refl
     by (l ∷ m ∷ ls) h = ap (λ x. l ∷ x) (by (m ∷ ls) (m, ls, refl))

@@ -24,8 +24,8 @@ pub record IsLineEnd (text : List ℕ) (place : ℕ) : Type 0 where
 pub record AreCounts (said : List ℕ) (loose : ℕ) (h : Heard) : Type 0 where
   pub rows : length said ≡ most_clients
   pub loose_is : loose ≡ h.loose
-  pub said_is : (client row : ℕ) → client ≡ first_client + row → row < most_clients
-      → slice_index_or said row 0 ≡ h.said client
+  pub said_is : (client seat : ℕ) → client ≡ first_client + seat → seat < most_clients
+      → slice_index_or said seat 0 ≡ h.said client
 
 -- the number of the next line that names this client, or none
 abbrev pub next_number : Heard → Option ℕ → ℕ

@@ -19,7 +19,7 @@ pub(crate) struct HeardLines {
 
 fn no_lines<const N: usize>() -> [u64; N]
     ensures rows { length result ≡ N }
-    ensures none { (row : ℕ) → slice_index_or result row 0 ≡ 0 }
+    ensures none { (seat : ℕ) → slice_index_or result seat 0 ≡ 0 }
 {
     [0; N]
 }
