@@ -34,10 +34,10 @@ pub fn live_text<R: Source, W: Sink>(
     requires input_sound { R.failed input.old ≡ false }
     requires out_sound { W.failed out.old ≡ false }
 
-    ensures text { OnOk result (IsRenderedUpTo most_text R.HasLeft W.HasTaken (live_text files.entry)
-        input.old input.new out.old out.new) }
-    ensures short { OnErr result (IsRenderedInPart R.HasLeft W.HasTaken (live_text files.entry)
-        input.old input.new out.old out.new) }
+    ensures text { OnOk result (IsRenderedUpTo most_text R.HasLeft W.HasTaken
+        (live_text files.entry) input.old input.new out.old out.new) }
+    ensures short { OnErr result (IsRenderedInPart R.HasLeft W.HasTaken
+        (live_text files.entry) input.old input.new out.old out.new) }
     ensures bounded { GaveSome R.HasLeft (most_text + 1) input.old input.new }
 
     // Whichever read fails, each line that came before it is answered.
