@@ -8,9 +8,9 @@ use Rattle.std.proofs.lemmas.Option.{slice_get_within}
 use Rattle.node_table.specs.Addresses.{same, is_filter}
 use Rattle.node_table.specs.declared.number.Addr.{Addr}
 use Rattle.patch_graph.specs.declared.edge.Edge.{Edge}
-use Rattle.patch_graph.specs.Edges.{has_edge}
+use Rattle.patch_graph.specs.Edges.{is_edge, has_edge}
 use Rattle.patch_graph.specs.Chains.{Reaches}
-use Rattle.patch_graph.specs.Index.{origins_of}
+use Rattle.patch_graph.specs.Index.{origins_of, targets_of}
 use Rattle.patch_graph.specs.Found.{with_found, with_filters}
 use Rattle.patch_graph.proofs.Same.{same-is, same-refl, same-from}
 use Rattle.patch_graph.proofs.Chained.{IsHop, one_hop, hop_on, along_reached, reach_start}
@@ -247,3 +247,33 @@ search-end edges to found turn from h last = (h.sound from, along_reached edges 
 pub none-joined : (edges : List Edge) (from to : Addr) (xs : List Addr) → is_filter to ≡ true → xs ≡ origins_of edges to → (length xs == 0) ≡ true → Reaches edges from to → ⊥
 none-joined edges from to (x ∷ xs) f e h r = let k : length (x ∷ xs) ≡ 0 = eqb-true (length (x ∷ xs)) 0 h in absurd (omega arith)
 none-joined edges from to [] f e h r = false≢true ((search-end edges to [] 0 from (search-start edges to [] f (ap (with_filters []) e)) refl).1 r)
+
+-- where no filter is joined to the first
+hop_onward : (edges : List Edge) (a b : Addr) → is_filter b ≡ true → has_edge edges a b ≡ true → list_any is_filter (targets_of edges a) ≡ true
+hop_onward [] a b f h = absurd (false≢true h)
+hop_onward (e ∷ es) a b f h = by (or_cases (is_edge a b e) (has_edge es a b) h) (hop_onward es a b f)
+  where
+    left : (c d : Bool) → (c && d) ≡ true → c ≡ true
+    left c d k = grind arith
+
+    right : (c d : Bool) → (c && d) ≡ true → d ≡ true
+    right c d k = grind arith
+
+    here : (s : Bool) → s ≡ true → same b e.target ≡ true → list_any is_filter (map (λ e. e.target) (cond s (e ∷ filter (λ e. same a e.source) es) (filter (λ e. same a e.source) es))) ≡ true
+    here true k i = ap (λ c. c || list_any is_filter (map (λ e. e.target) (filter (λ e. same a e.source) es))) (ap is_filter (sym (same-is b e.target i)) ∙ f)
+    here false k i = absurd (false≢true k)
+
+    later : (s : Bool) → list_any is_filter (map (λ e. e.target) (filter (λ e. same a e.source) es)) ≡ true → list_any is_filter (map (λ e. e.target) (cond s (e ∷ filter (λ e. same a e.source) es) (filter (λ e. same a e.source) es))) ≡ true
+    later true k = or_true (is_filter e.target) (list_any is_filter (map (λ e. e.target) (filter (λ e. same a e.source) es))) k
+      where
+        or_true : (c d : Bool) → d ≡ true → (c || d) ≡ true
+        or_true c d m = grind arith
+    later false k = k
+
+    by : (is_edge a b e ≡ true) ⊎ (has_edge es a b ≡ true) → (has_edge es a b ≡ true → list_any is_filter (targets_of es a) ≡ true) → list_any is_filter (targets_of (e ∷ es) a) ≡ true
+    by (inl k) more = here (same a e.source) (left (same a e.source) (same b e.target) k) (right (same a e.source) (same b e.target) k)
+    by (inr k) more = later (same a e.source) (more k)
+
+pub none-onward : (edges : List Edge) (from to : Addr) → list_any is_filter (targets_of edges from) ≡ false → Reaches edges from to → ⊥
+none-onward edges from to none r =
+    along_reached edges to (λ a. list_any is_filter (targets_of edges a) ≡ false → ⊥) (λ a h k. false≢true (sym k ∙ hop_onward edges a to h.to_filter h.there)) (λ a b h more k. false≢true (sym k ∙ hop_onward edges a b h.to_filter h.there)) from r none

@@ -5,7 +5,7 @@ ghost use Rattle.std.specs.Bool.{OnTrue, OnFalse};
 ghost use Rattle.std.specs.List.{filter, list_any, position, zip};
 ghost use Rattle.std.specs.List.Sorted.{IsPermutation, IsNonDecreasingBy};
 ghost use Rattle.std.specs.Map.{lookup};
-ghost use Rattle.node_table.specs.Addresses.{same};
+ghost use Rattle.node_table.specs.Addresses.{same, is_filter};
 ghost use Rattle.node_table.specs.Kept.{IsPlace, IsTable, ReadsAs};
 ghost use Rattle.node_table.specs.declared.number.Addr.{Addr};
 ghost use Rattle.node_table.specs.Numbers.{places};
@@ -389,6 +389,9 @@ impl PatchGraph {
         if self.origins(to).is_empty() {
             return false;
         }
+        if !self.leads_on(from) {
+            return false;
+        }
         let mut found = Found::new(*to);
         self.find_filters(to, &mut found);
         let mut turn = 0;
@@ -397,6 +400,13 @@ impl PatchGraph {
             turn += 1;
         }
         found.contains(from)
+    }
+
+    /// Whether some edge leads from a node to a filter.
+    fn leads_on(&self, node: &Addr) -> bool
+        ensures { result ≡ list_any is_filter (targets_of self.now node.now) }
+    {
+        self.targets(node).iter().any(|target| target.is_filter())
     }
 
     /// Adds the filters that are joined to a node.

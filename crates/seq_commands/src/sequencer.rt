@@ -123,8 +123,8 @@ impl<'f, 'b> Sequencer<'f, 'b> {
         )
     }
 
-    /// When the next event is due, in nanoseconds, by the queues as they run now; `None` where no event has a moment. It
-    /// takes no memory.
+    /// When the next event is due, in nanoseconds, by the queues as they run now; `None` where no event has a moment.
+    /// It takes no memory.
     pub fn next_due<A: Agenda>(&mut self, agenda: &mut A) -> Option<u64>
         requires cells { AreCells self.old.cells.cells self.old.steps }
         requires timed { AreTimed (clients_of self.old) self.old.cells.cells self.old.order

@@ -204,8 +204,8 @@ impl<'f, 'b, A: Agenda> Engine<'f, 'b, A> {
         Ok(delivered)
     }
 
-    /// When the next event is due, in nanoseconds, by the queues as they run now; `None` where no event has a moment. It
-    /// takes no memory.
+    /// When the next event is due, in nanoseconds, by the queues as they run now; `None` where no event has a moment.
+    /// It takes no memory.
     ///
     /// To settle up to an earlier moment sends nothing.
     pub fn next_due(&mut self) -> Result<Option<u64>, EngineFault>

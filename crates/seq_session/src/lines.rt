@@ -225,7 +225,8 @@ fn name_numbered(number: u8) -> &'static [u8]
     }
 }
 
-/// Adds the lines of a reply to the input of a line, at a moment in nanoseconds. After an error the text ends within them.
+/// Adds the lines of a reply to the input of a line, at a moment in nanoseconds. After an error the text ends within
+/// them.
 pub fn push_reply(
     text: &mut Vec<u8>,
     scratch: &mut Scratch,

@@ -1,6 +1,6 @@
 //! When something is due next.
 
-ghost use Rattle.std.specs.Prelude.{◌≡◌, None, Some, IfSome, IfNone};
+ghost use Rattle.std.specs.Prelude.{◌≡◌, Some, IfSome, IfNone};
 ghost use Rattle.std.specs.Ordering.{nat_cmp};
 ghost use Rattle.std.specs.FinMap as map;
 ghost use Rattle.std.specs.Option.{option_map};
@@ -66,8 +66,8 @@ fn first_moment<A: Agenda>(agenda: &mut A) -> Option<u64>
 
 /// When the next event is due of all cells that wait.
 ///
-/// Of each queue only what may be the next is looked at: mostly one cell of those that are due by ticks, and one of those
-/// that are due by nanoseconds.
+/// Of each queue only what may be the next is looked at: mostly one cell of those that are due by ticks, and one of
+/// those that are due by nanoseconds.
 fn soonest_waiting<D: Desk>(
     desk: &D,
     cells: &CellStore<Playback<'_>>,

@@ -1,7 +1,7 @@
 //! What a sequencer answers to those who talk to it while it runs, line by line.
 //!
-//! `live_text` reads the lines and writes the answers. Its contract says that they are those of the whole lines, however
-//! the text comes in pieces.
+//! `live_text` reads the lines and writes the answers. Its contract says that they are those of the whole lines,
+//! however the text comes in pieces.
 #![tactic(auto)]
 
 mod answers;

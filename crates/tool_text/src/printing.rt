@@ -43,9 +43,9 @@ pub trait Printer {
         ensures only { IfErr result (λ e. e ≡ ToolFault.OutOfMemory) };
 }
 
-/// Prints the lines for the stream that `input` gives, as they come: what a piece makes whole is written before the next
-/// is read. The stream may have `most` bytes, as many as the printer takes: of a longer one a byte more is read, and
-/// the answer is `Read`, as where a read failed.
+/// Prints the lines for the stream that `input` gives, as they come: what a piece makes whole is written before the
+/// next is read. The stream may have `most` bytes, as many as the printer takes: of a longer one a byte more is read,
+/// and the answer is `Read`, as where a read failed.
 ///
 /// At a fault the sink has taken the first part of the text. What is held here in memory beside the printer is one
 /// piece, and the lines for it.

@@ -3,7 +3,7 @@ use Rattle.std.proofs.lemmas.Bool.{false≢true}
 use Rattle.std.proofs.lemmas.Option.{slice_get_within}
 use Rattle.patch_graph.specs.Found.{with_filters}
 use Rattle.patch_graph.specs.Index.{origins_of}
-use Rattle.patch_graph.proofs.Searched.{search-start, search-more, search-end, none-joined}
+use Rattle.patch_graph.proofs.Searched.{search-start, search-more, search-end, none-joined, none-onward}
 use Rattle.patch_graph.proofs.Chained.{reach_end}
 use Rattle.patch_graph.proofs.graph.PatchGraph.reaches.Goals as goal
 
@@ -13,6 +13,9 @@ returns-then-not-is_filter c =
 
 pub returns-then-is_empty : goal.returns-then-is_empty
 returns-then-is_empty c = (λ h. absurd (false≢true h), λ r. absurd (none-joined c.args.self.now c.args.from.now c.args.to.now c.origins.result.now (sym c.is_filter.ensures ∙ c.if-not-is_filter.false) c.origins.ensures (sym c.is_empty.ensures ∙ c.if-is_empty.true) r))
+
+pub returns-then-not-leads_on : goal.returns-then-not-leads_on
+returns-then-not-leads_on c = (λ h. absurd (false≢true h), λ r. absurd (none-onward c.args.self.now c.args.from.now c.args.to.now (sym c.leads_on.ensures ∙ c.if-not-leads_on.true) r))
 
 pub loop-node-init : goal.loop-node-init
 loop-node-init c =
