@@ -62,7 +62,7 @@ fn node_of(letter: u8, word: &[u8]) -> Option<Node>
 }
 
 /// The node that a word names, `128:p0` or `128:f0`.
-pub fn addr_of(word: &[u8]) -> Option<Addr>
+pub(crate) fn addr_of(word: &[u8]) -> Option<Addr>
     ensures { result ≡ says.addr word.now }
 {
     let (client, letter, number) = parts(word)?;

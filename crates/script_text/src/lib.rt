@@ -20,7 +20,6 @@ mod unread;
 mod word_kind;
 mod words;
 
-pub use address::addr_of;
 pub use laws::unreadable_lines_have_faults;
 pub use line_faults::{LineFault, line_fault};
 pub use line_slices::lines_of;
