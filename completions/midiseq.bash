@@ -23,7 +23,7 @@ _midiseq_word() {
 }
 
 _midiseq() {
-    local word sub previous subcommands='run record circle why thru wire dump'
+    local word sub previous subcommands='run record circle why live thru wire dump'
     word=$(_midiseq_word)
     sub=${COMP_WORDS[1]}
     previous=${COMP_WORDS[COMP_CWORD - 1]}
@@ -69,6 +69,9 @@ _midiseq() {
                 # Where bash does not cut words at =, the client stands before the path.
                 [[ $COMP_WORDBREAKS == *=* ]] || COMPREPLY=("${COMPREPLY[@]/#/${word%%=*}=}")
             fi
+            ;;
+        live)
+            mapfile -t COMPREPLY < <(compgen -W '--dir --help' -- "$word")
             ;;
         thru | wire)
             if [[ $word == -?* ]]; then

@@ -1,4 +1,4 @@
--- Definition: What the command line gives the subcommands that take scripts.
+-- Definition: What the command line gives the subcommands that run a sequencer.
 use Rattle.std.specs.Prelude.{◌≡◌, ◌≢◌, ℕ, Bool, true, false, ◌||◌, if◌then◌else◌, List, [], Some, None, codes, unwrap_or, MatchOption}
 use Rattle.std.specs.Option.{option_map}
 use Rattle.clap.specs.declared.parser.matches.Found.{Found}
@@ -29,6 +29,7 @@ use Rattle.program_tasks.specs.declared.recording.Recorded.TheVariants.{Stream, 
 use Rattle.program_tasks.specs.declared.recording.Recording.{Recording}
 use Rattle.program_tasks.specs.declared.run_answer.RunAnswer.{RunAnswer}
 use Rattle.program_tasks.specs.declared.session.Session.{Session}
+use Rattle.program_tasks.specs.Live.{AreLinesAnswered}
 use Rattle.program_tasks.specs.Subcommands.{IsRunPrinted, IsRunStreamed, IsRunExplained, IsCircleAnswered, IsWhyAnswered, IsRunRecorded}
 use Rattle.program_tasks.specs.Tasks.{IsDone}
 use Rattle.program_tasks.specs.Times.{end_said}
@@ -295,10 +296,10 @@ pub record ToolDoesAsGiven {R I W : Type 0} (IsOpened : List ℕ → R → Type 
   pub stream : IsNamedBy task.stream (unwrap_or (first_value found (codes "FILE")) (codes "-"))
   pub done : IsDone IsOpened HasLeft HasInput HasTaken task before after old new
 
--- the name is that of no subcommand that takes scripts
+-- the name is that of no subcommand that runs a sequencer
 abbrev pub IsOfTool : List ℕ → Type 0
 IsOfTool name = (name ≢ codes "circle") × (name ≢ codes "why") × (name ≢ codes "run")
-    × (name ≢ codes "record")
+    × (name ≢ codes "record") × (name ≢ codes "live")
 
 -- The program ends with an answer of which this holds.
 abbrev pub IfAnswered : Ended → (CircleAnswer → Type 0) → Type 0
@@ -306,7 +307,8 @@ IfAnswered (Answered answer) P = P answer
 IfAnswered _ P = ⊥
 
 -- What each subcommand does: circle prints and answers; why prints; run prints, or writes logs to a
--- folder, and record writes a file, where both may explain and judge; and each other is a tool's.
+-- folder, and record writes a file, where both may explain and judge; live answers the lines of
+-- standard input; and each other is a tool's.
 pub record DoesAsGiven {R V I W N : Type 0} (IsOpened : List ℕ → R → Type 0)
     (HasLeft : R → List ℕ → Type 0)
     (CannotOpen : List ℕ → Type 0) (failed : R → Bool) (IsStanding : List ℕ → Standing → Type 0)
@@ -330,6 +332,9 @@ pub record DoesAsGiven {R V I W N : Type 0} (IsOpened : List ℕ → R → Type 
   pub recorded : name ≡ codes "record" →
       RecordsAsGiven IsOpened HasLeft CannotOpen failed IsStanding HasNames IsBegun HasWritten
       IsStored HasTold found before after ended
+  pub answered_lines : name ≡ codes "live" →
+      AreLinesAnswered IsOpened HasLeft CannotOpen failed IsStanding HasNames HasInput HasTaken
+      HasTold (first_value found (codes "dir")) asked left old new before after × (ended ≡ Done)
   pub tool : IsOfTool name →
       ToolDoesAsGiven IsOpened HasLeft HasInput HasTaken name found asked left old new
       × (ended ≡ Done)

@@ -14,6 +14,7 @@ use Rattle.program_tasks.specs.LogFiles.{IsOfReadLog}
 use Rattle.program_tasks.specs.declared.recording.Recording.{Recording}
 use Rattle.program_tasks.specs.declared.session.Session.{Session}
 use Rattle.program_tasks.specs.Faults.{IsOfListing, IsOfScripts, IsOfOutput}
+use Rattle.program_tasks.specs.Live.{IsAnsweringStopped}
 use Rattle.program_tasks.specs.Subcommands.{IsTimeless, IsStreamingStopped, IsRecordingStopped}
 use Rattle.program_tasks.specs.Why.{IsOfQuestion}
 use Rattle.program_tasks.specs.declared.why_question.WhyQuestion.{WhyQuestion}
@@ -217,7 +218,7 @@ IsOfNoTool name NoSubcommand = (t : Tool) → tool_name t ≢ name
 IsOfNoTool name _ = ⊥
 
 -- Why each subcommand stops.
-pub record IsStoppedAsGiven {R V I N : Type 0} (IsOpened : List ℕ → R → Type 0)
+pub record IsStoppedAsGiven {R V I W N : Type 0} (IsOpened : List ℕ → R → Type 0)
     (HasLeft : R → List ℕ → Type 0)
     (CannotOpen CannotList : List ℕ → Type 0) (failed : R → Bool)
     (IsStanding : List ℕ → Standing → Type 0)
@@ -226,9 +227,9 @@ pub record IsStoppedAsGiven {R V I N : Type 0} (IsOpened : List ℕ → R → Ty
     (IsPlaced : List ℕ → Bool → V → Type 0) (HasWritten : V → List ℕ → Type 0)
     (writer_failed takes_some : V → Bool)
     (CannotBegin CannotStore CannotPlace : List ℕ → Type 0) (HasInput : I → List ℕ → Type 0)
-    (input_failed : I → Bool)
+    (input_failed : I → Bool) (HasTaken : W → List ℕ → Type 0)
     (stuck : Type 0) (HasTold : N → List ℕ → Type 0) (name : List ℕ) (found : Found)
-    (asked left : I)
+    (asked left : I) (old new : W)
     (before after : N) (fault : ProgramFault) : Type 0 where
   pub circled : name ≡ codes "circle" →
       IsOfSessionWords found fault
@@ -246,6 +247,11 @@ pub record IsStoppedAsGiven {R V I N : Type 0} (IsOpened : List ℕ → R → Ty
       ⊎ IsRecordStopped IsOpened HasLeft CannotOpen CannotList failed IsStanding HasNames AreOne
       IsBegun writer_failed takes_some
       CannotBegin CannotStore HasTold found before after e)) fault
+  pub answered_lines : name ≡ codes "live" →
+      IsOfListing CannotList (first_value found (codes "dir")) fault
+      ⊎ IsAnsweringStopped IsOpened HasLeft CannotOpen failed IsStanding HasNames HasInput
+      input_failed HasTaken stuck HasTold (first_value found (codes "dir")) asked left old new
+      before after fault
   pub tool : IsOfTool name →
       IsOfNoTool name fault
       ⊎ IsToolStopped IsOpened CannotOpen HasLeft failed HasInput input_failed stuck name found

@@ -1,10 +1,11 @@
 //! What the program does with its words.
 
-ghost use Rattle.std.specs.Prelude.{◌≡◌, ◌⊎◌, false, IfErr, IfOk, OnOk};
-ghost use Rattle.clap.specs.Matches.{found_of};
+ghost use Rattle.std.specs.Prelude.{◌≡◌, ◌⊎◌, false, codes, IfErr, IfOk, OnOk};
+ghost use Rattle.clap.specs.Matches.{first_value, found_of};
 ghost use Rattle.midiseq.specs.Given.{ToolDoesAsGiven, DoesAsGiven};
 ghost use Rattle.midiseq.specs.Refused.{IsOfNoTool, IsToolStopped, IsStoppedAsGiven};
-ghost use Rattle.program_tasks.specs.Faults.{IsStuck};
+ghost use Rattle.program_tasks.specs.Faults.{IsOfListing, IsStuck};
+ghost use Rattle.program_tasks.specs.Live.{AreLinesAnswered, IsAnsweringStopped};
 
 use crate::{reasons, sessions};
 use byte_io::{Sink, Source};
@@ -34,9 +35,9 @@ pub(crate) fn perform<'a, S: FileStore, I: Source, W: Sink, N: Notes, R: Eprint>
     ensures fault { IfErr result (IsStoppedAsGiven S.IsOpened S.Reader.HasLeft S.CannotOpen
         S.CannotList S.Reader.failed S.IsStanding S.HasNames S.AreOne S.IsBegun S.IsPlaced
         S.Writer.HasTaken S.Writer.failed S.Writer.takes_some S.CannotBegin S.CannotStore
-        S.CannotPlace I.HasLeft I.failed
+        S.CannotPlace I.HasLeft I.failed W.HasTaken
         (IsStuck W.failed W.takes_some out.old out.new) N.HasTold
-        name.now (found_of found.now) input.old input.new notes.old notes.new) }
+        name.now (found_of found.now) input.old input.new out.old out.new notes.old notes.new) }
 {
     match name {
         "circle" => {
@@ -47,6 +48,10 @@ pub(crate) fn perform<'a, S: FileStore, I: Source, W: Sink, N: Notes, R: Eprint>
             sessions::why(alloc, store, found, out, notes)?;
             Ok(Ended::Done)
         }
+        "live" => {
+            answer_lines(alloc, store, found, input, out, notes)?;
+            Ok(Ended::Done)
+        }
         "run" => reasons::run(alloc, store, found, out, notes, progress),
         "record" => reasons::record(alloc, store, found, notes),
         _ => {
@@ -54,6 +59,31 @@ pub(crate) fn perform<'a, S: FileStore, I: Source, W: Sink, N: Notes, R: Eprint>
             Ok(Ended::Done)
         }
     }
+}
+
+/// Answers the lines of standard input as they come. Clients may play the files of the folder of --dir.
+fn answer_lines<'a, S: FileStore, I: Source, W: Sink, N: Notes>(
+    alloc: Global,
+    store: &S,
+    found: &ArgMatches<'a>,
+    input: &mut I,
+    out: &mut W,
+    notes: &mut N,
+) -> Result<(), ProgramFault<'a>>
+    requires input_sound { I.failed input.old ≡ false }
+    requires out_sound { W.failed out.old ≡ false }
+    ensures answered { OnOk result (AreLinesAnswered S.IsOpened S.Reader.HasLeft S.CannotOpen
+        S.Reader.failed S.IsStanding S.HasNames I.HasLeft W.HasTaken N.HasTold
+        (first_value (found_of found.now) (codes "dir")) input.old input.new out.old out.new
+        notes.old notes.new) }
+    ensures fault { IfErr result (λ e.
+        IsOfListing S.CannotList (first_value (found_of found.now) (codes "dir")) e
+        ⊎ IsAnsweringStopped S.IsOpened S.Reader.HasLeft S.CannotOpen S.Reader.failed S.IsStanding
+        S.HasNames I.HasLeft I.failed W.HasTaken (IsStuck W.failed W.takes_some out.old out.new)
+        N.HasTold (first_value (found_of found.now) (codes "dir")) input.old input.new
+        out.old out.new notes.old notes.new e) }
+{
+    program_tasks::live(alloc, store, found.get_str("dir"), input, out, notes)
 }
 
 /// Does what a tool's subcommand says: on the stream that the word FILE names, and without one on standard input.

@@ -7,10 +7,11 @@ const VERSION: &str = "0.1.0";
 
 const EXAMPLES: &str = "\
 run, record, circle and why take a script for each client: a command a line,
-each with its moment in nanoseconds. thru and wire take raw MIDI bytes, as they
-come from a cable; dump takes a Standard MIDI File (.mid). FILE may be - for
-standard input. `midiseq` alone does `thru -`: it waits for MIDI bytes on
-standard input.
+each with its moment in nanoseconds. live takes such lines, each with its
+client, on standard input, and answers each at once. thru and wire take raw MIDI
+bytes, as they come from a cable; dump takes a Standard MIDI File (.mid). FILE
+may be - for standard input. `midiseq` alone does `thru -`: it waits for MIDI
+bytes on standard input.
 
 Examples:
   printf '\\x90\\x3C\\x40' | midiseq thru -
@@ -35,6 +36,8 @@ Examples:
   midiseq why --from 128:p0 --at 5 --message \"90 24 64\" 128=keys.txt \\
       129=synth.txt
       prints where this note would arrive, be lost, or be stopped, and by what
+  printf '0 128 open keys 100 100\\n0 128 client\\n' | midiseq live
+      answers each line: `128 0 line 1 ok`, `next never`, and so on
 
 Status:
   0  done, or help or the version was asked for
@@ -232,6 +235,48 @@ Examples, with these lines in keys.txt and synth.txt:
   midiseq why --log keys.txt:4 128=keys.txt 129=synth.txt
       prints what is wrong with line 4 of keys.txt";
 
+const LIVE_HELP: &str = "\
+A sequencer that runs for as long as its input is open. Each line that is read
+is answered at once, before more is read: so a program that has devices and a
+clock can let clients play together, as examples/bridge/bridge does. No clock
+runs here: what a line says is the time, and all that is due by then is sent
+first.
+
+The lines:
+  MOMENT CLIENT COMMAND ..
+      what a client says, as a line of its script with the client behind the
+      moment: `5000 129 connect 128:p0 129:p0`
+  MOMENT
+      time passes up to this moment in nanoseconds
+  list
+      asks for clients, ports, filters, queues and subscriptions
+
+The answer to each is a few lines, in this order:
+  CLIENT MOMENT port P HEX
+      for each message that comes to a port P of CLIENT
+  CLIENT MOMENT line LINE ..
+      `ok` or `refused NUMBER NAME`, as in the log of a run; LINE counts the
+      lines of this client alone
+  CLIENT skip LINE WHY, or skip LINE WHY where no client can be told
+      for a line of which nothing is done: it is `unreadable`, its moment is
+      before that of an earlier line (`late`), or it is `too-long`
+  list ..
+      for a line of the listing
+  next MOMENT, or next never
+      always last: when something is due next. Who has the clock waits until
+      then, or until something comes in, and says so by a line
+
+A line has at most 262,144 bytes. What stands behind the last line feed is no
+line. The end of the input ends the program.
+
+The files in D are those that `midiseq run --dir D` takes.
+
+Example:
+  printf '0 128 open a 9 9\\n0 128 port 0 out 99\\n0 128 port 1 in 99\\n\
+0 128 connect 128:p0 128:p1\\n5 128 send 0 90 3C 40\\n' | midiseq live
+      prints `128 0 line 1 ok`, `next never`, .. and for the last line
+      `128 5 port 1 90 3C 40`, `128 5 line 5 ok` and `next never`";
+
 /// The program's subcommands with their words.
 pub(crate) fn command<'a>(alloc: Global) -> Result<Command<'a>, AllocError> {
     let program = Command::new(alloc, "midiseq")
@@ -242,6 +287,7 @@ pub(crate) fn command<'a>(alloc: Global) -> Result<Command<'a>, AllocError> {
     let program = with(program, record(alloc))?;
     let program = with(program, circle(alloc))?;
     let program = with(program, why(alloc))?;
+    let program = with(program, live(alloc))?;
     let program = with(program, thru(alloc))?;
     let program = with(program, wire(alloc))?;
     with(program, dump(alloc))
@@ -317,6 +363,13 @@ fn why<'a>(alloc: Global) -> Result<Command<'a>, AllocError> {
         .arg(log(alloc)?)?
         .arg(dir(alloc))?
         .arg(scripts(alloc))
+}
+
+fn live<'a>(alloc: Global) -> Result<Command<'a>, AllocError> {
+    Command::new(alloc, "live")
+        .about("Answers what clients say while it runs, line by line")
+        .after_help(LIVE_HELP)
+        .arg(dir(alloc))
 }
 
 fn until<'a>(alloc: Global) -> Result<Arg<'a>, AllocError> {

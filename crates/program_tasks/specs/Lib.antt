@@ -22,3 +22,4 @@ pub mod Why
 pub mod LogFiles
 pub mod Tasks
 pub mod Subcommands
+pub mod Live

@@ -1,4 +1,5 @@
-//! The subcommands that take scripts: the session's folder and its scripts read, and what is printed or written.
+//! The subcommands over a session: its folder and its scripts read, or its lines as they come, and what is printed or
+//! written.
 
 ghost use Rattle.std.specs.Prelude.{◌≡◌, ◌⊎◌, false, IfErr, IfOk, OnOk};
 ghost use Rattle.std.specs.Option.{option_map};
@@ -6,6 +7,7 @@ ghost use Rattle.seq_session.specs.Rising.{AreRising};
 ghost use Rattle.byte_io.specs.Moved.{Took};
 ghost use Rattle.program_tasks.specs.Explained.{told_where};
 ghost use Rattle.program_tasks.specs.Faults.{IsOfListing, IsOfScripts, IsOfOutput, IsStuck};
+ghost use Rattle.program_tasks.specs.Live.{AreLinesAnswered, IsAnsweringStopped};
 ghost use Rattle.program_tasks.specs.LogFiles.{IsOfReadLog};
 ghost use Rattle.program_tasks.specs.Sessions.{owners};
 ghost use Rattle.program_tasks.specs.Subcommands.{IsRunPrinted, IsRunStreamed, IsStreamingStopped, IsRunExplained, IsCircleAnswered, IsTimeless, IsWhyAnswered, IsRunRecorded, IsRecordingStopped};
@@ -13,6 +15,7 @@ ghost use Rattle.program_tasks.specs.Why.{IsOfQuestion};
 
 use crate::answer::CircleAnswer;
 use crate::answering::print_circle;
+use crate::choice::Stream;
 use crate::explaining::explain_session;
 use crate::explanation::Explanation;
 use crate::folder::{Folder, named};
@@ -28,9 +31,10 @@ use crate::session::Session;
 use crate::streaming::stream_session;
 use crate::why_answer::print_why;
 use crate::why_question::WhyQuestion;
-use byte_io::Sink;
+use byte_io::{Sink, Source};
 use file_store::FileStore;
 use seq_session::Progress;
+use session_live::live_text;
 use std::alloc::Global;
 
 /// Runs the scripts of a session, and prints each client's log in a form and, where asked for, the listing at the
@@ -184,6 +188,39 @@ pub fn why<'a, S: FileStore, W: Sink, N: Notes>(
     let folder = Folder::read(alloc, store, session.dir)?;
     let opened = folder.open(alloc, false, notes)?;
     print_why(alloc, store, session, &named(&opened), question, out)
+}
+
+/// Answers the lines that `input` gives, each as soon as it was read, as `live_text` does. Clients may play the files of
+/// the folder.
+///
+/// Tells first which files of the folder are left out.
+pub fn live<'a, S: FileStore, I: Source, W: Sink, N: Notes>(
+    alloc: Global,
+    store: &S,
+    dir: Option<&'a str>,
+    input: &mut I,
+    out: &mut W,
+    notes: &mut N,
+) -> Result<(), ProgramFault<'a>>
+    requires input_sound { I.failed input.old ≡ false }
+    requires out_sound { W.failed out.old ≡ false }
+    ensures answered { OnOk result (AreLinesAnswered S.IsOpened S.Reader.HasLeft S.CannotOpen
+        S.Reader.failed S.IsStanding S.HasNames I.HasLeft W.HasTaken N.HasTold
+        (option_map (λ d. d.now) dir.entry) input.old input.new out.old out.new
+        notes.old notes.new) }
+    ensures fault { IfErr result (λ e.
+        IsOfListing S.CannotList (option_map (λ d. d.now) dir.entry) e
+        ⊎ IsAnsweringStopped S.IsOpened S.Reader.HasLeft S.CannotOpen S.Reader.failed S.IsStanding
+        S.HasNames I.HasLeft I.failed W.HasTaken (IsStuck W.failed W.takes_some out.old out.new)
+        N.HasTold (option_map (λ d. d.now) dir.entry) input.old input.new out.old out.new
+        notes.old notes.new e) }
+{
+    let folder = Folder::read(alloc, store, dir)?;
+    let opened = folder.open(alloc, false, notes)?;
+    match live_text(alloc, named(&opened), input, out) {
+        Ok(()) => Ok(()),
+        Err(fault) => Err(ProgramFault::of_tool(Stream::Standard, fault)),
+    }
 }
 
 /// Runs the scripts of a session, and writes what is recorded of it to a file, once all else is done, as
