@@ -18,5 +18,5 @@ pub use file::SmfFile;
 pub use memory::OutOfMemory;
 pub use smf_grammar::{Event, EventBytes, PairBytes, QuantityFault, SmfFault, quantity};
 pub use tempo_clock::{TempoEntry, TempoMap};
-pub use tracks::write_tracks;
-pub use write::{stands_in_files, write_format0};
+pub use tracks::{push_event, write_tracks};
+pub use write::{push_chunk_header, push_quantity, push_u16, stands_in_files, write_format0};

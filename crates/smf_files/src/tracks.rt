@@ -225,8 +225,8 @@ fn push_sized(bytes: &[u8], out: &mut Vec<u8>) -> Result<(), OutOfMemory>
     Ok(())
 }
 
-/// Adds an event where this is the running status.
-fn push_event(
+/// Adds an event as it stands in a track where this is the running status.
+pub fn push_event(
     running: Option<u8>,
     event: &EventBytes<'_>,
     out: &mut Vec<u8>,

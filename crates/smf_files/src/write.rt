@@ -108,7 +108,7 @@ fn events_size(events: &[Event]) -> Option<usize>
 
 /// Adds the shortest spelling of a quantity.
 #[tactic(auto, unfolding(smf_grammar::specs::Texts::shortest))]
-pub(crate) fn push_quantity(value: u32, out: &mut Vec<u8>) -> Result<(), OutOfMemory>
+pub fn push_quantity(value: u32, out: &mut Vec<u8>) -> Result<(), OutOfMemory>
     requires { value < 2 ^ 28 }
     ensures { OnOk result (out.new.items ≡ out.old.items ++ shortest value) }
 {
@@ -170,11 +170,7 @@ fn push_events(alloc: Global, events: &[Event], out: &mut Vec<u8>) -> Result<(),
 }
 
 /// Adds the type and the length of a chunk.
-pub(crate) fn push_chunk_header(
-    kind: &[u8],
-    size: u32,
-    out: &mut Vec<u8>,
-) -> Result<(), OutOfMemory>
+pub fn push_chunk_header(kind: &[u8], size: u32, out: &mut Vec<u8>) -> Result<(), OutOfMemory>
     ensures { OnOk result (out.new.items ≡ out.old.items ++ kind.now ++ big_bytes 4 size) }
 {
     let mut length = [0; 4];
@@ -185,7 +181,7 @@ pub(crate) fn push_chunk_header(
 }
 
 /// Adds a number of two bytes.
-pub(crate) fn push_u16(value: u16, out: &mut Vec<u8>) -> Result<(), OutOfMemory>
+pub fn push_u16(value: u16, out: &mut Vec<u8>) -> Result<(), OutOfMemory>
     ensures { OnOk result (out.new.items ≡ out.old.items ++ big_bytes 2 value) }
 {
     let mut bytes = [0; 2];
