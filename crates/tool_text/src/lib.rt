@@ -13,6 +13,6 @@ mod wire;
 pub use dump::dump_text;
 pub use fault::ToolFault;
 pub use laws::{thru_prints_messages, worked_texts};
-pub use printing::{Printer, print_stream, send};
+pub use printing::{Printer, flush, print_stream, send, spill};
 pub use thru::thru_text;
 pub use wire::wire_text;

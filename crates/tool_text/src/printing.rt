@@ -117,7 +117,7 @@ pub fn send<W: Sink>(out: &mut W, text: &[u8]) -> Result<(), ToolFault>
 
 /// Writes the text that was gathered once it is long enough.
 #[inline(always)]
-pub(crate) fn spill<W: Sink>(text: &mut Vec<u8>, out: &mut W) -> Result<(), ToolFault>
+pub fn spill<W: Sink>(text: &mut Vec<u8>, out: &mut W) -> Result<(), ToolFault>
     requires { W.failed out.old ≡ false }
     ensures sent { OnOk result
         (IsGathered W.HasTaken out.old out.new text.new.items [] text.old.items) }
@@ -132,7 +132,7 @@ pub(crate) fn spill<W: Sink>(text: &mut Vec<u8>, out: &mut W) -> Result<(), Tool
 }
 
 /// Writes the text that was gathered.
-pub(crate) fn flush<W: Sink>(text: &mut Vec<u8>, out: &mut W) -> Result<(), ToolFault>
+pub fn flush<W: Sink>(text: &mut Vec<u8>, out: &mut W) -> Result<(), ToolFault>
     requires { W.failed out.old ≡ false }
     ensures sent { OnOk result (Took W.HasTaken out.old text.old.items out.new) }
     ensures empty { OnOk result (text.new.items ≡ []) }
