@@ -7,6 +7,7 @@ mod failing_devices;
 mod faults;
 mod grids;
 mod left_out;
+mod live;
 mod log_files;
 mod recording;
 mod refusals;

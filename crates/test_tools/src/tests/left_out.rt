@@ -17,14 +17,14 @@ use std::process::Abort;
 use std::test::Fail;
 
 /// What stands under each name of a folder: a file with these bytes, or what can't be read.
-type Entry = (&'static str, Result<&'static [u8], Standing>);
+pub(super) type Entry = (&'static str, Result<&'static [u8], Standing>);
 
 /// A folder in memory, and how often a file with the name `a.mid` stands in it beside.
 #[derive(Drop)]
-struct MemFolder {
-    alloc: Global,
-    entries: &'static [Entry],
-    times: u32,
+pub(super) struct MemFolder {
+    pub(super) alloc: Global,
+    pub(super) entries: &'static [Entry],
+    pub(super) times: u32,
 }
 
 /// The name that the folder has beside the others.
@@ -139,9 +139,9 @@ fn push_name(alloc: Global, names: &mut Vec<String>, name: &str) -> Result<(), D
 
 /// Keeps the lines that it is told.
 #[derive(Drop)]
-struct Kept {
+pub(super) struct Kept {
     alloc: Global,
-    text: String,
+    pub(super) text: String,
 }
 
 impl Kept {
@@ -160,7 +160,7 @@ impl Notes for Kept {
     }
 }
 
-fn notes(alloc: Global) -> Kept {
+pub(super) fn notes(alloc: Global) -> Kept {
     let text = String::new(alloc);
     Kept { alloc, text }
 }
