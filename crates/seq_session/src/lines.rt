@@ -68,57 +68,53 @@ pub(crate) fn push_skips(text: &mut Vec<u8>, skips: &[Skip]) -> Result<(), OutOf
     Ok(())
 }
 
-/// Adds the word and the number of a port, which has at most two digits: in one copy, for the sake of long logs.
-#[inline(always)]
-fn push_port(text: &mut Vec<u8>, port: PortNo) -> Result<(), OutOfMemory>
-    ensures { OnOk result (text.new.items ≡ text.old.items ++ codes " port " ++ decimal port) }
-{
-    let number = port.number();
-    if number < 10 {
-        text.extend_from_slice(&[b' ', b'p', b'o', b'r', b't', b' ', b'0' + number])?;
-    } else {
-        let last = b'0' + number % 10;
-        text.extend_from_slice(&[b' ', b'p', b'o', b'r', b't', b' ', b'1', last])?;
-    }
-    Ok(())
-}
-
-/// Adds a message as it came to a port.
-// Most messages are short: their bytes go to the line at once, and their number is known where they do.
+/// Adds the line of a message that came to a port at a moment.
+// Most messages are short, and their number of bytes is known here.
 #[inline(always)]
 fn push_came(
     text: &mut Vec<u8>,
     scratch: &mut Scratch,
+    moment: u64,
     port: PortNo,
     message: &Message,
 ) -> Result<(), OutOfMemory>
-    ensures { OnOk result (text.new.items ≡ text.old.items ++ arrival_text port message.now) }
+    ensures { OnOk result (text.new.items
+        ≡ text.old.items ++ decimal moment ++ arrival_text port message.now) }
 {
-    push_port(text, port)?;
     match message.full_bytes() {
         FullBytes::Short(ShortMessage::Three(status, first, second)) => {
-            push_spaced_line(text, &[status, first, second])
+            scratch
+                .moment
+                .push_line(text, moment, port, &[status, first, second])
         }
         FullBytes::Short(ShortMessage::Two(status, first)) => {
-            push_spaced_line(text, &[status, first])
+            scratch
+                .moment
+                .push_line(text, moment, port, &[status, first])
         }
-        FullBytes::Short(ShortMessage::One(status)) => push_spaced_line(text, &[status]),
-        FullBytes::Exclusive(_) => push_long(text, scratch, message),
+        FullBytes::Short(ShortMessage::One(status)) => {
+            scratch.moment.push_line(text, moment, port, &[status])
+        }
+        FullBytes::Exclusive(_) => push_long(text, scratch, moment, port, message),
     }
 }
 
-/// Adds the bytes of a message and the end of the line.
+/// The same of a long message.
 #[inline(never)]
 fn push_long(
     text: &mut Vec<u8>,
     scratch: &mut Scratch,
+    moment: u64,
+    port: PortNo,
     message: &Message,
 ) -> Result<(), OutOfMemory>
-    ensures { OnOk result
-        (text.new.items ≡ text.old.items ++ spaced_hex message.now ++ codes "\n") }
+    ensures { OnOk result (text.new.items
+        ≡ text.old.items ++ decimal moment ++ arrival_text port message.now) }
 {
     scratch.bytes.clear();
     message.append_to(&mut scratch.bytes)?;
+    scratch.moment.push(text, moment)?;
+    push_word_and_number(text, b" port ", u64::from(port.number()))?;
     push_spaced_line(text, scratch.bytes.as_slice())
 }
 
@@ -131,16 +127,26 @@ pub fn push_delivery(
 ) -> Result<(), OutOfMemory>
     ensures { OnOk result (text.new.items ≡ text.old.items ++ delivery_line delivery.now) }
 {
-    scratch.moment.push(text, delivery.moment)?;
-    push_came(text, scratch, delivery.target.port, &delivery.message)
+    push_came(
+        text,
+        scratch,
+        delivery.moment,
+        delivery.target.port,
+        &delivery.message,
+    )
 }
 
 fn push_got(text: &mut Vec<u8>, scratch: &mut Scratch, arrival: &Arrival) -> Result<(), OutOfMemory>
     ensures { OnOk result (text.new.items ≡ text.old.items ++ got_line arrival.now) }
 {
     text.extend_from_slice(b"got ")?;
-    scratch.moment.push(text, arrival.moment)?;
-    push_came(text, scratch, arrival.port, &arrival.message)
+    push_came(
+        text,
+        scratch,
+        arrival.moment,
+        arrival.port,
+        &arrival.message,
+    )
 }
 
 fn push_gots(

@@ -199,7 +199,7 @@ pub fn overwrite_spaced_line(text: &mut Vec<u8>, at: usize, bytes: &[u8])
 
 /// Writes bytes over others, from `at` on.
 #[inline(always)]
-fn overwrite(text: &mut Vec<u8>, at: usize, bytes: &[u8])
+pub fn overwrite(text: &mut Vec<u8>, at: usize, bytes: &[u8])
     requires { at + length bytes.now ≤ vec_len text.old }
     ensures written { take (at + length bytes.now) text.new.items
         ≡ take at text.old.items ++ bytes.now }
