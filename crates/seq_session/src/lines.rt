@@ -4,7 +4,6 @@ ghost use Rattle.std.specs.Prelude.{◌≡◌, ◌++◌, Some, OnOk, codes, slic
 ghost use Rattle.std.specs.Fmt.{decimal};
 ghost use Rattle.std.specs.List.{flat_map};
 ghost use Rattle.script_text.specs.Reasons.{reason_text};
-ghost use Rattle.text_forms.specs.Hex.{spaced_hex};
 ghost use Rattle.seq_session.specs.Logs.{skip_line, skips_text, arrival_text, delivery_line, got_line, name_numbered, outcome, below, reply_text, entry_text};
 
 use crate::moment::MomentText;
