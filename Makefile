@@ -40,6 +40,7 @@ check: build
 	test/refused-calls $(PROGRAM)
 	test/refused-memory
 	test/progress $(PROGRAM)
+	test/bridge $(PROGRAM)
 	test/hostile --program $(PROGRAM)
 	test/random-nets $(PROGRAM)
 	test/random-circles --count 1000 $(PROGRAM)
