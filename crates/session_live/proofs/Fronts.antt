@@ -1,11 +1,12 @@
 -- What stands in the text for a client.
-use Rattle.std.proofs.Common.{◌≡◌, ℕ, ◌<◌, Bool, true, false, not, cond, eqb, List, [], ◌∷◌, ◌++◌, map, length, take, drop, Option, Some, None, refl, sym, ap, ◌∙◌, arith, append-nil, append_assoc}
+use Rattle.std.proofs.Common.{◌≡◌, ℕ, ◌+◌, ◌/◌, ◌%◌, ◌<◌, ◌≤◌, Bool, true, false, not, cond, eqb, List, [], ◌∷◌, ◌++◌, map, length, take, drop, Option, Some, None, refl, sym, ap, ◌∙◌, arith, append-nil, append_assoc}
 use Rattle.std.specs.Prelude.{codes}
 use Rattle.std.specs.Fmt.{decimal}
 use Rattle.std.specs.List.{flat_map, list_all, onto_first}
 use Rattle.std.specs.Str.{bytes_eq}
 use Rattle.std.proofs.Math.Seq.{take-append_seam, drop-append_seam}
 use Rattle.std.proofs.lemmas.Bool.{false≢true, eqb-true, eqb-false}
+use Rattle.std.proofs.lemmas.Fmt.{decimal_digit, decimal_step}
 use Rattle.std.proofs.lemmas.List.{take-append-drop}
 use Rattle.std.proofs.lemmas.List.Splits.{slice_split-cons_yes, slice_split-cons_no, length-slice_split}
 use Rattle.std.proofs.lemmas.Slice.Eq.{bytes_eq-Decides}
@@ -171,12 +172,15 @@ text-whole t h =
 one-line : (t l : List ℕ) → t ≡ l ++ codes "\n" → is_line l ≡ true → IsText t
 one-line t l e h = record { parts = l ∷ []; is = e ∙ sym (append-nil (l ++ codes "\n")); whole = and_both (is_line l) true h refl }
 
+delivery-is-line : (d : Delivery) → is_line (decimal d.moment ++ (codes " port " ++ (decimal d.target.port ++ spaced_hex d.message))) ≡ true
+delivery-is-line d =
+    line-append (decimal d.moment) (codes " port " ++ (decimal d.target.port ++ spaced_hex d.message)) (line-number d.moment)
+    (line-append (decimal d.target.port) (spaced_hex d.message) (line-number d.target.port) (line-spaced d.message))
+
 pub delivery-text : (d : Delivery) → IsText (delivery_line d)
 delivery-text d =
     let l : List ℕ = decimal d.moment ++ (codes " port " ++ (decimal d.target.port ++ spaced_hex d.message)) in
-    one-line (delivery_line d) l (simp append_assoc)
-    (line-append (decimal d.moment) (codes " port " ++ (decimal d.target.port ++ spaced_hex d.message)) (line-number d.moment)
-    (line-append (decimal d.target.port) (spaced_hex d.message) (line-number d.target.port) (line-spaced d.message)))
+    one-line (delivery_line d) l (simp append_assoc) (delivery-is-line d)
 
 pub skip-text : (s : Skip) → IsText (skip_line s)
 skip-text s =
@@ -213,12 +217,50 @@ below-text (Queue running tick nanos) = no-text
 below-text (Pools waiting lost used) = no-text
 below-text (Refused n) = no-text
 
+reply-is-line : (moment n : ℕ) (reply : Reply) → is_line (reply_front moment n ++ outcome reply) ≡ true
+reply-is-line moment n reply =
+    line-append (reply_front moment n) (outcome reply) (line-append (decimal moment ++ codes " line ") (decimal n) (line-append (decimal moment) (codes " line ") (line-number moment) refl) (line-number n)) (line-outcome reply)
+
 pub reply-text : (moment n : ℕ) (reply : Reply) → IsText (reply_text moment (Some n) reply)
 reply-text moment n reply =
     both-texts (reply_front moment n ++ outcome reply ++ codes "\n") (below reply)
-    (one-line (reply_front moment n ++ outcome reply ++ codes "\n") (reply_front moment n ++ outcome reply) refl
-    (line-append (reply_front moment n) (outcome reply) (line-append (decimal moment ++ codes " line ") (decimal n) (line-append (decimal moment) (codes " line ") (line-number moment) refl) (line-number n)) (line-outcome reply)))
+    (one-line (reply_front moment n ++ outcome reply ++ codes "\n") (reply_front moment n ++ outcome reply) refl (reply-is-line moment n reply))
     (below-text reply)
+
+-- ---- a line with its front
+
+-- the number of a client has three digits
+pub three_digits : (n : ℕ) → 128 ≤ n → n ≤ 191 → (49 ∷ (48 + n / 10 % 10) ∷ (48 + n % 10) ∷ 32 ∷ []) ≡ decimal n ++ codes " "
+three_digits n l h =
+    let one : n / 10 / 10 ≡ 1 = omega arith in
+    sym (ap (λ t. t ++ codes " ") (decimal_step n (omega arith) (omega arith)
+    ∙ ap (λ t. t ++ (48 + n % 10) ∷ []) (decimal_step (n / 10) (omega arith) (omega arith)
+    ∙ ap (λ t. t ++ (48 + n / 10 % 10) ∷ []) (decimal_digit (n / 10 / 10) (omega arith) ∙ ap (λ k. (48 + k) ∷ []) one))))
+
+one-fronted : (front t l : List ℕ) → t ≡ l ++ codes "\n" → is_line l ≡ true → fronted front t ≡ front ++ t
+one-fronted front t l e h =
+    ap (fronted front) e
+    ∙ ap (flat_map (λ m. front ++ m ++ codes "\n")) (whole-cons l [] h)
+    ∙ append-nil (front ++ l ++ codes "\n")
+    ∙ append_assoc front l (codes "\n")
+    ∙ ap (λ u. front ++ u) (sym e)
+
+-- what was added behind the front of a client
+pub behind-front : (client : ℕ) (old t text line added : List ℕ) → t ≡ old ++ decimal client ++ codes " " → text ≡ t ++ line → added ≡ (decimal client ++ codes " ") ++ line → text ≡ old ++ added
+behind-front client old t text line added front told is =
+    let whole : old ++ decimal client ++ codes " " ++ line ≡ old ++ ((decimal client ++ codes " ") ++ line) = simp append_assoc in
+    told ∙ ap (λ u. u ++ line) front ∙ whole ∙ ap (λ u. old ++ u) (sym is)
+
+pub delivery-fronted : (front : List ℕ) (d : Delivery) → fronted front (delivery_line d) ≡ front ++ delivery_line d
+delivery-fronted front d =
+    let l : List ℕ = decimal d.moment ++ (codes " port " ++ (decimal d.target.port ++ spaced_hex d.message)) in
+    one-fronted front (delivery_line d) l (simp append_assoc) (delivery-is-line d)
+
+pub reply-fronted : (front : List ℕ) (moment n : ℕ) (reply : Reply) → below reply ≡ [] → fronted front (reply_text moment (Some n) reply) ≡ front ++ reply_text moment (Some n) reply
+reply-fronted front moment n reply e =
+    one-fronted front (reply_text moment (Some n) reply) (reply_front moment n ++ outcome reply)
+    (ap (λ u. reply_front moment n ++ outcome reply ++ codes "\n" ++ u) e ∙ append-nil (reply_front moment n ++ outcome reply ++ codes "\n"))
+    (reply-is-line moment n reply)
 
 -- ---- parts
 

@@ -1,7 +1,8 @@
 //! The parts of answers, as text.
 
-ghost use Rattle.std.specs.Prelude.{◌≡◌, ◌++◌, Some, map, OnOk};
-ghost use Rattle.seq_session.specs.Logs.{reply_text};
+ghost use Rattle.std.specs.Prelude.{◌≡◌, ◌++◌, [], false, Some, map, codes, OnOk};
+ghost use Rattle.std.specs.Fmt.{decimal};
+ghost use Rattle.seq_session.specs.Logs.{below, reply_text};
 ghost use Rattle.session_live.specs.Answers.{fronted, to_client, part_text, parts_text};
 ghost use Rattle.session_live.specs.Answers as part;
 
@@ -18,10 +19,8 @@ use text_forms::push_decimal;
 #[derive(Drop)]
 pub(crate) struct Writer {
     scratch: Scratch,
-    /// The lines that a log would have, before each gets its front.
+    /// Lines that a log would have, before each gets its front.
     lines: Vec<u8>,
-    /// The number of a client, as it stands before its lines.
-    front: Vec<u8>,
 }
 
 impl Writer {
@@ -29,7 +28,6 @@ impl Writer {
         Writer {
             scratch: Scratch::new(alloc),
             lines: Vec::new(alloc),
-            front: Vec::new(alloc),
         }
     }
 
@@ -43,11 +41,18 @@ impl Writer {
             ≡ text.old.items ++ parts_text (map part.Comes delivered.now)) }
     {
         for delivery in delivered {
-            self.lines.clear();
-            push_delivery(&mut self.lines, &mut self.scratch, delivery)?;
-            self.push_lines(text, delivery.target.client)?;
+            self.push_come(text, delivery)?;
         }
         Ok(())
+    }
+
+    /// Adds the line of a delivery.
+    fn push_come(&mut self, text: &mut Vec<u8>, delivery: &Delivery) -> Result<(), OutOfMemory>
+        ensures { OnOk result
+            (text.new.items ≡ text.old.items ++ part_text (part.Comes delivery.now)) }
+    {
+        push_front(text, delivery.target.client)?;
+        push_delivery(text, &mut self.scratch, delivery)
     }
 
     /// Adds the lines of a reply to a client, at a moment in nanoseconds.
@@ -62,9 +67,13 @@ impl Writer {
         ensures { OnOk result (text.new.items ≡ text.old.items
             ++ to_client client (reply_text moment (Some number) reply.now)) }
     {
-        self.lines.clear();
-        push_reply(&mut self.lines, &mut self.scratch, moment, number, reply)?;
-        self.push_lines(text, client)
+        if has_more_below(reply) {
+            self.lines.clear();
+            push_reply(&mut self.lines, &mut self.scratch, moment, number, reply)?;
+            return self.push_lines(text, client);
+        }
+        push_front(text, client)?;
+        push_reply(text, &mut self.scratch, moment, number, reply)
     }
 
     /// Adds the line of a skipped line.
@@ -92,11 +101,34 @@ impl Writer {
         ensures { OnOk result
             (text.new.items ≡ text.old.items ++ to_client client self.old.lines.items) }
     {
-        self.front.clear();
-        push_decimal(&mut self.front, u64::from(client.number()))?;
-        self.front.push(b' ')?;
-        push_fronted(text, self.front.as_slice(), self.lines.as_slice())
+        let front = front_of(client);
+        push_fronted(text, &front, self.lines.as_slice())
     }
+}
+
+/// Whether the reply may have lines below its own.
+fn has_more_below(reply: &Reply) -> bool
+    ensures { result ≡ false → below reply.now ≡ [] }
+{
+    matches!(reply, Reply::Received(_))
+}
+
+/// The number of a client, which has three digits, as it stands before its lines.
+#[inline(always)]
+fn front_of(client: ClientId) -> [u8; 4]
+    ensures { result ≡ decimal client ++ codes " " }
+{
+    let number = client.number();
+    [b'1', b'0' + number / 10 % 10, b'0' + number % 10, b' ']
+}
+
+/// Adds the number of a client, as it stands before its lines.
+#[inline(always)]
+fn push_front(text: &mut Vec<u8>, client: ClientId) -> Result<(), OutOfMemory>
+    ensures { OnOk result (text.new.items ≡ text.old.items ++ decimal client ++ codes " ") }
+{
+    text.extend_from_slice(&front_of(client))?;
+    Ok(())
 }
 
 /// Adds each line of a text, with some bytes before it. What stands behind the last line feed is no line.
