@@ -1,0 +1,37 @@
+-- Definition: That all which a Standard MIDI File says was printed, or a part of it.
+use Rattle.std.specs.Prelude.{◌≤◌, ◌⊎◌, ℕ, List, [], length}
+use Rattle.byte_io.specs.Moved.{Gave, Took}
+use Rattle.smf_grammar.specs.Chunks.{most_bytes}
+use Rattle.smf_grammar.specs.Files.{MidiFile, IsFile}
+use Rattle.tool_text.specs.Gathered.{TookFirst}
+use Rattle.smf_text.specs.AllTexts.{all_text}
+
+-- A source was read to its end, what it gave is a file, and a sink took all that the file says.
+pub record IsAllDumped {R W : Type 0} (HasLeft : R → List ℕ → Type 0)
+    (HasTaken : W → List ℕ → Type 0)
+    (before after : R) (old new : W) : Type 0 where
+  pub read : List ℕ
+  pub gave : Gave HasLeft before read after
+  pub ended : HasLeft after []
+  pub bounded : length read ≤ most_bytes
+  pub f : MidiFile
+  pub file : IsFile read f
+  pub took : Took HasTaken old (all_text f) new
+
+-- A source was read to its end, what it gave is a file, and a sink took the first part of all that
+-- the file says.
+pub record IsFileAllDumpedInPart {R W : Type 0} (HasLeft : R → List ℕ → Type 0)
+    (HasTaken : W → List ℕ → Type 0)
+    (before after : R) (old new : W) : Type 0 where
+  pub read : List ℕ
+  pub gave : Gave HasLeft before read after
+  pub ended : HasLeft after []
+  pub f : MidiFile
+  pub file : IsFile read f
+  pub stopped : TookFirst HasTaken old (all_text f) new
+
+-- a sink took nothing, or a part of all that a file says
+abbrev pub IsAllDumpedInPart : {R W : Type 0} →
+    (R → List ℕ → Type 0) → (W → List ℕ → Type 0) → R → R → W → W → Type 0
+IsAllDumpedInPart HasLeft HasTaken before after old new =
+    Took HasTaken old [] new ⊎ IsFileAllDumpedInPart HasLeft HasTaken before after old new

@@ -1,0 +1,103 @@
+//! The call that prints all that a Standard MIDI File says.
+
+ghost use Rattle.std.specs.Prelude.{◌≡◌, ◌≢◌, ◌+◌, ◌++◌, true, false, Err, IfErr, OnOk, OnErr, IsErrOf};
+ghost use Rattle.byte_io.specs.Marks.{SinkMarks};
+ghost use Rattle.byte_io.specs.Moved.{GaveSome, Took};
+ghost use Rattle.smf_grammar.specs.declared.fault.SmfFault.TheVariants as smf;
+ghost use Rattle.smf_grammar.specs.Chunks.{most_bytes};
+ghost use Rattle.smf_grammar.specs.Files.{IsFile};
+ghost use Rattle.tool_text.specs.Dump.{head_line, TellsFault};
+ghost use Rattle.tool_text.specs.Faults.{blames_sink, IsOutput};
+ghost use Rattle.tool_text.specs.Gathered.{TookFirst};
+ghost use Rattle.smf_text.specs.AllTexts.{all_text};
+ghost use Rattle.smf_text.specs.AllDumped.{IsAllDumped, IsAllDumpedInPart};
+
+use crate::walk::print_tracks;
+use byte_io::{Sink, Source, read_to};
+use memory::OutOfMemory;
+use smf_files::SmfFile;
+use smf_grammar::{MOST_BYTES, header_at};
+use std::alloc::Global;
+use text_forms::push_decimal;
+use tool_text::{ToolFault, flush};
+
+/// Prints all that the Standard MIDI File that `input` gives says: a line on its header, and, track by track, a line
+/// with the track's number and one for each event at its tick.
+///
+/// Nothing is written before the whole file was read and accepted; at a later fault the sink has taken the first
+/// part of the text. A file of more than 16,777,216 bytes is not read to its end.
+pub fn dump_all_text<R: Source, W: Sink>(
+    alloc: Global,
+    input: &mut R,
+    out: &mut W,
+) -> Result<(), ToolFault>
+    requires input_sound { R.failed input.old ≡ false }
+    requires out_sound { W.failed out.old ≡ false }
+
+    ensures text { OnOk result (IsAllDumped R.HasLeft W.HasTaken
+        input.old input.new out.old out.new) }
+    ensures short { OnErr result (IsAllDumpedInPart R.HasLeft W.HasTaken
+        input.old input.new out.old out.new) }
+    ensures bounded { GaveSome R.HasLeft (most_bytes + 1) input.old input.new }
+
+    // `Smf` tells the fault of what was read, and is the answer wherever that has one, unless a read failed or a growth
+    // was refused.
+    ensures told { IfErr result (TellsFault R.HasLeft input.old input.new) }
+    ensures memory { result ≢ Err (ToolFault.Smf smf.OutOfMemory) }
+    ensures read { IsErrOf result ToolFault.Read → R.failed input.new ≡ true }
+    ensures unread { IsErrOf result ToolFault.OutOfMemory → R.failed input.new ≡ false }
+    ensures marks { SinkMarks W.failed W.takes_some out.old out.new (blames_sink result) }
+{
+    let bytes = match read_to(alloc, input, MOST_BYTES + 1) {
+        Ok(bytes) => bytes,
+        Err(_) => {
+            if input.has_failed() {
+                return Err(ToolFault::Read);
+            }
+            return Err(ToolFault::OutOfMemory);
+        }
+    };
+    let file = match SmfFile::read(alloc, bytes.as_slice()) {
+        Ok(file) => file,
+        Err(fault) => return Err(ToolFault::from(fault)),
+    };
+    print_file(alloc, &file, bytes.as_slice(), out)
+}
+
+/// Prints the file that these bytes are.
+fn print_file<W: Sink>(
+    alloc: Global,
+    file: &SmfFile<'_>,
+    bytes: &[u8],
+    out: &mut W,
+) -> Result<(), ToolFault>
+    requires file { IsFile bytes.now file.now }
+    requires sound { W.failed out.old ≡ false }
+    ensures text { OnOk result (Took W.HasTaken out.old (all_text file.now) out.new) }
+    ensures short { OnErr result (TookFirst W.HasTaken out.old (all_text file.now) out.new) }
+    ensures marks { SinkMarks W.failed W.takes_some out.old out.new (blames_sink result) }
+    ensures only { IfErr result IsOutput }
+{
+    let (_header, left) = match header_at(bytes) {
+        Ok(found) => found,
+        Err(_) => unreachable!(),
+    };
+    let mut text = Vec::new(alloc);
+    push_head(file, &mut text)?;
+    print_tracks(file, left, &mut text, out)?;
+    flush(&mut text, out)
+}
+
+/// Adds the line on a file's header.
+fn push_head(file: &SmfFile<'_>, text: &mut Vec<u8>) -> Result<(), OutOfMemory>
+    ensures { OnOk result (text.new.items ≡ text.old.items ++ head_line file.now) }
+{
+    text.extend_from_slice(b"format ")?;
+    push_decimal(text, file.format() as u64)?;
+    text.extend_from_slice(b" tracks ")?;
+    push_decimal(text, file.tracks() as u64)?;
+    text.extend_from_slice(b" division ")?;
+    push_decimal(text, file.division() as u64)?;
+    text.push(b'\n')?;
+    Ok(())
+}
