@@ -36,7 +36,7 @@ Examples:
   midiseq why --from 128:p0 --at 5 --message \"90 24 64\" 128=keys.txt \\
       129=synth.txt
       prints where this note would arrive, be lost, or be stopped, and by what
-  printf '0 128 open keys 100 100\\n0 128 client\\n' | midiseq live
+  printf '0 128 open keys 9 9\\n0 128 port 0 out 33\\n' | midiseq live
       answers each line: `128 0 line 1 ok`, `next never`, and so on
 
 Status:
