@@ -29,10 +29,12 @@ def put(place, name, make, *words):
     return path
 
 
-def waited(words, text):
-    """What a program used. What it prints goes to the file `text`."""
-    child = os.posix_spawn(words[0], words, os.environ,
-                           file_actions=[(os.POSIX_SPAWN_OPEN, 1, text, os.O_WRONLY | os.O_CREAT | os.O_TRUNC, 0o666)])
+def waited(words, text, given=None):
+    """What a program used. What it prints goes to the file `text`, and it reads the file `given`, where one is named."""
+    files = [(os.POSIX_SPAWN_OPEN, 1, text, os.O_WRONLY | os.O_CREAT | os.O_TRUNC, 0o666)]
+    if given:
+        files.append((os.POSIX_SPAWN_OPEN, 0, given, os.O_RDONLY, 0))
+    child = os.posix_spawn(words[0], words, os.environ, file_actions=files)
     _, status, used = os.wait4(child, 0)
     if status:
         raise SystemExit(" ".join(words) + " failed")
@@ -46,16 +48,17 @@ def timed(words, text=os.devnull):
     return time.perf_counter() - start, used.ru_maxrss / 1024
 
 
-def spent(words, text=os.devnull):
-    """The same, but the seconds of a processor."""
-    used = waited(words, text)
+def spent(words, text=os.devnull, given=None):
+    """The same, but the seconds of a processor. It reads the file `given`, where one is named."""
+    used = waited(words, text, given)
     return used.ru_utime + used.ru_stime, used.ru_maxrss / 1024
 
 
-def instructions(program, place, *words):
-    """What callgrind collects; its log is left in the folder `place`."""
+def instructions(program, place, *words, given=os.devnull):
+    """What callgrind collects of a program that reads the file `given`; its log is left in the folder `place`."""
     log = os.path.join(place, "log")
-    subprocess.run(["valgrind", "--tool=callgrind", "--callgrind-out-file=" + os.devnull, "--log-file=" + log,
-                    program, *map(str, words)], stdout=subprocess.DEVNULL, check=True)
+    with open(given, "rb") as text:
+        subprocess.run(["valgrind", "--tool=callgrind", "--callgrind-out-file=" + os.devnull, "--log-file=" + log,
+                        program, *map(str, words)], stdin=text, stdout=subprocess.DEVNULL, check=True)
     with open(log) as f:
         return int(re.search(r"Collected : (\d+)", f.read()).group(1))

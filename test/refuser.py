@@ -86,14 +86,15 @@ class Refuser:
         self.library = os.path.join(place, "refuser.so")
         subprocess.run(["cc", "-O1", "-shared", "-fPIC", "-o", self.library, source, "-ldl"], check=True)
 
-    def run(self, words, folder, **how):
-        """A run in a folder, with some of KIND, REFUSE, COUNT and BYTEWISE."""
+    def run(self, words, folder, given=os.devnull, **how):
+        """A run in a folder that reads the file `given`, with some of KIND, REFUSE, COUNT and BYTEWISE."""
         env = {**os.environ, "LD_PRELOAD": self.library, **how} if how else None
-        return subprocess.run(words, capture_output=True, cwd=folder, env=env, timeout=60)
+        with open(os.path.join(folder, given), "rb") as text:
+            return subprocess.run(words, stdin=text, capture_output=True, cwd=folder, env=env, timeout=60)
 
-    def texts(self, words, folder, kind):
+    def texts(self, words, folder, kind, given=os.devnull, **how):
         """What is on standard output before each call of a kind that a run makes, in the order of the calls."""
-        pieces = self.run(words, folder, KIND=kind, COUNT="1").stdout.split(b"\0")
+        pieces = self.run(words, folder, given, KIND=kind, COUNT="1", **how).stdout.split(b"\0")
         texts = [b""]
         for piece in pieces[:-1]:
             texts.append(texts[-1] + piece)
