@@ -271,9 +271,13 @@ line. The end of the input ends the program.
 
 The files in D are those that `midiseq run --dir D` takes.
 
-Example:
-  printf '0 128 open a 9 9\\n0 128 port 0 out 99\\n0 128 port 1 in 99\\n\
-0 128 connect 128:p0 128:p1\\n5 128 send 0 90 3C 40\\n' | midiseq live
+Example, with these lines in hello.txt:
+  0 128 open a 9 9
+  0 128 port 0 out 99
+  0 128 port 1 in 99
+  0 128 connect 128:p0 128:p1
+  5 128 send 0 90 3C 40
+  midiseq live < hello.txt
       prints `128 0 line 1 ok`, `next never`, .. and for the last line
       `128 5 port 1 90 3C 40`, `128 5 line 5 ok` and `next never`";
 
@@ -415,7 +419,7 @@ fn dir<'a>(alloc: Global) -> Arg<'a> {
     Arg::new(alloc, "dir")
         .long("dir")
         .value_name("D")
-        .help("the folder whose MIDI files (.mid) scripts may play")
+        .help("the folder whose MIDI files (.mid) may be played")
 }
 
 fn list<'a>(alloc: Global) -> Arg<'a> {
