@@ -111,7 +111,7 @@ fn notes(alloc: Global, count: usize) -> Result<Vec<u8>, Fail> {
 }
 
 /// A text so many times.
-fn repeated(alloc: Global, text: &[u8], count: usize) -> Result<Vec<u8>, Fail> {
+pub(super) fn repeated(alloc: Global, text: &[u8], count: usize) -> Result<Vec<u8>, Fail> {
     let mut all = Vec::new(alloc);
     for _time in 0..count {
         all.extend_from_slice(text)?;

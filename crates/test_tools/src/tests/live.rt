@@ -2,7 +2,7 @@
 
 ghost use Rattle.std.specs.Prelude.{◌≡◌, IfOk, false};
 
-use super::failing_devices::SMALL;
+use super::failing_devices::{SMALL, repeated};
 use super::left_out::{Entry, MemFolder, notes};
 use byte_io::{MemSink, MemSource};
 use file_store::Standing;
@@ -156,23 +156,16 @@ fn each_write_of_answers_fails(rt: HostRuntime) -> Result<(), Fail> {
 #[test]
 fn each_read_of_lines_fails(rt: HostRuntime) -> Result<(), Fail> {
     let alloc = rt.alloc();
-    let mut lines = Vec::new(alloc);
-    let mut answers = Vec::new(alloc);
     // The first piece ends within a line.
-    for _line in 0..3000 {
-        lines.extend_from_slice(b"77\n")?;
-        answers.extend_from_slice(b"next never\n")?;
-    }
+    let lines = repeated(alloc, b"77\n", 3000)?;
     for (read, answered) in [(0, 0), (1, 1365), (2, 2730), (3, 3000)] {
         let mut input = source(alloc, lines.as_slice())?;
         input.fail_at(read);
         let mut out = sink(alloc)?;
         let outcome = printed(alloc, &mut input, &mut out);
+        let answers = repeated(alloc, b"next never\n", answered)?;
         assert!(rt; outcome == Err(ProgramFault::CannotRead(STANDARD)));
-        assert!(rt;
-            out.bytes() == &answers[..answered * b"next never\n".len()],
-            "{read}"
-        );
+        assert!(rt; out.bytes() == answers.as_slice(), "{read}");
     }
     Ok(())
 }
