@@ -16,7 +16,7 @@ use Rattle.patch_graph.specs.declared.edge.Edge.{Edge}
 use Rattle.patch_graph.specs.Edges.{edge, is_edge, has_edge, without_edge, sources_of, most_sources}
 use Rattle.patch_graph.specs.Chains.{makes_cycle}
 use Rattle.patch_graph.specs.Index.{HasPlace, IsListed}
-use Rattle.patch_graph.specs.Aged.{IsRising, put_by_age, by_age, all_of, aged_edges, edges_of, AreAged}
+use Rattle.patch_graph.specs.Aged.{IsRising, TellsPlace, put_by_age, by_age, all_of, aged_edges, edges_of, AreAged}
 use Rattle.patch_graph.proofs.Linked.{rising-map, without_age}
 use Rattle.patch_graph.proofs.Indexed.{onto, out_of, without, edges-without, some_count, unlinked, linked}
 use Rattle.patch_graph.proofs.Lists.{both_left, both_right, and_both, both_ways}
@@ -322,8 +322,8 @@ taken ts us ts' us' next count s t n r p q u k found at to e f =
     (closed (without s t (aged_edges ts us)) ts' us' next (count - 1) left, ap edges_of (aged-is (without s t (aged_edges ts us)) ts' us' next (count - 1) left) ∙ edges-without s t (aged_edges ts us))
 
 -- two tables with an edge more
-pub added : (ts us ts' us' : List (List (Addr × ℕ))) (aged : List (Edge × ℕ)) (next next' count count' : ℕ) (s t : Addr) (r p q u : ℕ) → AreAged aged ts us next count → length ts ≡ 2048 → length us ≡ 2048 → has_edge (edges_of aged) s t ≡ false → sources_of (edges_of aged) t < most_sources → makes_cycle (edges_of aged) s t ≡ false → IsPlace s r p → IsPlace t q u →
-    ts' ≡ set ts p (get_or ts p [] ++ (t, next) ∷ []) → us' ≡ set us u (get_or us u [] ++ (s, next) ∷ []) → next' ≡ next + 1 → count' ≡ count + 1 → AreAged (aged_edges ts' us') ts' us' next' count' × (edges_of (aged_edges ts' us') ≡ edges_of aged ++ edge s t ∷ [])
-added ts us ts' us' aged next next' count count' s t r p q u k long wide fresh room clear at to e f more one =
-    let new : AreAged (aged ++ (edge s t, next) ∷ []) ts' us' next' count' = linked aged ts us next count k ts' us' s t next' count' r p q u long wide fresh room clear at to e f more one in
-    (closed (aged ++ (edge s t, next) ∷ []) ts' us' next' count' new, ap edges_of (aged-is (aged ++ (edge s t, next) ∷ []) ts' us' next' count' new) ∙ map-append (λ (x : Edge × ℕ). x.0) aged ((edge s t, next) ∷ []))
+pub added : (ts us ts' us' : List (List (Addr × ℕ))) (aged : List (Edge × ℕ)) (next age next' count count' : ℕ) (s t : Addr) (r p q u : ℕ) → AreAged aged ts us next count → length ts ≡ 2048 → length us ≡ 2048 → has_edge (edges_of aged) s t ≡ false → sources_of (edges_of aged) t < most_sources → makes_cycle (edges_of aged) s t ≡ false → IsPlace s r p → IsPlace t q u →
+    ts' ≡ set ts p (get_or ts p [] ++ (t, age) ∷ []) → us' ≡ set us u (get_or us u [] ++ (s, age) ∷ []) → TellsPlace age s → next ≤ age → age < next' → count' ≡ count + 1 → AreAged (aged_edges ts' us') ts' us' next' count' × (edges_of (aged_edges ts' us') ≡ edges_of aged ++ edge s t ∷ [])
+added ts us ts' us' aged next age next' count count' s t r p q u k long wide fresh room clear at to e f tells low high one =
+    let new : AreAged (aged ++ (edge s t, age) ∷ []) ts' us' next' count' = linked aged ts us next count k ts' us' s t age next' count' r p q u long wide fresh room clear at to e f tells low high one in
+    (closed (aged ++ (edge s t, age) ∷ []) ts' us' next' count' new, ap edges_of (aged-is (aged ++ (edge s t, age) ∷ []) ts' us' next' count' new) ∙ map-append (λ (x : Edge × ℕ). x.0) aged ((edge s t, age) ∷ []))

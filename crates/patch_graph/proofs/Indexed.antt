@@ -1,6 +1,6 @@
 -- How a graph's lists of neighbours follow its edges.
 use Rattle.std.proofs.Common.{◌≡◌, inl, inr, ℕ, zero, suc, ◌+◌, ◌-◌, ◌<◌, ◌≤◌, Bool, true, false, not, cond, eqb, ◌&&◌, ◌||◌, List, [], ◌∷◌, ◌++◌, map, length, get_or, set, Option, Some, None, is_some, refl, ap, sym, subst, ◌∙◌, arith}
-use Rattle.std.specs.List.{filter, list_any, slice_get}
+use Rattle.std.specs.List.{AllByRecursion, filter, list_any, slice_get}
 use Rattle.std.specs.Map.{lookup}
 use Rattle.std.proofs.lemmas.Bool.{false≢true, cases_eq, or_cases}
 use Rattle.std.proofs.lemmas.List.{get_or-set_same, get_or-set_other, length-set, length-append, map-append, append-nil}
@@ -14,9 +14,9 @@ use Rattle.patch_graph.specs.declared.edge.Edge.{Edge}
 use Rattle.patch_graph.specs.Edges.{edge, is_edge, has_edge, without_edge, sources_of, most_sources}
 use Rattle.patch_graph.specs.Chains.{is_chain, are_edges, makes_cycle}
 use Rattle.patch_graph.specs.Index.{targets_of, origins_of, is_distinct, IsGraph, HasPlace, IsListed}
-use Rattle.patch_graph.specs.Aged.{IsRising, youngest, edges_of, AreAged}
-use Rattle.patch_graph.proofs.Lists.{both_left, both_right, and_both, not_by, not_true, refuted, filter-none, filter-map, filter-outside, list_any-filter, length-filter_filter, filter-mapped}
-use Rattle.patch_graph.proofs.Linked.{without_age, none_below, is_age, not_age, rising-filter, rising-last, rising-map, length-rising}
+use Rattle.patch_graph.specs.Aged.{IsRising, TellsPlace, youngest, edges_of, AreAged}
+use Rattle.patch_graph.proofs.Lists.{both_left, both_right, and_both, not_by, not_true, refuted, filter-none, filter-map, filter-outside, list_any-filter, length-filter_filter, filter-mapped, all-filter, all-more, all-map}
+use Rattle.patch_graph.proofs.Linked.{without_age, none_below, is_age, not_age, rising-filter, rising-last, rising-map, length-rising, to_more}
 use Rattle.patch_graph.proofs.Same.{same-is, same-from, same-sym, differ, place-is, is-place, place-below}
 use Rattle.patch_graph.proofs.Chained.{acyclic-added, acyclic-fewer}
 
@@ -357,6 +357,7 @@ module _ (aged : List (Edge × ℕ)) (ts us : List (List (Addr × ℕ))) (next c
     back = list-made into out_of aged us us' k.back wide alike;
     placed = k.placed;
     rising = k.rising;
+    told = k.told;
     counted = k.counted;
   }
 
@@ -367,6 +368,7 @@ module _ (aged : List (Edge × ℕ)) (ts us : List (List (Addr × ℕ))) (next c
     back = subst (IsListed into out_of aged) (sym e) k.back;
     placed = k.placed;
     rising = k.rising;
+    told = k.told;
     counted = k.counted;
   }
 
@@ -410,8 +412,16 @@ module _ (aged : List (Edge × ℕ)) (ts us : List (List (Addr × ℕ))) (next c
           back = listed-removed into out_of (λ x. refl) aged s t t n gone.0 (λ x h. ap (λ (g : Edge). g.target) (same_edge s t x.0 h)) us q u k.back sources_whole to;
           placed = λ g h. k.placed g (list_any-filter (is_edge g.source g.target) (λ x. not (is_edge s t x)) (edges_of aged) (ap (λ es. has_edge es g.source g.target) (sym (edges-without s t aged)) ∙ h));
           rising = rising-filter (λ x. not (is_edge s t x.0)) 0 aged next k.rising;
+          told = all-filter (λ x. TellsPlace x.1 x.0.source) (λ x. not (is_edge s t x.0)) aged k.told;
           counted = omega (arith, k.counted, gone.1, c);
         }))
+
+  -- the sources at a place, each with an age that tells its place
+  pub told_back : (t : Addr) (row place : ℕ) (slice : List (List (Addr × ℕ))) → IsPlace t row place → slice ≡ us → AllByRecursion (λ x. TellsPlace x.1 x.0) (get_or slice place [])
+  told_back t row place slice at e =
+      subst (AllByRecursion (λ (x : Addr × ℕ). TellsPlace x.1 x.0)) (sym (ap (λ xs. get_or xs place []) e ∙ k.back.listed t row place at))
+      (all-map (λ (x : Edge × ℕ). TellsPlace x.1 x.0.source) (λ (x : Addr × ℕ). TellsPlace x.1 x.0) out_of (λ x h. h) (filter (λ x. same t x.0.target) aged)
+      (all-filter (λ x. TellsPlace x.1 x.0.source) (λ x. same t x.0.target) aged k.told))
 
   -- all ages in the tables are below the next
   pub young_onward : (a : Addr) (row place : ℕ) → IsPlace a row place → IsRising 0 (get_or ts place []) next
@@ -424,17 +434,18 @@ module _ (aged : List (Edge × ℕ)) (ts us : List (List (Addr × ℕ))) (next c
   count_low = omega (arith, k.counted, length-rising 0 aged next k.rising)
 
   -- the edge is in both tables
-  pub linked : (ts' us' : List (List (Addr × ℕ))) (s t : Addr) (next' count' r p q u : ℕ) → length ts ≡ 2048 → length us ≡ 2048 → has_edge (edges_of aged) s t ≡ false → sources_of (edges_of aged) t < most_sources → makes_cycle (edges_of aged) s t ≡ false → IsPlace s r p → IsPlace t q u →
-      ts' ≡ set ts p (get_or ts p [] ++ (t, next) ∷ []) → us' ≡ set us u (get_or us u [] ++ (s, next) ∷ []) → next' ≡ next + 1 → count' ≡ count + 1 → AreAged (aged ++ (edge s t, next) ∷ []) ts' us' next' count'
-  linked ts' us' s t next' count' r p q u long wide fresh room clear at to e f more one =
-      let edges : edges_of (aged ++ (edge s t, next) ∷ []) ≡ edges_of aged ++ edge s t ∷ [] = map-append (λ (x : Edge × ℕ). x.0) aged ((edge s t, next) ∷ []) in
+  pub linked : (ts' us' : List (List (Addr × ℕ))) (s t : Addr) (age next' count' r p q u : ℕ) → length ts ≡ 2048 → length us ≡ 2048 → has_edge (edges_of aged) s t ≡ false → sources_of (edges_of aged) t < most_sources → makes_cycle (edges_of aged) s t ≡ false → IsPlace s r p → IsPlace t q u →
+      ts' ≡ set ts p (get_or ts p [] ++ (t, age) ∷ []) → us' ≡ set us u (get_or us u [] ++ (s, age) ∷ []) → TellsPlace age s → next ≤ age → age < next' → count' ≡ count + 1 → AreAged (aged ++ (edge s t, age) ∷ []) ts' us' next' count'
+  linked ts' us' s t age next' count' r p q u long wide fresh room clear at to e f tells low high one =
+      let edges : edges_of (aged ++ (edge s t, age) ∷ []) ≡ edges_of aged ++ edge s t ∷ [] = map-append (λ (x : Edge × ℕ). x.0) aged ((edge s t, age) ∷ []) in
       record {
         graph = subst IsGraph (sym edges) (graph-added (edges_of aged) s t k.graph fresh room clear);
-        onward = subst (IsListed from onto (aged ++ (edge s t, next) ∷ [])) (sym e) (listed-added from onto aged (edge s t, next) ts r p k.onward long at);
-        back = subst (IsListed into out_of (aged ++ (edge s t, next) ∷ [])) (sym f) (listed-added into out_of aged (edge s t, next) us q u k.back wide to);
+        onward = subst (IsListed from onto (aged ++ (edge s t, age) ∷ [])) (sym e) (listed-added from onto aged (edge s t, age) ts r p k.onward long at);
+        back = subst (IsListed into out_of (aged ++ (edge s t, age) ∷ [])) (sym f) (listed-added into out_of aged (edge s t, age) us q u k.back wide to);
         placed = λ g h. placed-added (edges_of aged) (edge s t) (r, p, at) (q, u, to) k.placed g (ap (λ es. has_edge es g.source g.target) (sym edges) ∙ h);
-        rising = rising-last 0 aged next next' (edge s t) (omega (arith, more)) k.rising;
-        counted = omega (arith, one, k.counted, length-append aged ((edge s t, next) ∷ []));
+        rising = rising-last 0 aged age next' (edge s t) high (to_more 0 aged next age low k.rising);
+        told = all-more (λ x. TellsPlace x.1 x.0.source) aged (edge s t, age) k.told tells;
+        counted = omega (arith, one, k.counted, length-append aged ((edge s t, age) ∷ []));
       }
 
 -- ---- no edges
@@ -458,5 +469,6 @@ none_aged ts us t u =
       back = no_list into out_of;
       placed = λ e h. absurd (false≢true h);
       rising = omega arith;
+      told = tt;
       counted = refl;
     }))

@@ -23,6 +23,10 @@ module _ {X : Type 0} where
   from_less k m [] next l h = omega (arith, h)
   from_less k m (x ∷ xs) next l h = (omega (arith, h.0), h.1)
 
+  pub to_more : (k : ℕ) (xs : List (X × ℕ)) (next next' : ℕ) → next ≤ next' → IsRising k xs next → IsRising k xs next'
+  to_more k [] next next' l h = omega (arith, h)
+  to_more k (x ∷ xs) next next' l h = (h.0, to_more (x.1 + 1) xs next next' l h.1)
+
   pub rising-last : (k : ℕ) (xs : List (X × ℕ)) (next next' : ℕ) (x : X) → next < next' → IsRising k xs next → IsRising k (xs ++ (x, next) ∷ []) next'
   rising-last k [] next next' x l h = (h, omega (arith, l))
   rising-last k (y ∷ ys) next next' x l h = (h.0, rising-last (y.1 + 1) ys next next' x l h.1)

@@ -3,7 +3,7 @@ use Rattle.std.proofs.Common.{◌≡◌, ℕ, ◌≤◌, Bool, true, false, not,
 use Rattle.std.proofs.Common.{Option, None, Some, Bor, get_or, ltb}
 use Rattle.std.specs.Prelude.{is_some, IfSome}
 use Rattle.std.specs.Option.{option_copied}
-use Rattle.std.specs.List.{filter, list_any, list_all, flat_map, slice_get}
+use Rattle.std.specs.List.{AllByRecursion, filter, list_any, list_all, flat_map, slice_get}
 use Rattle.std.proofs.lemmas.List.Elements.{filter-append}
 use Rattle.std.proofs.lemmas.Bool.Decides.{nat_tests}
 use Rattle.std.proofs.lemmas.Option.{slice_get_past, slice_get-get_or}
@@ -97,3 +97,19 @@ flat_map-agree f g h (x ∷ xs) = cc (h x, flat_map-agree f g h xs)
 pub flat_map-none : {X Y : Type 0} (f : X → List Y) → ((x : X) → f x ≡ []) → (xs : List X) → flat_map f xs ≡ []
 flat_map-none f h [] = refl
 flat_map-none f h (x ∷ xs) = ap (λ ys. ys ++ flat_map f xs) (h x) ∙ flat_map-none f h xs
+
+module _ {X : Type 0} (P : X → Type 0) where
+  pub all-filter : (p : X → Bool) (xs : List X) → AllByRecursion P xs → AllByRecursion P (filter p xs)
+  all-filter p [] h = tt
+  all-filter p (x ∷ xs) h = elim (p x) as (λ b. AllByRecursion P (cond b (x ∷ filter p xs) (filter p xs))) [
+    | true ↦ (h.0, all-filter p xs h.1)
+    | false ↦ all-filter p xs h.1
+  ]
+
+  pub all-more : (xs : List X) (x : X) → AllByRecursion P xs → P x → AllByRecursion P (xs ++ x ∷ [])
+  all-more [] x h k = (k, tt)
+  all-more (y ∷ ys) x h k = (h.0, all-more ys x h.1 k)
+
+pub all-map : {X Y : Type 0} (P : X → Type 0) (Q : Y → Type 0) (f : X → Y) → ((x : X) → P x → Q (f x)) → (xs : List X) → AllByRecursion P xs → AllByRecursion Q (map f xs)
+all-map P Q f g [] h = tt
+all-map P Q f g (x ∷ xs) h = (g x h.0, all-map P Q f g xs h.1)

@@ -1,7 +1,9 @@
 -- Representation: The edges of a graph, each with a number that tells its age, as two tables have
 -- them.
-use Rattle.std.specs.Prelude.{◌≡◌, ◌≤◌, ℕ, ◌+◌, ◌-◌, true, nat_lt, if◌then◌else◌, List, [], ◌∷◌, map, length, flat_map, Option}
-use Rattle.std.specs.List.{slice_get, zip}
+use Rattle.std.specs.Prelude.{◌≡◌, ◌≤◌, ℕ, ◌+◌, ◌-◌, ◌%◌, true, nat_lt, if◌then◌else◌, List, [], ◌∷◌, map, length, flat_map, Option}
+use Rattle.std.specs.List.{AllByRecursion, slice_get, zip}
+use Rattle.node_table.specs.Kept.{IsPlace}
+use Rattle.node_table.specs.Numbers.{places}
 use Rattle.node_table.specs.declared.number.Addr.{Addr}
 use Rattle.patch_graph.specs.declared.edge.Edge.{Edge}
 use Rattle.patch_graph.specs.Edges.{edge, has_edge}
@@ -11,6 +13,10 @@ use Rattle.patch_graph.specs.Index.{IsGraph, IsListed, HasPlace}
 abbrev pub IsRising : {X : Type 0} → ℕ → List (X × ℕ) → ℕ → Type 0
 IsRising least [] next = least ≤ next
 IsRising least (x ∷ xs) next = (least ≤ x.1) × IsRising (x.1 + 1) xs next
+
+-- the age of an edge tells the place of the node where it begins
+abbrev pub TellsPlace : ℕ → Addr → Type 0
+TellsPlace age a = (row : ℕ) × IsPlace a row (age % places)
 
 -- the last, where the ages rise
 abbrev pub youngest : List (Addr × ℕ) → Option (Addr × ℕ)
@@ -39,7 +45,7 @@ abbrev pub edges_of : List (Edge × ℕ) → List Edge
 edges_of aged = map (λ x. x.0) aged
 
 -- At the place of each address stand its targets and its sources, each with the age of the edge.
--- The ages rise, all below `next`.
+-- The ages rise, all below `next`, and each tells where its edge begins.
 pub record AreAged (aged : List (Edge × ℕ)) (targets sources : List (List (Addr × ℕ)))
     (next count : ℕ) : Type 0 where
   pub graph : IsGraph (edges_of aged)
@@ -48,4 +54,5 @@ pub record AreAged (aged : List (Edge × ℕ)) (targets sources : List (List (Ad
   pub placed : (e : Edge) → has_edge (edges_of aged) e.source e.target ≡ true
       → HasPlace e.source × HasPlace e.target
   pub rising : IsRising 0 aged next
+  pub told : AllByRecursion (λ x. TellsPlace x.1 x.0.source) aged
   pub counted : count ≡ length aged

@@ -1,8 +1,8 @@
 //! The graph of subscriptions.
 
-ghost use Rattle.std.specs.Prelude.{◌≡◌, ◌≤◌, ◌<◌, ◌==◌, ◌↔◌, ℕ, true, false, not, is_some, Some, List, [], ◌∷◌, ◌++◌, length, map, slice_get, slice_index_or, slice_set, OnOk, OnErr, IfOk, IfSome, IfNone, IsErrOf, IsTrue};
+ghost use Rattle.std.specs.Prelude.{◌≡◌, ◌≤◌, ◌<◌, ◌+◌, ◌*◌, ◌^◌, ◌==◌, ◌↔◌, ℕ, true, false, not, is_some, Some, List, [], ◌∷◌, ◌++◌, length, map, slice_get, slice_index_or, slice_set, OnOk, OnErr, IfOk, IfSome, IfNone, IsErrOf, IsTrue};
 ghost use Rattle.std.specs.Bool.{OnTrue, OnFalse};
-ghost use Rattle.std.specs.List.{filter, list_any, position, zip};
+ghost use Rattle.std.specs.List.{AllByRecursion, filter, list_any, position, zip};
 ghost use Rattle.std.specs.List.Sorted.{IsPermutation, IsNonDecreasingBy};
 ghost use Rattle.std.specs.Map.{lookup};
 ghost use Rattle.node_table.specs.Addresses.{same, is_filter};
@@ -11,9 +11,9 @@ ghost use Rattle.node_table.specs.declared.number.Addr.{Addr};
 ghost use Rattle.node_table.specs.Numbers.{places};
 ghost use Rattle.patch_graph.specs.Edges.{edge, has_edge, without_edge, touches, touches_client, ends_at_client, sources_of, most_sources};
 ghost use Rattle.patch_graph.specs.Chains.{Reaches, makes_cycle};
-ghost use Rattle.patch_graph.specs.Found.{with_filters};
+ghost use Rattle.patch_graph.specs.Found.{addr_of, with_filters};
 ghost use Rattle.patch_graph.specs.Index.{targets_of, origins_of, LosesOne};
-ghost use Rattle.patch_graph.specs.Aged.{IsRising, all_of, youngest};
+ghost use Rattle.patch_graph.specs.Aged.{IsRising, TellsPlace, all_of, youngest};
 
 use crate::edge::{Edge, Origin};
 use crate::fault::EdgeFault;
@@ -30,6 +30,9 @@ pub const MOST_SOURCES: usize = 32;
 /// How many nodes a client may have, each with a place of its own.
 const NODES: usize = 32;
 
+/// How many edges can be given an age.
+const MOST_ADDED: u64 = u64::MAX / PLACES as u64;
+
 /// The subscriptions, oldest first.
 ///
 /// Two edges never join one pair of nodes in one direction, at most `MOST_SOURCES` edges end at a node, and no chain of
@@ -40,13 +43,14 @@ pub struct PatchGraph {
     // By `place_of`: the targets of a node, and its sources. Both are empty until the first edge is added.
     targets: Vec<Links>,
     sources: Vec<Links>,
-    // The age of the next edge, above those of all older ones.
-    next: u64,
+    // How many edges have been added in all, by which the age of the next is above those of all older ones.
+    added: u64,
     count: usize,
 }
 
 impl Model for PatchGraph {
-    ghost use Rattle.std.specs.Prelude.{List};
+    ghost use Rattle.std.specs.Prelude.{List, ◌*◌};
+    ghost use Rattle.node_table.specs.Numbers.{places};
     ghost use Rattle.patch_graph.specs.declared.edge.Edge.{Edge};
     ghost use Rattle.patch_graph.specs.Aged.{aged_edges, edges_of, AreAged};
 
@@ -55,7 +59,7 @@ impl Model for PatchGraph {
     ghost view = { λ g. edges_of (aged_edges g.targets.items g.sources.items) };
 
     ghost invariant = { λ g. AreAged (aged_edges g.targets.items g.sources.items)
-        g.targets.items g.sources.items g.next g.count };
+        g.targets.items g.sources.items (g.added * places) g.count };
 }
 
 /// Makes the places of a table that has none yet, each with nothing. One that has them stays as it is.
@@ -88,6 +92,19 @@ fn age_at(lists: &[Links], node: &Addr, other: &Addr) -> Option<u64>
     match lists.get(place_of(node)) {
         Some(list) => list.age_of(other),
         None => None,
+    }
+}
+
+/// Adds the filters that a table has at a place to what a search has found.
+// Inline, as all that is called for each node of a search, since a call takes as long as the edges of a few sources.
+#[inline(always)]
+fn find_at(lists: &[Links], place: usize, found: &mut Found)
+    requires { AllByRecursion (λ x. TellsPlace x.1 x.0) (slice_index_or lists.now place []) }
+    ensures { found.new ≡ with_filters found.old
+        (map (λ x. x.0) (slice_index_or lists.now place [])) }
+{
+    if let Some(list) = lists.get(place) {
+        found.add_filters(list.nodes(), list.ages());
     }
 }
 
@@ -160,6 +177,21 @@ fn join_at(
     join(onward, target, back, source, age)
 }
 
+/// The age of an edge that is added after so many others. It is above theirs, and modulo `PLACES` it is the place where
+/// the edge begins, so that a search reads one number for each source.
+fn age_after(added: u64, source: &Addr) -> Option<u64>
+    ensures told { IfSome result (λ age. TellsPlace age source.now) }
+    ensures above { IfSome result (λ age. added * places ≤ age) }
+    ensures below { IfSome result (λ age. age < (added + 1) * places) }
+    ensures few { IfSome result (λ age. age + 1 < 2 ^ 64) }
+{
+    // No number is given twice, and no run is so long that it gives all of them.
+    if added >= MOST_ADDED {
+        return None;
+    }
+    Some(added * PLACES as u64 + place_of(source) as u64)
+}
+
 /// All that stands in a table, by age.
 fn by_age(alloc: Global, lists: &[Links]) -> Result<Vec<(Addr, u64)>, OutOfMemory>
     ensures all { IfOk result (λ links. IsPermutation (all_of lists.now) links.items) }
@@ -202,7 +234,7 @@ impl PatchGraph {
             alloc,
             targets: Vec::new(alloc),
             sources: Vec::new(alloc),
-            next: 0,
+            added: 0,
             count: 0,
         }
     }
@@ -378,11 +410,14 @@ impl PatchGraph {
     /// Whether a chain of edges leads from one node to the other through filters alone, both of them filters too. It
     /// takes no memory, and goes along each edge between filters at most once.
     // From the end, since at most `MOST_SOURCES` edges end at a node, where any number may begin there.
-    // Not inline: what a search has found takes 22 KiB of stack, which a caller need not have where a port is joined.
+    // Not inline: what a search has found takes 6 KiB of stack, which a caller need not have where a port is joined.
     #[inline(never)]
     pub fn reaches(&self, from: &Addr, to: &Addr) -> bool
         ensures { IsTrue result ↔ Reaches self.now from.now to.now }
     {
+        if !from.is_filter() {
+            return false;
+        }
         if !to.is_filter() {
             return false;
         }
@@ -392,11 +427,11 @@ impl PatchGraph {
         if !self.leads_on(from) {
             return false;
         }
-        let mut found = Found::new(*to);
-        self.find_filters(to, &mut found);
+        let mut found = Found::new();
+        self.find_filters(place_of(to), &mut found);
         let mut turn = 0;
-        while let Some(node) = found.get(turn) {
-            self.find_filters(&node, &mut found);
+        while let Some(place) = found.place(turn) {
+            self.find_filters(place, &mut found);
             turn += 1;
         }
         found.contains(from)
@@ -409,15 +444,13 @@ impl PatchGraph {
         self.targets(node).iter().any(|target| target.is_filter())
     }
 
-    /// Adds the filters that are joined to a node.
-    fn find_filters(&self, node: &Addr, found: &mut Found)
-        ensures { found.new ≡ with_filters found.old (origins_of self.now node.now) }
+    /// Adds the filters that are joined to the node of a place.
+    #[inline(always)]
+    fn find_filters(&self, place: usize, found: &mut Found)
+        requires { place < places }
+        ensures { found.new ≡ with_filters found.old (origins_of self.now (addr_of place)) }
     {
-        for source in self.origins(node) {
-            if source.is_filter() {
-                found.add(source);
-            }
-        }
+        find_at(&self.sources, place, found);
     }
 
     /// Whether an edge from the source to the target would let a message come back to a filter that it has passed.
@@ -467,18 +500,11 @@ impl PatchGraph {
     {
         make_lists(self.alloc, &mut self.targets)?;
         make_lists(self.alloc, &mut self.sources)?;
-        // No number is given twice, and no run is so long that it gives all of them.
-        let Some(next) = self.next.checked_add(1) else {
+        let Some(age) = age_after(self.added, &source) else {
             return Err(OutOfMemory);
         };
-        join_at(
-            &mut self.targets,
-            &mut self.sources,
-            &source,
-            &target,
-            self.next,
-        )?;
-        self.next = next;
+        join_at(&mut self.targets, &mut self.sources, &source, &target, age)?;
+        self.added += 1;
         self.count += 1;
         Ok(())
     }

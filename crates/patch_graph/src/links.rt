@@ -120,7 +120,7 @@ impl Links {
         &self.nodes[self.first..]
     }
 
-    fn ages(&self) -> &[u64]
+    pub fn ages(&self) -> &[u64]
         ensures { result.now ≡ map (λ x. x.1) self.now }
     {
         &self.ages[self.first..]
