@@ -1,15 +1,16 @@
 //! An agenda over a list and a heap, in which old entries stay until they are met or cleared.
 
-ghost use Rattle.std.specs.Prelude.{◌≡◌, ◌≤◌, ◌+◌, ◌*◌, ◌↔◌, [], ◌∷◌, ◌++◌, IsTrue, OnOk, OnErr, IfSome, IfNone, length, slice_get, if◌then◌else◌};
+ghost use Rattle.std.specs.Prelude.{◌≡◌, ◌≤◌, ◌<◌, ◌+◌, ◌*◌, ◌^◌, ◌↔◌, [], ◌∷◌, ◌++◌, IsTrue, OnOk, OnErr, IfSome, IfNone, length, slice_get, if◌then◌else◌};
 ghost use Rattle.std.specs.FinMap as map;
 ghost use Rattle.std.specs.BinaryHeap.{heap_items, heap_len, IsHeap, KeepsHeap};
 ghost use Rattle.std.specs.VecDeque.{deque_len};
 ghost use Rattle.agenda_heap.specs.Due.{IsFirst, IsFirstDue, IsBare, NoneDue};
-ghost use Rattle.agenda_heap.specs.Stored.{heap_item, reversed_cmp, slack, AllLater, Ascends, GainsEntry, IsLeast, IsStored, HoldsCells, HoldsOthers};
+ghost use Rattle.agenda_heap.specs.Stored.{heap_item, most_for_each, reversed_cmp, slack, AllLater, Ascends, GainsEntry, IsAgenda, IsCounted, IsLeast, IsRenewed, IsStored, HoldsCells, HoldsOthers};
 
 use crate::agenda::Agenda;
 use crate::due_key::DueKey;
 use crate::entry::Entry;
+use crate::renewal::Renewal;
 use crate::table::KeyTable;
 use cell_pools::CellKey;
 use memory::OutOfMemory;
@@ -19,17 +20,29 @@ use std::collections::{BinaryHeap, VecDeque};
 use std::marker::Model;
 use std::mem;
 
-/// How many entries may stand beyond two for each cell.
+/// How many entries may stand for each cell.
+const MOST_FOR_EACH: usize = 6;
+
+/// How many may stand beyond those.
 const SLACK: usize = 64;
+
+/// Up to so many entries are cleared at once.
+const CLEARED_AT_ONCE: usize = 4_096;
 
 /// An agenda of entries, ordered by key and then by cell: a cell that goes or gets another key leaves its entry behind.
 ///
 /// An entry that is greater than the last of a list goes to its end, in constant time, and any other into a heap, in
 /// logarithmic time. So the list ascends, and the least entry is its first or the heap's top.
 ///
-/// An entry is stale once its cell went or got another key, and of equal entries all but one are. A call
-/// after which more than two entries for each cell and 64 would stand drops the stale ones, more than half of all, in
-/// linear time and in place: each entry is dropped once, so this adds a constant to the call that left it.
+/// An entry is stale once its cell went or got another key, and of equal entries all but one are. A call after which
+/// more than two entries for each cell and 64 would stand sees to it that the stale ones, more than half of all, are
+/// dropped. Up to 4,096 entries are cleared at once, in linear time and in place. Of more, a renewal is begun: each
+/// `rekey`, `remove` and `pop_due` from then on makes the entries of a few cells anew, in a second heap, each in
+/// logarithmic time, and once that heap has an entry for each cell, it takes the place of the list and of the first. A
+/// cell that gets a key meanwhile may cost an entry in both.
+///
+/// A renewal is given up where memory for it is refused, or where more than six entries for each cell and 64 would
+/// stand before it ends, as when many cells go. Then one call clears all at once. Either way an entry is dropped once.
 ///
 /// Beside the entries stands a table as long as the greatest number of a cell so far; it never shrinks.
 pub struct HeapAgenda {
@@ -37,6 +50,8 @@ pub struct HeapAgenda {
     // Reversed as the heap's are, so that one function clears both.
     ascending: VecDeque<Reverse<Entry>>,
     heap: BinaryHeap<Reverse<Entry>>,
+    // It takes the place of both once it has passed all cells, and is not read before.
+    renewal: Renewal,
     table: KeyTable,
 }
 
@@ -47,6 +62,7 @@ impl Drop for HeapAgenda {
             alloc: _,
             ascending: _,
             heap: _,
+            renewal: _,
             table: _,
         } = self;
     }
@@ -56,16 +72,20 @@ impl Model for HeapAgenda {
     ghost use Rattle.std.specs.Prelude.{◌+◌};
     ghost use Rattle.std.specs.BinaryHeap.{heap_items, heap_len};
     ghost use Rattle.std.specs.VecDeque.{deque_len};
-    ghost use Rattle.agenda_heap.specs.Stored.{HeapState, coded_heap, IsStored};
+    ghost use Rattle.agenda_heap.specs.Stored.{HeapState, coded_heap, IsAgenda};
 
     ghost Value = { HeapState };
 
     ghost coded = { coded_heap };
 
     ghost view = { λ a.
-        record { keys = a.table; stored = deque_len a.ascending + heap_len a.heap } };
+        record {
+          keys = a.table;
+          stored = deque_len a.ascending + heap_len a.heap + heap_len a.renewal.entries;
+        } };
 
-    ghost invariant = { λ a. IsStored a.table a.ascending.items (heap_items a.heap) };
+    ghost invariant = { λ a. IsAgenda a.table a.ascending.items (heap_items a.heap)
+        (heap_items a.renewal.entries) a.renewal.passed };
 }
 
 impl HeapAgenda {
@@ -78,27 +98,30 @@ impl HeapAgenda {
             alloc,
             ascending: VecDeque::new(alloc),
             heap: BinaryHeap::new(alloc),
+            renewal: Renewal::new(alloc),
             table: KeyTable::new(alloc),
         }
     }
 
-    /// How many entries stand in the list and the heap, stale ones too.
+    /// How many entries stand in the list, in the heap and in a renewal, stale ones too.
     pub fn stored(&self) -> usize
         ensures value { result ≡ self.now.stored }
-        ensures few { result ≤ 2 * map.len self.now.keys + slack }
+        ensures few { result ≤ most_for_each * map.len self.now.keys + slack }
     {
-        self.ascending.len() + self.heap.len()
+        self.ascending.len() + self.heap.len() + self.renewal.entries.len()
     }
 }
 
 impl Agenda for HeapAgenda {
     ghost content = { λ a. a.keys };
 
-    #[inline]
+    // Always inline, as what it calls is, so that the heap's push is its one call.
+    #[inline(always)]
     fn insert(&mut self, cell: CellKey, key: DueKey) -> Result<(), OutOfMemory> {
         store(
             &mut self.ascending,
             &mut self.heap,
+            &mut self.renewal,
             &mut self.table,
             cell.number(),
             key,
@@ -111,6 +134,7 @@ impl Agenda for HeapAgenda {
         store(
             &mut self.ascending,
             &mut self.heap,
+            &mut self.renewal,
             &mut self.table,
             cell.number(),
             key,
@@ -119,6 +143,7 @@ impl Agenda for HeapAgenda {
             self.alloc,
             &mut self.ascending,
             &mut self.heap,
+            &mut self.renewal,
             &mut self.table,
         );
         Ok(())
@@ -131,6 +156,7 @@ impl Agenda for HeapAgenda {
             self.alloc,
             &mut self.ascending,
             &mut self.heap,
+            &mut self.renewal,
             &mut self.table,
         );
     }
@@ -143,6 +169,7 @@ impl Agenda for HeapAgenda {
             self.alloc,
             &mut self.ascending,
             &mut self.heap,
+            &mut self.renewal,
             &mut self.table,
         );
         Some((CellKey::new(entry.cell), entry.key))
@@ -168,6 +195,8 @@ fn first_live(
     requires { IsStored table.now ascending.old.items (heap_items heap.old) }
     ensures some { IfSome result (λ key. IsFirst table.now key) }
     ensures none { IfNone result (IsBare table.now) }
+    ensures few { length ascending.new.items + length (heap_items heap.new)
+        ≤ length ascending.old.items + length (heap_items heap.old) }
     ensures kept { IsStored table.now ascending.new.items (heap_items heap.new) }
 {
     while let Some((least, is_listed)) = first_of(ascending, heap) {
@@ -204,8 +233,91 @@ fn drop_first(
 }
 
 /// Gives a cell a key, and adds their entry.
-#[inline]
+#[inline(always)]
 fn store(
+    ascending: &mut VecDeque<Reverse<Entry>>,
+    heap: &mut BinaryHeap<Reverse<Entry>>,
+    renewal: &mut Renewal,
+    table: &mut KeyTable,
+    cell: usize,
+    key: DueKey,
+) -> Result<(), OutOfMemory>
+    requires ascends { Ascends ascending.old.items }
+    requires renewed { IsRenewed table.old (heap_items renewal.old.entries) renewal.old.passed }
+    requires counted { IsCounted ascending.old.items (heap_items heap.old)
+        (heap_items renewal.old.entries) renewal.old.passed }
+    ensures ascends { Ascends ascending.new.items }
+    ensures order { KeepsHeap reversed_cmp (heap_items heap.old) (heap_items heap.new) }
+    ensures gained { OnOk result (GainsEntry (ascending.old.items ++ heap_items heap.old)
+        (ascending.new.items ++ heap_items heap.new) key cell) }
+    ensures keyed { OnOk result (table.new ≡ map.insert table.old cell key) }
+    ensures renewed { IsRenewed table.new (heap_items renewal.new.entries) renewal.new.passed }
+    ensures counted { IsCounted ascending.new.items (heap_items heap.new)
+        (heap_items renewal.new.entries) renewal.new.passed }
+    ensures more { OnOk result (length (heap_items renewal.new.entries)
+        ≤ length (heap_items renewal.old.entries) + 1) }
+    ensures no_more { OnErr result
+        (heap_items renewal.new.entries ≡ heap_items renewal.old.entries) }
+    ensures listed { OnErr result (ascending.new.items ≡ ascending.old.items) }
+    ensures items { OnErr result (heap_items heap.new ≡ heap_items heap.old) }
+    ensures err { OnErr result (table.new ≡ table.old) }
+{
+    if renewal.passed > 0 {
+        return store_renewing(ascending, heap, renewal, table, cell, key);
+    }
+    store_entry(ascending, heap, table, cell, key)
+}
+
+/// The same while a renewal is under way, which gets the entry too where it has passed the cell.
+// Not inline, so that a call outside a renewal costs little.
+#[cold]
+#[inline(never)]
+fn store_renewing(
+    ascending: &mut VecDeque<Reverse<Entry>>,
+    heap: &mut BinaryHeap<Reverse<Entry>>,
+    renewal: &mut Renewal,
+    table: &mut KeyTable,
+    cell: usize,
+    key: DueKey,
+) -> Result<(), OutOfMemory>
+    requires ascends { Ascends ascending.old.items }
+    requires renewed { IsRenewed table.old (heap_items renewal.old.entries) renewal.old.passed }
+    requires counted { IsCounted ascending.old.items (heap_items heap.old)
+        (heap_items renewal.old.entries) renewal.old.passed }
+    ensures ascends { Ascends ascending.new.items }
+    ensures order { KeepsHeap reversed_cmp (heap_items heap.old) (heap_items heap.new) }
+    ensures gained { OnOk result (GainsEntry (ascending.old.items ++ heap_items heap.old)
+        (ascending.new.items ++ heap_items heap.new) key cell) }
+    ensures keyed { OnOk result (table.new ≡ map.insert table.old cell key) }
+    ensures renewed { IsRenewed table.new (heap_items renewal.new.entries) renewal.new.passed }
+    ensures counted { IsCounted ascending.new.items (heap_items heap.new)
+        (heap_items renewal.new.entries) renewal.new.passed }
+    ensures more { OnOk result (length (heap_items renewal.new.entries)
+        ≤ length (heap_items renewal.old.entries) + 1) }
+    ensures no_more { OnErr result
+        (heap_items renewal.new.entries ≡ heap_items renewal.old.entries) }
+    ensures listed { OnErr result (ascending.new.items ≡ ascending.old.items) }
+    ensures items { OnErr result (heap_items heap.new ≡ heap_items heap.old) }
+    ensures err { OnErr result (table.new ≡ table.old) }
+{
+    // No memory holds so many that `stored` could wrap.
+    if (ascending.len() + heap.len()).saturating_add(renewal.entries.len()) > usize::MAX / 2 {
+        return Err(OutOfMemory);
+    }
+    if cell >= renewal.passed {
+        return store_entry(ascending, heap, table, cell, key);
+    }
+    renewal.entries.reserve(1)?;
+    store_entry(ascending, heap, table, cell, key)?;
+    match renewal.entries.push(Reverse(Entry { key, cell })) {
+        Ok(()) => Ok(()),
+        Err(_) => unreachable!(),
+    }
+}
+
+/// Gives a cell a key, and adds their entry to the list or the heap.
+#[inline(always)]
+fn store_entry(
     ascending: &mut VecDeque<Reverse<Entry>>,
     heap: &mut BinaryHeap<Reverse<Entry>>,
     table: &mut KeyTable,
@@ -332,31 +444,83 @@ fn first_of(
     Some((front, true))
 }
 
-/// Clears the stale entries where they are too many.
+/// Goes on with a renewal, or drops the stale entries where they are too many.
 #[inline(always)]
 fn trim(
     alloc: Global,
     ascending: &mut VecDeque<Reverse<Entry>>,
     heap: &mut BinaryHeap<Reverse<Entry>>,
+    renewal: &mut Renewal,
     table: &mut KeyTable,
 )
     requires ascends { Ascends ascending.old.items }
     requires order { IsHeap reversed_cmp (heap_items heap.old) }
     requires held { HoldsCells table.old (ascending.old.items ++ heap_items heap.old) }
+    requires renewed { IsRenewed table.old (heap_items renewal.old.entries) renewal.old.passed }
     ensures same { table.new ≡ table.old }
-    ensures kept { IsStored table.old ascending.new.items (heap_items heap.new) }
+    ensures kept { IsAgenda table.old ascending.new.items (heap_items heap.new)
+        (heap_items renewal.new.entries) renewal.new.passed }
 {
-    // A sum that wraps is too small, and entries cleared too early do no harm.
+    // A sum that wraps is too small, and entries dropped too early do no harm.
     let most = table.len().wrapping_mul(2).wrapping_add(SLACK);
-    if ascending.len() + heap.len() > most {
-        clear(alloc, ascending, heap, table);
+    if renewal.passed > 0 || ascending.len() + heap.len() > most {
+        drop_stale(alloc, ascending, heap, renewal, table);
     }
 }
 
-/// Clears the stale entries. It takes no memory: the heap goes through a vector in place.
-// Not inline, so that a call that clears nothing costs little.
+/// Begins a renewal or goes on with it, or clears the stale entries at once: where there are few entries, where memory
+/// is refused, and where too many were left behind meanwhile.
+// Not inline, so that a call that drops nothing costs little.
 #[cold]
 #[inline(never)]
+fn drop_stale(
+    alloc: Global,
+    ascending: &mut VecDeque<Reverse<Entry>>,
+    heap: &mut BinaryHeap<Reverse<Entry>>,
+    renewal: &mut Renewal,
+    table: &mut KeyTable,
+)
+    requires ascends { Ascends ascending.old.items }
+    requires order { IsHeap reversed_cmp (heap_items heap.old) }
+    requires held { HoldsCells table.old (ascending.old.items ++ heap_items heap.old) }
+    requires renewed { IsRenewed table.old (heap_items renewal.old.entries) renewal.old.passed }
+    ensures same { table.new ≡ table.old }
+    ensures kept { IsAgenda table.old ascending.new.items (heap_items heap.new)
+        (heap_items renewal.new.entries) renewal.new.passed }
+{
+    let is_quick = renewal.passed == 0 && ascending.len() + heap.len() <= CLEARED_AT_ONCE;
+    if !is_quick && renewal.pass_some(table).is_ok() {
+        take_over(alloc, ascending, heap, renewal, table);
+        let most = table.len().wrapping_mul(MOST_FOR_EACH).wrapping_add(SLACK);
+        if (ascending.len() + heap.len()).saturating_add(renewal.entries.len()) < most {
+            return;
+        }
+    }
+    *renewal = Renewal::new(alloc);
+    clear(alloc, ascending, heap, table);
+}
+
+/// Puts the renewal's entries in the place of all others, once it has passed each cell.
+fn take_over(
+    alloc: Global,
+    ascending: &mut VecDeque<Reverse<Entry>>,
+    heap: &mut BinaryHeap<Reverse<Entry>>,
+    renewal: &mut Renewal,
+    table: &KeyTable,
+)
+    requires stored { IsStored table.now ascending.old.items (heap_items heap.old) }
+    requires renewed { IsRenewed table.now (heap_items renewal.old.entries) renewal.old.passed }
+    ensures stored { IsStored table.now ascending.new.items (heap_items heap.new) }
+    ensures renewed { IsRenewed table.now (heap_items renewal.new.entries) renewal.new.passed }
+{
+    if renewal.passed >= table.end() {
+        *heap = mem::replace(&mut renewal.entries, BinaryHeap::new(alloc));
+        *ascending = VecDeque::new(alloc);
+        renewal.passed = 0;
+    }
+}
+
+/// Clears the stale entries at once. It takes no memory: the heap goes through a vector in place.
 fn clear(
     alloc: Global,
     ascending: &mut VecDeque<Reverse<Entry>>,
@@ -367,6 +531,7 @@ fn clear(
     requires held { HoldsCells table.old (ascending.old.items ++ heap_items heap.old) }
     ensures same { table.new ≡ table.old }
     ensures kept { IsStored table.old ascending.new.items (heap_items heap.new) }
+    ensures few { length ascending.new.items + length (heap_items heap.new) ≤ map.len table.old }
 {
     let mut entries = mem::replace(heap, BinaryHeap::new(alloc)).into_vec();
     table.keep_live(ascending, &mut entries);
