@@ -1,4 +1,5 @@
 pub mod Plain
+pub mod Run
 pub mod Alone
 pub mod Reading
 pub mod Clients

@@ -48,7 +48,7 @@ module _ (files : List PlayedFile) where
   abbrev command_of : Input → State → Stepped
   command_of i s = command_step files s i.moment i.actor i.command
 
-  log-settled : (inputs : List Input) (s : State) (m place end : ℕ) → IsTimedFrom m inputs end →
+  pub log-settled : (inputs : List Input) (s : State) (m place end : ℕ) → IsTimedFrom m inputs end →
       map Delivered (settle s m).delivered ++ log_from files (settle s m).state place inputs end ≡ log_from files s place inputs end
   log-settled [] s m place end h =
       sym (map-append Delivered (settle s m).delivered (settle (settle s m).state end).delivered) ∙ ap (map Delivered) (settling_law s m end h).1

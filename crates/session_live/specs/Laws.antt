@@ -1,6 +1,6 @@
 -- Law: What holds of the answers, for all lines.
-use Rattle.std.specs.Prelude.{◌≡◌, ℕ, Bool, IsTrue, List, ◌++◌, map}
-use Rattle.std.specs.List.{flat_map}
+use Rattle.std.specs.Prelude.{◌≡◌, ℕ, Bool, true, IsTrue, List, [], ◌++◌, map}
+use Rattle.std.specs.List.{flat_map, list_all}
 use Rattle.seq_state.specs.declared.log.LogEntry.TheVariants.{Delivered}
 use Rattle.seq_state.specs.Circle.{IsClosed}
 use Rattle.smf_grammar.specs.Played.{PlayedFile}
@@ -8,8 +8,10 @@ use Rattle.seq_state.specs.State.{start}
 use Rattle.seq_state.specs.Step.{settle, plain}
 use Rattle.seq_circle.specs.Shut.{is_shut}
 use Rattle.seq_session.specs.Blank.{text_with_blanks}
-use Rattle.seq_session.specs.Sessions.{FolderContents}
-use Rattle.session_live.specs.Lines.{Item, IsTimedUpTo, Heard, nothing_heard, items_from, heard_from, inputs_in}
+use Rattle.seq_session.specs.declared.source.Script.{Script}
+use Rattle.seq_session.specs.Logs.{skips_text, entries_text}
+use Rattle.seq_session.specs.Sessions.{FolderContents, script_reading, session, log_of}
+use Rattle.session_live.specs.Lines.{Item, IsTimedUpTo, Heard, nothing_heard, items_from, heard_from, inputs_in, numbered_inputs, is_unskipped}
 use Rattle.session_live.specs.Answers.{answers_from, state_from, items_of, answers_to, parts_text, unplaced, entry_of}
 use Rattle.session_live.specs.Circles.{own_lines, alone, lines_alone, outside_numbers, circle_lines}
 use Rattle.session_live.specs.Texts.{log_in, part_log}
@@ -86,3 +88,18 @@ ShutLinesLaw =
     (let numbers = outside_numbers owner member (items_of folder ls) in
     text_with_blanks numbers (log_in owner (parts_text (answers_to folder others)))
     ≡ text_with_blanks numbers (log_in owner (parts_text (answers_to folder ls))))
+
+-- Where lines say what scripts say, in the order of their run and with the numbers of their lines,
+-- and none of a client's is skipped, it is answered what stands in its log below the skipped lines,
+-- but for what settling up to the end brings.
+abbrev pub RunLaw : Type 0
+RunLaw =
+    (folder : FolderContents) (end : ℕ) (scripts : List Script) (s : Script)
+    (ls : List (List ℕ)) →
+    numbered_inputs (items_of folder ls) ≡ session folder end scripts →
+    IsTimedUpTo 0 (items_of folder ls) end →
+    list_all (is_unskipped s.client) (items_of folder ls) ≡ true →
+    (let rest = (settle (state_from folder.files start (items_of folder ls)) end).delivered in
+    skips_text (script_reading folder end s).skips
+    ++ log_in s.client (parts_text (answers_to folder ls))
+    ++ entries_text s.client [] (map Delivered rest) ≡ log_of folder end scripts s)

@@ -1,9 +1,10 @@
 -- Definition: The lines that come in, and what becomes of each.
-use Rattle.std.specs.Prelude.{ℕ, ◌+◌, ◌==◌, ◌≤◌, nat_le, nat_lt, if◌then◌else◌, List, [], ◌∷◌, length, Option, Some, None}
+use Rattle.std.specs.Prelude.{ℕ, ◌+◌, ◌==◌, ◌≤◌, nat_le, nat_lt, Bool, true, not, if◌then◌else◌, List, [], ◌∷◌, length, Option, Some, None}
 use Rattle.seq_state.specs.declared.input.Command.{Command}
 use Rattle.seq_state.specs.declared.input.Input.{Input}
 use Rattle.script_text.specs.declared.live_lines.LiveLine.{LiveLine}
 use Rattle.script_text.specs.declared.live_lines.LiveLine.TheVariants.{Nothing, Unknown, Says, Passes, Asks}
+use Rattle.script_text.specs.declared.reading.ScriptInput.{ScriptInput}
 use Rattle.script_text.specs.declared.reading.SkipReason.{SkipReason}
 use Rattle.script_text.specs.declared.reading.SkipReason.TheVariants.{Unreadable, Late, TooLong}
 use Rattle.script_text.specs.LiveLines.{live_line}
@@ -113,6 +114,24 @@ inputs_in (PassedOver ∷ more) = inputs_in more
 inputs_in (Skipped c n why ∷ more) = inputs_in more
 inputs_in (Waited m ∷ more) = inputs_in more
 inputs_in (Asked ∷ more) = inputs_in more
+
+-- the inputs among items, each with the number of its line
+abbrev pub numbered_inputs : List Item → List ScriptInput
+numbered_inputs [] = []
+numbered_inputs (Said n i ∷ more) = record { line = n; input = i } ∷ numbered_inputs more
+numbered_inputs (PassedOver ∷ more) = numbered_inputs more
+numbered_inputs (Skipped c n why ∷ more) = numbered_inputs more
+numbered_inputs (Waited m ∷ more) = numbered_inputs more
+numbered_inputs (Asked ∷ more) = numbered_inputs more
+
+-- this line is none that names the client and is skipped
+abbrev pub is_unskipped : ℕ → Item → Bool
+is_unskipped client (Skipped (Some c) n why) = not (c == client)
+is_unskipped client (Skipped None n why) = true
+is_unskipped client (Said n i) = true
+is_unskipped client PassedOver = true
+is_unskipped client (Waited m) = true
+is_unskipped client Asked = true
 
 -- moments never fall, from this one on, up to the end
 abbrev pub IsTimedUpTo : ℕ → List Item → ℕ → Type 0

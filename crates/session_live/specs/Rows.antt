@@ -5,9 +5,10 @@ use Rattle.seq_state.specs.declared.input.Input.{Input}
 use Rattle.seq_state.specs.declared.log.Reply.TheVariants.{Done, Received}
 use Rattle.seq_state.specs.State.{start}
 use Rattle.script_text.specs.declared.reading.SkipReason.TheVariants.{Unreadable, Late, TooLong}
-use Rattle.seq_session.specs.Sessions.{FolderContents}
+use Rattle.seq_session.specs.declared.source.Script.{Script}
+use Rattle.seq_session.specs.Sessions.{FolderContents, session}
 use Rattle.session_live.specs.declared.heard.TheConstants.{MOST_LINE}
-use Rattle.session_live.specs.Lines.{PassedOver, Skipped, Said, Waited, Asked, item, items, nothing_heard, whole_lines, open_line, input_of}
+use Rattle.session_live.specs.Lines.{PassedOver, Skipped, Said, Waited, Asked, item, items, nothing_heard, whole_lines, open_line, input_of, numbered_inputs}
 use Rattle.session_live.specs.Answers.{Comes, Answers, Skips, Lists, Next, answers_to, part_text, live_text}
 use Rattle.session_live.specs.Circles.{lines_alone, circle_lines}
 use Rattle.session_live.specs.Texts.{log_in}
@@ -90,3 +91,18 @@ pub record TextForms : Type 0 where
   pub opened : live_text no_files (codes "5 128 open a 8 8\n")
       ≡ codes "128 5 line 1 ok\nnext never\n"
   pub listed : answers_to no_files (codes "list" ∷ []) ≡ Lists start ∷ Next None ∷ []
+
+abbrev pub two_scripts : List Script
+two_scripts =
+    record { client = 128; text = codes "1 open a 8 8\n3 open b 8 8\n4 close\n" }
+    ∷ record { client = 129; text = codes "3 open c 8 8\n" } ∷ []
+
+-- The lines of two scripts as those of one session: each with its client, in the order of the run,
+-- and time may pass between them.
+pub record RunForms : Type 0 where
+  pub merged : numbered_inputs (items []
+      (codes "1 128 open a 8 8\n2\n3 128 open b 8 8\n3 129 open c 8 8\n4 128 close\n"))
+      ≡ session no_files 4 two_scripts
+  -- a remark is nobody's line, so that it takes no number
+  pub remark : numbered_inputs (items [] (codes "# hi\n3 129 open c 8 8\n"))
+      ≡ session no_files 3 (record { client = 129; text = codes "3 open c 8 8" } ∷ [])

@@ -1,7 +1,7 @@
 //! What holds of the answers, for all lines. These functions do nothing: their contracts are the
 //! laws.
 
-ghost use Rattle.session_live.specs.Laws.{TimedLaw, PlainLaw, AloneLaw, LinesLaw, TextLaw, BytesLaw, AgreeLinesLaw, ShutLinesLaw};
+ghost use Rattle.session_live.specs.Laws.{TimedLaw, PlainLaw, AloneLaw, LinesLaw, TextLaw, BytesLaw, AgreeLinesLaw, ShutLinesLaw, RunLaw};
 
 /// What is delivered and replied is what the plain run of the inputs delivers and replies:
 /// settlings in between change nothing.
@@ -36,4 +36,10 @@ pub fn live_isolated()
 /// members' lines, and how far time has passed before each of them that is skipped, and at the end.
 pub fn live_shut()
     ensures { ShutLinesLaw }
+{}
+
+/// A session answers each client what the run of its scripts gives it as its log, but for the
+/// skipped lines, which stand first in a log.
+pub fn live_is_run()
+    ensures { RunLaw }
 {}

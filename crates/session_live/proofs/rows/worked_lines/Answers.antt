@@ -59,3 +59,6 @@ opened =
 pub returns-clause-texts : goal.returns-clause-texts
 unfolding digits upto
 returns-clause-texts c = record { skipped = refl; opened = opened; listed = refl }
+
+pub returns-clause-runs : goal.returns-clause-runs
+returns-clause-runs c = record { merged = refl; remark = refl }
