@@ -1,12 +1,12 @@
 //! The call that prints all that a Standard MIDI File says.
 
-ghost use Rattle.std.specs.Prelude.{◌≡◌, ◌≢◌, ◌+◌, ◌++◌, true, false, Err, IfErr, OnOk, OnErr, IsErrOf};
+ghost use Rattle.std.specs.Prelude.{◌≡◌, ◌≢◌, ◌+◌, true, false, Err, IfErr, OnOk, OnErr, IsErrOf};
 ghost use Rattle.byte_io.specs.Marks.{SinkMarks};
 ghost use Rattle.byte_io.specs.Moved.{GaveSome, Took};
 ghost use Rattle.smf_grammar.specs.declared.fault.SmfFault.TheVariants as smf;
 ghost use Rattle.smf_grammar.specs.Chunks.{most_bytes};
 ghost use Rattle.smf_grammar.specs.Files.{IsFile};
-ghost use Rattle.tool_text.specs.Dump.{head_line, TellsFault};
+ghost use Rattle.tool_text.specs.Dump.{TellsFault};
 ghost use Rattle.tool_text.specs.Faults.{blames_sink, IsOutput};
 ghost use Rattle.tool_text.specs.Gathered.{TookFirst};
 ghost use Rattle.smf_text.specs.AllTexts.{all_text};
@@ -14,12 +14,10 @@ ghost use Rattle.smf_text.specs.AllDumped.{IsAllDumped, IsAllDumpedInPart};
 
 use crate::walk::print_tracks;
 use byte_io::{Sink, Source, read_to};
-use memory::OutOfMemory;
 use smf_files::SmfFile;
 use smf_grammar::{MOST_BYTES, header_at};
 use std::alloc::Global;
-use text_forms::push_decimal;
-use tool_text::{ToolFault, flush};
+use tool_text::{ToolFault, flush, push_head};
 
 /// Prints all that the Standard MIDI File that `input` gives says: a line on its header, and, track by track, a line
 /// with the track's number and one for each event at its tick.
@@ -86,18 +84,4 @@ fn print_file<W: Sink>(
     push_head(file, &mut text)?;
     print_tracks(file, left, &mut text, out)?;
     flush(&mut text, out)
-}
-
-/// Adds the line on a file's header.
-fn push_head(file: &SmfFile<'_>, text: &mut Vec<u8>) -> Result<(), OutOfMemory>
-    ensures { OnOk result (text.new.items ≡ text.old.items ++ head_line file.now) }
-{
-    text.extend_from_slice(b"format ")?;
-    push_decimal(text, file.format() as u64)?;
-    text.extend_from_slice(b" tracks ")?;
-    push_decimal(text, file.tracks() as u64)?;
-    text.extend_from_slice(b" division ")?;
-    push_decimal(text, file.division() as u64)?;
-    text.push(b'\n')?;
-    Ok(())
 }

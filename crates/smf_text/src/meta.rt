@@ -5,11 +5,11 @@ ghost use Rattle.smf_text.specs.AllTexts.{fits, shape_text, plain_meta, meta_tex
 ghost use Rattle.smf_text.specs.Words.{shape_seen};
 
 use crate::numbers::{push_each, push_key, push_number};
-use crate::quoting::{hex_of, push_quoted};
+use crate::quoting::push_quoted;
 use crate::words::{MetaShape, word_of};
 use byteorder::{BigEndian, ByteOrder};
 use memory::OutOfMemory;
-use text_forms::push_spaced;
+use text_forms::{hex_of, push_spaced};
 
 /// Adds the bytes of a meta event that can have this shape.
 fn push_shaped(shape: MetaShape, payload: &[u8], text: &mut Vec<u8>) -> Result<(), OutOfMemory>

@@ -1,28 +1,10 @@
 //! Bytes between quotation marks.
 
-ghost use Rattle.std.specs.Prelude.{◌≡◌, ◌<◌, ◌++◌, OnOk};
-ghost use Rattle.text_forms.specs.Hex.{digit};
-ghost use Rattle.smf_text.specs.AllTexts.{hex_of, quoted_byte, quoted};
+ghost use Rattle.std.specs.Prelude.{◌≡◌, ◌++◌, OnOk};
+ghost use Rattle.smf_text.specs.AllTexts.{quoted_byte, quoted};
 
 use memory::OutOfMemory;
-
-/// An upper-case digit.
-fn digit(number: u8) -> u8
-    requires { number < 16 }
-    ensures { result ≡ digit number }
-{
-    if number < 10 {
-        return b'0' + number;
-    }
-    b'A' - 10 + number
-}
-
-/// The two digits of a byte.
-pub(crate) fn hex_of(byte: u8) -> [u8; 2]
-    ensures { result ≡ hex_of byte }
-{
-    [digit(byte / 16), digit(byte % 16)]
-}
+use text_forms::hex_of;
 
 /// Adds a byte as it stands between quotation marks.
 fn push_quoted_byte(byte: u8, text: &mut Vec<u8>) -> Result<(), OutOfMemory>

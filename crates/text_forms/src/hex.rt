@@ -53,7 +53,7 @@ fn spell(bytes: &[u8], digits: &mut [u8])
     ensures spelled { take (3 * length bytes.now) digits.new ≡ spaced_hex bytes.now }
 {
     for i in 0..bytes.len() {
-        let [s, t] = pair(bytes[i]);
+        let [s, t] = hex_of(bytes[i]);
         digits[3 * i + 1] = s;
         digits[3 * i + 2] = t;
     }
@@ -114,20 +114,20 @@ pub fn push_hex_line(text: &mut Vec<u8>, bytes: &[u8]) -> Result<(), OutOfMemory
     if text.capacity() - text.len() >= 9 {
         match bytes {
             [a] => {
-                let [s, t] = pair(*a);
+                let [s, t] = hex_of(*a);
                 text.extend_from_slice(&[s, t, b'\n'])?;
                 return Ok(());
             }
             [a, b] => {
-                let [s, t] = pair(*a);
-                let [u, v] = pair(*b);
+                let [s, t] = hex_of(*a);
+                let [u, v] = hex_of(*b);
                 text.extend_from_slice(&[s, t, b' ', u, v, b'\n'])?;
                 return Ok(());
             }
             [a, b, c] => {
-                let [s, t] = pair(*a);
-                let [u, v] = pair(*b);
-                let [w, x] = pair(*c);
+                let [s, t] = hex_of(*a);
+                let [u, v] = hex_of(*b);
+                let [w, x] = hex_of(*c);
                 text.extend_from_slice(&[s, t, b' ', u, v, b' ', w, x, b'\n'])?;
                 return Ok(());
             }
@@ -146,7 +146,7 @@ fn push_any_hex_line(text: &mut Vec<u8>, bytes: &[u8]) -> Result<(), OutOfMemory
     ensures capacity { vec_capacity text.old ≤ vec_capacity text.new }
 {
     if let [first, more @ ..] = bytes {
-        text.extend_from_slice(&pair(*first))?;
+        text.extend_from_slice(&hex_of(*first))?;
         push_spaced(text, more)?;
     }
     text.push(b'\n')?;
@@ -165,8 +165,8 @@ fn line_of_one(a: u8) -> [u8; 4]
 fn line_of_two(a: u8, b: u8) -> [u8; 7]
     ensures { result ≡ spaced_hex (a ∷ b ∷ []) ++ 10 ∷ [] }
 {
-    let [s, t] = pair(a);
-    let [u, v] = pair(b);
+    let [s, t] = hex_of(a);
+    let [u, v] = hex_of(b);
     [b' ', s, t, b' ', u, v, b'\n']
 }
 
@@ -174,9 +174,9 @@ fn line_of_two(a: u8, b: u8) -> [u8; 7]
 fn line_of_three(a: u8, b: u8, c: u8) -> [u8; 10]
     ensures { result ≡ spaced_hex (a ∷ b ∷ c ∷ []) ++ 10 ∷ [] }
 {
-    let [s, t] = pair(a);
-    let [u, v] = pair(b);
-    let [w, x] = pair(c);
+    let [s, t] = hex_of(a);
+    let [u, v] = hex_of(b);
+    let [w, x] = hex_of(c);
     [b' ', s, t, b' ', u, v, b' ', w, x, b'\n']
 }
 
@@ -208,9 +208,9 @@ pub fn overwrite(text: &mut Vec<u8>, at: usize, bytes: &[u8])
     text[at..at + bytes.len()].copy_from_slice(bytes);
 }
 
-/// The two digits of a byte.
+/// The two upper-case digits of a byte.
 #[inline(always)]
-fn pair(byte: u8) -> [u8; 2]
+pub fn hex_of(byte: u8) -> [u8; 2]
     ensures { result ≡ in_hex (byte ∷ []) }
 {
     let at = byte as usize * 4;

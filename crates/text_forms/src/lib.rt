@@ -9,4 +9,6 @@ mod tests;
 
 pub use address::push_port_addr;
 pub use decimal::push_decimal;
-pub use hex::{overwrite, overwrite_spaced_line, push_hex_line, push_spaced, push_spaced_line};
+pub use hex::{
+    hex_of, overwrite, overwrite_spaced_line, push_hex_line, push_spaced, push_spaced_line,
+};

@@ -79,8 +79,8 @@ fn print_file<W: Sink>(alloc: Global, file: &SmfFile<'_>, out: &mut W) -> Result
     flush(&mut text, out)
 }
 
-/// Adds the line on a file's header.
-fn push_head(file: &SmfFile<'_>, text: &mut Vec<u8>) -> Result<(), OutOfMemory>
+/// Adds the line on a file's header: its format, its number of tracks and its division word.
+pub fn push_head(file: &SmfFile<'_>, text: &mut Vec<u8>) -> Result<(), OutOfMemory>
     ensures { OnOk result (text.new.items ≡ text.old.items ++ head_line file.now) }
 {
     text.extend_from_slice(b"format ")?;

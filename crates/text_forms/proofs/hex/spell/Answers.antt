@@ -8,5 +8,5 @@ loop-i-preserved c =
     let room : 3 * c.loop-i.i + 2 < length c.loop-i.digits = omega arith in
     record {
       spaces = spaces_stay c.loop-i.digits c.loop-i.i _ _ was.spaces room;
-      spelled = spelled_more c.loop-i.digits c.loop-i.i _ _ was.spaces room c.args.bytes.now (omega arith) (pair_is _ _ c.pair.ensures) was.spelled;
+      spelled = spelled_more c.loop-i.digits c.loop-i.i _ _ was.spaces room c.args.bytes.now (omega arith) (pair_is _ _ c.hex_of.ensures) was.spelled;
     }
