@@ -82,7 +82,7 @@ _midiseq() {
             ;;
         dump)
             if [[ $word == -?* ]]; then
-                mapfile -t COMPREPLY < <(compgen -W '--help' -- "$word")
+                mapfile -t COMPREPLY < <(compgen -W '--all --help' -- "$word")
             else
                 _midiseq_files "$word" .mid .MID .midi
             fi

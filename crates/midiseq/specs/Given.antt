@@ -34,7 +34,7 @@ use Rattle.program_tasks.specs.Subcommands.{IsRunPrinted, IsRunStreamed, IsRunEx
 use Rattle.program_tasks.specs.Tasks.{IsDone}
 use Rattle.program_tasks.specs.Times.{end_said}
 use Rattle.program_tasks.specs.declared.choice.Task.{Task}
-use Rattle.program_tasks.specs.Program.{tool_name, IsNamedBy}
+use Rattle.program_tasks.specs.Program.{IsToolNamed, IsNamedBy}
 
 -- the first value of an option, and no text where it has none
 abbrev pub text_of : Found → List ℕ → List ℕ
@@ -284,15 +284,17 @@ module _ {R W : Type 0} (IsOpened : List ℕ → R → Type 0) (HasLeft : R → 
     pub recorded : EndsRecorded IsBegun HasTaken IsStored HasTold found session recording
         before after ended
 
--- The tool of this name has done its work on the stream that the word FILE names, or without one on
--- standard input.
+-- The tool of this name, with or without --all, has done its work on the stream that the word FILE
+-- names, or without one on standard input.
 pub record ToolDoesAsGiven {R I W : Type 0} (IsOpened : List ℕ → R → Type 0)
     (HasLeft : R → List ℕ → Type 0)
     (HasInput : I → List ℕ → Type 0) (HasTaken : W → List ℕ → Type 0) (name : List ℕ)
     (found : Found)
     (before after : I) (old new : W) : Type 0 where
   pub task : Task
-  pub tool : tool_name task.tool ≡ name
+  pub all : Bool
+  pub all_flag : IsFlag found (codes "all") all
+  pub tool : IsToolNamed task.tool name all
   pub stream : IsNamedBy task.stream (unwrap_or (first_value found (codes "FILE")) (codes "-"))
   pub done : IsDone IsOpened HasLeft HasInput HasTaken task before after old new
 

@@ -25,8 +25,8 @@ use Rattle.program_tasks.specs.declared.choice.Task.{Task}
 use Rattle.program_tasks.specs.declared.choice.Tool.{Tool}
 use Rattle.program_tasks.specs.declared.program_fault.ProgramFault.{ProgramFault}
 use Rattle.program_tasks.specs.declared.program_fault.ProgramFault.TheVariants.{NoSubcommand, NotAClient, NotAForm, NotAPort}
-use Rattle.program_tasks.specs.Program.{tool_name, IsNamedBy, IsReasoned}
-use Rattle.midiseq.specs.Given.{text_of, IsAsked, IsEndGiven, IsGiven, IsQuestionGiven, IsLogFolderGiven, AreGridWords, IsRecordingGiven, IsOfTool}
+use Rattle.program_tasks.specs.Program.{tool_name, IsToolNamed, IsNamedBy, IsReasoned}
+use Rattle.midiseq.specs.Given.{text_of, IsFlag, IsAsked, IsEndGiven, IsGiven, IsQuestionGiven, IsLogFolderGiven, AreGridWords, IsRecordingGiven, IsOfTool}
 
 -- The word for the session's end says none.
 pub record IsOfEndWord (found : Found) (fault : ProgramFault) : Type 0 where
@@ -198,7 +198,7 @@ pub record IsToldOf (IsStanding : List ℕ → Standing → Type 0) (found : Fou
   pub why : P fault
   pub is : IsToldAsAsked IsStanding found fault told
 
--- The tool of this name stopped over the stream that FILE names.
+-- The tool of this name, with or without --all, stopped over the stream that FILE names.
 pub record IsToolStopped {R I : Type 0} (IsOpened : List ℕ → R → Type 0)
     (CannotOpen : List ℕ → Type 0)
     (HasLeft : R → List ℕ → Type 0) (failed : R → Bool) (HasInput : I → List ℕ → Type 0)
@@ -206,7 +206,9 @@ pub record IsToolStopped {R I : Type 0} (IsOpened : List ℕ → R → Type 0)
     (stuck : Type 0) (name : List ℕ) (found : Found) (before after : I)
     (fault : ProgramFault) : Type 0 where
   pub task : Task
-  pub tool : tool_name task.tool ≡ name
+  pub all : Bool
+  pub all_flag : IsFlag found (codes "all") all
+  pub tool : IsToolNamed task.tool name all
   pub stream : IsNamedBy task.stream (unwrap_or (first_value found (codes "FILE")) (codes "-"))
   pub told : IsToolFault IsOpened CannotOpen HasLeft failed HasInput input_failed stuck task before
       after

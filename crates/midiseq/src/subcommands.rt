@@ -86,7 +86,8 @@ fn answer_lines<'a, S: FileStore, I: Source, W: Sink, N: Notes>(
     program_tasks::live(alloc, store, found.get_str("dir"), input, out, notes)
 }
 
-/// Does what a tool's subcommand says: on the stream that the word FILE names, and without one on standard input.
+/// Does what a tool's subcommand says, with --all or without it: on the stream that the word FILE names, and without
+/// one on standard input.
 fn perform_tool<'a, S: FileStore, I: Source, W: Sink>(
     alloc: Global,
     store: &S,
@@ -105,7 +106,7 @@ fn perform_tool<'a, S: FileStore, I: Source, W: Sink>(
         input.old input.new e) }
 {
     let file = found.get_str("FILE").unwrap_or(STANDARD);
-    match Task::of_words(name, file) {
+    match Task::of_words(name, found.get_flag("all"), file) {
         Some(task) => program_tasks::perform(alloc, store, task, input, out),
         None => Err(ProgramFault::NoSubcommand),
     }

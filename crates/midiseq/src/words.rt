@@ -22,7 +22,9 @@ Examples:
   midiseq wire keys.raw
       prints the messages of keys.raw, and then the stream written anew
   midiseq dump song.mid
-      prints the tempos and the events of the file song.mid
+      prints the tempos and the messages of the file song.mid
+  midiseq dump --all song.mid
+      prints every event of it, track by track
   midiseq run --for 1s --strict 128=keys.txt 129=synth.txt
       runs two scripts for a second, and prints the log of each client
   midiseq record --to-end --strict --port 129:0 --out take.mid 128=keys.txt \\
@@ -86,11 +88,22 @@ A file that is damaged, too large (more than 16,777,216 bytes) or of format 2
 prints nothing; its fault is a line of a number, a name and the byte or the
 track where it stands, as in `midiseq: 12 NoStatus 30`.
 
-Example:
+With --all it prints every event, track by track. Below the first line comes a
+line `track T` for each track, from 0, and below it a line `TICK EVENT` for each
+of its events: a message of a channel in hexadecimal; F0 or F7 and the bytes
+that its length counts; or a meta event by its name, its text between quotation
+marks and its numbers in decimal, as in `0 name \"Bass\"`, `0 time 4 2 24 8`,
+`0 key -3 0` or `960 end`. One that has no name, or not the length that its name
+asks for, is `meta TYPE` and its bytes in hexadecimal.
+
+Examples:
   midiseq dump song.mid
       prints `format 0 tracks 1 division 480`, `tempo 0 500000`, `0 90 3C 40`,
       `480 90 3C 00` and `skipped 0`, each on a line, for one note that sounds
-      for a quarter note";
+      for a quarter note
+  midiseq dump --all song.mid
+      prints `format 0 tracks 1 division 480`, `track 0`, `0 90 3C 40`,
+      `480 90 3C 00` and `480 end` for the same file";
 
 const RUN_HELP: &str = "\
 Each CLIENT=PATH is a client, 128 to 191, and the file of its script. A script
@@ -625,12 +638,20 @@ fn wire<'a>(alloc: Global) -> Result<Command<'a>, AllocError> {
         .arg(file)
 }
 
+fn all<'a>(alloc: Global) -> Arg<'a> {
+    Arg::new(alloc, "all")
+        .long("all")
+        .action(ArgAction::SetTrue)
+        .help("every event, track by track, with the meta events by name")
+}
+
 fn dump<'a>(alloc: Global) -> Result<Command<'a>, AllocError> {
     let file = Arg::new(alloc, "FILE")
         .required(true)
         .help("a Standard MIDI File (.mid), or - for standard input");
     Command::new(alloc, "dump")
-        .about("Reads a Standard MIDI File, and prints its tempos and its events")
+        .about("Reads a Standard MIDI File, and prints its tempos and its messages, or all of it")
         .after_help(DUMP_HELP)
+        .arg(all(alloc))?
         .arg(file)
 }

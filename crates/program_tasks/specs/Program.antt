@@ -12,7 +12,7 @@ use Rattle.file_store.specs.declared.standing.Standing.TheVariants.{Nothing, Fol
 use Rattle.program_tasks.specs.declared.answer.CircleAnswer.{CircleAnswer}
 use Rattle.program_tasks.specs.declared.answer.CircleAnswer.TheVariants as circle
 use Rattle.program_tasks.specs.declared.choice.Tool.{Tool}
-use Rattle.program_tasks.specs.declared.choice.Tool.TheVariants.{Thru, Wire, Dump}
+use Rattle.program_tasks.specs.declared.choice.Tool.TheVariants.{Thru, Wire, Dump, DumpAll}
 use Rattle.program_tasks.specs.declared.choice.Stream.{Stream}
 use Rattle.program_tasks.specs.declared.choice.Stream.TheVariants.{Standard, Path}
 use Rattle.program_tasks.specs.declared.ending.Ended.{Ended}
@@ -31,6 +31,14 @@ abbrev pub tool_name : Tool → List ℕ
 tool_name Thru = codes "thru"
 tool_name Wire = codes "wire"
 tool_name Dump = codes "dump"
+tool_name DumpAll = codes "dump"
+
+-- the word and the flag `all` name the tool; the flag says something to `dump` alone
+abbrev pub IsToolNamed : Tool → List ℕ → Bool → Type 0
+IsToolNamed Thru word all = word ≡ codes "thru"
+IsToolNamed Wire word all = word ≡ codes "wire"
+IsToolNamed Dump word all = (word ≡ codes "dump") × (all ≡ false)
+IsToolNamed DumpAll word all = (word ≡ codes "dump") × (all ≡ true)
 
 -- the word that names a stream
 abbrev pub stream_name : Stream → List ℕ

@@ -1,13 +1,14 @@
 -- Definition: What the tools print, and what they tell.
 use Rattle.std.specs.Prelude.{ℕ, List}
 use Rattle.program_tasks.specs.declared.choice.Tool.{Tool}
-use Rattle.program_tasks.specs.declared.choice.Tool.TheVariants.{Thru, Wire, Dump}
+use Rattle.program_tasks.specs.declared.choice.Tool.TheVariants.{Thru, Wire, Dump, DumpAll}
 use Rattle.tool_text.specs.declared.fault.ToolFault.{ToolFault}
 use Rattle.tool_text.specs.Faults.{IsOfStream}
 use Rattle.tool_text.specs.Stream.{IsRendered, IsRenderedInPart}
 use Rattle.tool_text.specs.Thru.{thru_text}
 use Rattle.tool_text.specs.Wire.{wire_text}
 use Rattle.tool_text.specs.Dump.{IsDumped, IsDumpedInPart, TellsFault}
+use Rattle.smf_text.specs.AllDumped.{IsAllDumped, IsAllDumpedInPart}
 
 -- the source was read to its end, and the sink took what the tool prints for what the reads gave
 abbrev pub IsPrinted : {R W : Type 0} →
@@ -18,6 +19,8 @@ IsPrinted HasLeft HasTaken Wire before after old new =
     IsRendered HasLeft HasTaken wire_text before after old new
 IsPrinted HasLeft HasTaken Dump before after old new =
     IsDumped HasLeft HasTaken before after old new
+IsPrinted HasLeft HasTaken DumpAll before after old new =
+    IsAllDumped HasLeft HasTaken before after old new
 
 -- the sink took the first part of what the tool prints for what the reads gave, or for a first part
 -- of that
@@ -29,6 +32,8 @@ IsPrintedInPart HasLeft HasTaken Wire before after old new =
     IsRenderedInPart HasLeft HasTaken wire_text before after old new
 IsPrintedInPart HasLeft HasTaken Dump before after old new =
     IsDumpedInPart HasLeft HasTaken before after old new
+IsPrintedInPart HasLeft HasTaken DumpAll before after old new =
+    IsAllDumpedInPart HasLeft HasTaken before after old new
 
 -- a fault that the tool may tell of what the reads gave: one of a file only where it reads a file,
 -- and then the bytes' own
@@ -36,3 +41,4 @@ abbrev pub MayTell : {R : Type 0} → (R → List ℕ → Type 0) → Tool → R
 MayTell HasLeft Thru before after fault = IsOfStream fault
 MayTell HasLeft Wire before after fault = IsOfStream fault
 MayTell HasLeft Dump before after fault = TellsFault HasLeft before after fault
+MayTell HasLeft DumpAll before after fault = TellsFault HasLeft before after fault

@@ -6,12 +6,13 @@ ghost use Rattle.byte_io.specs.Moved.{GaveSome};
 ghost use Rattle.smf_grammar.specs.declared.fault.SmfFault.TheVariants as smf;
 ghost use Rattle.smf_grammar.specs.Chunks.{most_bytes};
 ghost use Rattle.program_tasks.specs.declared.choice.Tool.{Tool};
-ghost use Rattle.program_tasks.specs.Program.{tool_name, stream_name, IsNamedBy};
+ghost use Rattle.program_tasks.specs.Program.{tool_name, stream_name, IsNamedBy, IsToolNamed};
 ghost use Rattle.tool_text.specs.Faults.{blames_sink};
 ghost use Rattle.tool_text.specs.Stream.{GaveTooMany};
 ghost use Rattle.program_tasks.specs.Tools.{IsPrinted, IsPrintedInPart, MayTell};
 
 use byte_io::{Sink, Source};
+use smf_text::dump_all_text;
 use std::alloc::Global;
 use tool_text::{ToolFault, dump_text, thru_text, wire_text};
 
@@ -25,8 +26,10 @@ pub enum Tool {
     Thru,
     /// MIDI bytes are read and written back.
     Wire,
-    /// A Standard MIDI File is printed.
+    /// The tempos and the messages of a Standard MIDI File are printed.
     Dump,
+    /// All that a Standard MIDI File says is printed.
+    DumpAll,
 }
 
 /// Where the bytes come from.
@@ -46,20 +49,21 @@ pub struct Task<'a> {
 }
 
 impl Tool {
-    /// The tool with this name.
-    pub fn named(command: &str) -> Option<Tool>
-        ensures named { IfSome result (λ t. tool_name t ≡ command.now) }
+    /// The tool with this name. Where `is_all` is given, `dump` prints all that a file says.
+    pub fn named(command: &str, is_all: bool) -> Option<Tool>
+        ensures named { IfSome result (λ t. IsToolNamed t command.now is_all) }
         ensures unknown { IfNone result ((t : Tool) → tool_name t ≢ command.now) }
     {
         match command {
             "thru" => Some(Tool::Thru),
             "wire" => Some(Tool::Wire),
-            "dump" => Some(Tool::Dump),
+            "dump" => Some(if is_all { Tool::DumpAll } else { Tool::Dump }),
             _ => None,
         }
     }
 
-    /// Prints what the tool makes of the bytes that `input` gives, as `thru_text`, `wire_text` and `dump_text` do.
+    /// Prints what the tool makes of the bytes that `input` gives, as `thru_text`, `wire_text`, `dump_text` and
+    /// `dump_all_text` do.
     ///
     /// At a fault the sink has taken the first part of the text.
     pub fn print<R: Source, W: Sink>(
@@ -88,6 +92,7 @@ impl Tool {
             Tool::Thru => thru_text(alloc, input, out),
             Tool::Wire => wire_text(alloc, input, out),
             Tool::Dump => dump_text(alloc, input, out),
+            Tool::DumpAll => dump_all_text(alloc, input, out),
         }
     }
 }
@@ -126,13 +131,14 @@ impl<'a> Task<'a> {
         }
     }
 
-    /// What a command says to do with a FILE, if there is such a command.
-    pub fn of_words(command: &str, file: &'a str) -> Option<Task<'a>>
-        ensures tool { IfSome result (λ c. tool_name c.tool ≡ command.now) }
+    /// What a command says to do with a FILE, if there is such a command. Where `is_all` is given, `dump` prints all
+    /// that the file says.
+    pub fn of_words(command: &str, is_all: bool, file: &'a str) -> Option<Task<'a>>
+        ensures tool { IfSome result (λ c. IsToolNamed c.tool command.now is_all) }
         ensures stream { IfSome result (λ c. IsNamedBy c.stream file.now) }
         ensures unknown { IfNone result ((t : Tool) → tool_name t ≢ command.now) }
     {
-        let tool = Tool::named(command)?;
+        let tool = Tool::named(command, is_all)?;
         Some(Task {
             tool,
             stream: Stream::named(file),

@@ -2,8 +2,8 @@
 //! status of each fault.
 //!
 //! `run` is what `midiseq run` does, and `explain` what it does where it explains; `record` what `midiseq record` does,
-//! `circle` what `midiseq circle` does, `live` what `midiseq live` does, and `perform` what the tools do, over every store
-//! of files: from the files that the words name to the text that is printed, or to the file that is written.
+//! `circle` what `midiseq circle` does, `live` what `midiseq live` does, and `perform` what the tools do, over every
+//! store of files: from the files that the words name to the text that is printed, or to the file that is written.
 #![tactic(auto)]
 
 mod answer;

@@ -190,8 +190,8 @@ pub fn why<'a, S: FileStore, W: Sink, N: Notes>(
     print_why(alloc, store, session, &named(&opened), question, out)
 }
 
-/// Answers the lines that `input` gives, each as soon as it was read, as `live_text` does. Clients may play the files of
-/// the folder.
+/// Answers the lines that `input` gives, each as soon as it was read, as `live_text` does. Clients may play the files
+/// of the folder.
 ///
 /// Tells first which files of the folder are left out.
 pub fn live<'a, S: FileStore, I: Source, W: Sink, N: Notes>(

@@ -1,10 +1,10 @@
 //! What a tool prints of bytes in memory.
 
-ghost use Rattle.std.specs.Prelude.{◌≡◌, ◌≤◌, length, IfOk, IfErr, IsErr, OnOk};
+ghost use Rattle.std.specs.Prelude.{◌≡◌, ◌≤◌, length, IfOk, IfErr, IsErr, IsTrue, OnOk};
 ghost use Rattle.smf_grammar.specs.declared.fault.SmfFault.{SmfFault};
 ghost use Rattle.smf_grammar.specs.Chunks.{most_bytes};
 ghost use Rattle.smf_grammar.specs.Files.{Fault};
-ghost use Rattle.test_tools.specs.Texts.{IsTextOf, IsFaultOf};
+ghost use Rattle.test_tools.specs.Texts.{IsTextOf, reads_file, IsFaultOf};
 
 use byte_io::{MemSink, MemSource};
 use program_tasks::Tool;
@@ -16,7 +16,8 @@ pub fn printed(alloc: Global, tool: Tool, bytes: &[u8]) -> Result<Vec<u8>, ToolF
     ensures text { IfOk result (λ text. IsTextOf tool bytes.now text.items) }
     ensures bounded { OnOk result (length bytes.now ≤ most_bytes) }
     ensures told { IfErr result (IsFaultOf tool bytes.now) }
-    ensures refused { tool ≡ Tool.Dump → (x : SmfFault) → Fault bytes.now x → IsErr result }
+    ensures refused { IsTrue (reads_file tool) → (x : SmfFault) → Fault bytes.now x
+        → IsErr result }
 {
     let mut input = MemSource::new(Vec::from_slice(alloc, bytes)?);
     let mut out = MemSink::new(alloc, 0)?;

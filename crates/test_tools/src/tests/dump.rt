@@ -47,10 +47,48 @@ const DUMPS: &[(&'static [u8], &'static [u8])] = &[
     ),
 ];
 
+/// A name with a quotation mark and a byte that is no visible character, the meta events that are numbers, one of the
+/// sequencer's own, one without a name and one of a length that its type has not; a note, a program, and the end late.
+const METAS: &[u8] = &[
+    0x4D, 0x54, 0x68, 0x64, 0x00, 0x00, 0x00, 0x06, 0x00, 0x00, 0x00, 0x01, 0x00, 0x60, 0x4D, 0x54,
+    0x72, 0x6B, 0x00, 0x00, 0x00, 0x46, 0x00, 0xFF, 0x03, 0x06, 0x4C, 0x61, 0x22, 0x20, 0xE9, 0x0A,
+    0x00, 0xFF, 0x00, 0x02, 0x01, 0x00, 0x00, 0xFF, 0x58, 0x04, 0x06, 0x03, 0x24, 0x08, 0x00, 0xFF,
+    0x59, 0x02, 0xFD, 0x01, 0x00, 0xFF, 0x54, 0x05, 0x41, 0x00, 0x03, 0x00, 0x28, 0x00, 0xFF, 0x7F,
+    0x02, 0x43, 0x00, 0x00, 0xFF, 0x60, 0x01, 0x05, 0x00, 0xFF, 0x51, 0x01, 0x07, 0x00, 0xC5, 0x07,
+    0x60, 0x90, 0x3C, 0x40, 0x00, 0x3C, 0x00, 0x82, 0x00, 0xFF, 0x2F, 0x00,
+];
+
+/// A file, and all that it says.
+const ALL_DUMPS: &[(&'static [u8], &'static [u8])] = &[
+    (
+        &FRAMES,
+        b"format 0 tracks 1 division 59176\ntrack 0\n0 tempo 500000\n0 90 3C 40\n\
+            480 90 3C 00\n480 end\n",
+    ),
+    (
+        &EXCLUSIVES,
+        b"format 0 tracks 1 division 480\ntrack 0\n0 F0 7D 01 F7\n0 F0 7D 01\n0 F7 F8\n0 end\n",
+    ),
+    (
+        &TWO_TRACKS,
+        b"format 1 tracks 2 division 96\ntrack 0\n0 tempo 250000\n96 90 01 40\n96 end\n\
+            track 1\n96 90 02 40\n96 tempo 500000\n96 90 03 40\n96 end\n",
+    ),
+    (
+        METAS,
+        b"format 0 tracks 1 division 96\ntrack 0\n0 name \"La\\x22 \\xE9\\x0A\"\n0 sequence 256\n\
+            0 time 6 3 36 8\n0 key -3 1\n0 smpte 65 0 3 0 40\n0 sequencer 43 00\n0 meta 60 05\n\
+            0 meta 51 07\n0 C5 07\n96 90 3C 40\n96 90 3C 00\n352 end\n",
+    ),
+];
+
 #[test]
 fn dumps_files(rt: HostRuntime) -> Result<(), Fail> {
     for (file, text) in DUMPS {
         assert!(rt; printed(rt.alloc(), Tool::Dump, file)?.as_slice() == *text);
+    }
+    for (file, text) in ALL_DUMPS {
+        assert!(rt; printed(rt.alloc(), Tool::DumpAll, file)?.as_slice() == *text);
     }
     Ok(())
 }

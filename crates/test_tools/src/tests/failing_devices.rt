@@ -27,6 +27,9 @@ pub(super) const SMALL: &[u8] = &[
 const DUMPED: &[u8] =
     b"format 0 tracks 1 division 480\ntempo 0 500000\n0 90 3C 40\n480 90 3C 00\nskipped 0\n";
 
+const ALL_DUMPED: &[u8] =
+    b"format 0 tracks 1 division 480\ntrack 0\n0 tempo 500000\n0 90 3C 40\n480 90 3C 00\n480 end\n";
+
 fn source(alloc: Global, bytes: &[u8]) -> Result<MemSource, OutOfMemory>
     ensures { IfOk result (λ s. s.broken ≡ false) }
 {
@@ -76,7 +79,8 @@ fn assert_reads(
         let outcome = tool.print(alloc, &mut input, &mut out);
         assert!(rt; outcome == Err(ToolFault::Read));
         assert!(rt; text.starts_with(out.bytes()));
-        assert!(rt; tool != Tool::Dump || out.bytes().is_empty());
+        let is_stream = tool == Tool::Thru || tool == Tool::Wire;
+        assert!(rt; is_stream || out.bytes().is_empty());
     }
     let mut input = source(alloc, bytes)?;
     input.fail_at(reads);
@@ -98,7 +102,8 @@ fn each_write_of_wire_fails(rt: HostRuntime) -> Result<(), Fail> {
 
 #[test]
 fn each_write_of_dump_fails(rt: HostRuntime) -> Result<(), Fail> {
-    assert_writes(&rt, rt.alloc(), Tool::Dump, SMALL, DUMPED)
+    assert_writes(&rt, rt.alloc(), Tool::Dump, SMALL, DUMPED)?;
+    assert_writes(&rt, rt.alloc(), Tool::DumpAll, SMALL, ALL_DUMPED)
 }
 
 /// So many notes under one status. They are read in pieces of 4,096 bytes, of which the first ends within a note.
@@ -180,5 +185,6 @@ fn each_read_of_dump_fails(rt: HostRuntime) -> Result<(), Fail> {
     let alloc = rt.alloc();
     let mut file = Vec::from_slice(alloc, SMALL)?;
     file.resize(20_000, 0)?;
-    assert_reads(&rt, alloc, Tool::Dump, file.as_slice(), 4, DUMPED)
+    assert_reads(&rt, alloc, Tool::Dump, file.as_slice(), 4, DUMPED)?;
+    assert_reads(&rt, alloc, Tool::DumpAll, file.as_slice(), 4, ALL_DUMPED)
 }

@@ -134,19 +134,24 @@ fn keeps_a_path_in_one_line(rt: HostRuntime) -> Result<(), Fail> {
 
 #[test]
 fn chooses_by_words(rt: HostRuntime) {
-    let thru = Task::of_words("thru", STANDARD);
+    let thru = Task::of_words("thru", false, STANDARD);
     assert!(rt; thru == Some(Task::without_words()));
     let wire = Task {
         tool: Tool::Wire,
         stream: Stream::Path("keys.raw"),
     };
-    assert!(rt; Task::of_words("wire", "keys.raw") == Some(wire));
+    assert!(rt; Task::of_words("wire", true, "keys.raw") == Some(wire));
     let dump = Task {
         tool: Tool::Dump,
         stream: Stream::Standard,
     };
-    assert!(rt; Task::of_words("dump", "-") == Some(dump));
-    assert!(rt; Task::of_words("play", "-") == None);
+    assert!(rt; Task::of_words("dump", false, "-") == Some(dump));
+    let all = Task {
+        tool: Tool::DumpAll,
+        stream: Stream::Standard,
+    };
+    assert!(rt; Task::of_words("dump", true, "-") == Some(all));
+    assert!(rt; Task::of_words("play", true, "-") == None);
 }
 
 #[test]
