@@ -1,0 +1,9 @@
+pub mod SaidEvents
+pub mod SaidFiles
+pub mod Faults
+pub mod Words
+pub mod Events
+pub mod WrittenParts
+pub mod Making
+pub mod Laws
+pub mod Rows

@@ -1,0 +1,66 @@
+//! A file made of a text once, and its faults as they are printed.
+
+use crate::{Expected, MakeFault, Maker, make_file};
+use std::test::Fail;
+
+/// Most of the example of Standard MIDI Files 1.0, "Program Fragments and Example MIDI Files", with a text.
+const TEXT: &[u8] = b"format 0 tracks 1 division 96\r\n# An example\ntrack 0\n0 time 4 2 24 8\n\
+    0 tempo 500000\n0 C0 05\n0 C1 2e\n0 92 30 60\n0 92 3C 60\n96 91 43 40\n\
+    192  90 4C 20\n384 text \"a \\x22b\\x22\"\n384 82 30 40\n384 82 3C 40\n384 end\n";
+
+const FILE: &[u8] = b"MThd\x00\x00\x00\x06\x00\x00\x00\x01\x00\x60MTrk\x00\x00\x00\x39\
+    \x00\xFF\x58\x04\x04\x02\x18\x08\x00\xFF\x51\x03\x07\xA1\x20\x00\xC0\x05\x00\xC1\x2E\
+    \x00\x92\x30\x60\x00\x3C\x60\x60\x91\x43\x40\x60\x90\x4C\x20\
+    \x81\x40\xFF\x01\x05a \"b\"\x00\x82\x30\x40\x00\x3C\x40\x00\xFF\x2F\x00";
+
+#[test]
+fn makes_a_file(rt: HostRuntime) -> Result<(), Fail> {
+    let Ok(bytes) = make_file(rt.alloc(), TEXT) else {
+        return Err(Fail::new("no file"));
+    };
+    assert!(rt; bytes.as_slice() == FILE);
+    Ok(())
+}
+
+#[test]
+fn makes_a_file_line_by_line(rt: HostRuntime) -> Result<(), Fail> {
+    let mut maker = Maker::new(rt.alloc());
+    for line in [
+        b"format 1 tracks 2 division 480".as_slice(),
+        b"track 0".as_slice(),
+        b"0 C0 05".as_slice(),
+        b"128 end".as_slice(),
+        b"track 1".as_slice(),
+        b"0 C0 05".as_slice(),
+        b"0 end".as_slice(),
+    ] {
+        maker = match maker.line(line) {
+            Ok(maker) => maker,
+            Err(_) => return Err(Fail::new("a line was refused")),
+        };
+    }
+    let Ok(bytes) = maker.finish() else {
+        return Err(Fail::new("no file"));
+    };
+    assert!(rt;
+        bytes.as_slice()
+            == b"MThd\x00\x00\x00\x06\x00\x01\x00\x02\x01\xE0MTrk\x00\x00\x00\x08\x00\xC0\x05\
+                \x81\x00\xFF\x2F\x00MTrk\x00\x00\x00\x07\x00\xC0\x05\x00\xFF\x2F\x00"
+                .as_slice()
+    );
+    Ok(())
+}
+
+#[test]
+fn tells_a_fault(rt: HostRuntime) -> Result<(), Fail> {
+    let text = b"format 1 tracks 2 division 96\n\ntrack 0\n5 end\ntrack 2\n";
+    let fault = match make_file(rt.alloc(), text) {
+        Ok(_) => return Err(Fail::new("a file")),
+        Err(fault) => fault,
+    };
+    let expected = Expected::Track(1);
+    assert!(rt; fault == MakeFault::Line { line: 5, expected });
+    let printed = format!(in rt.alloc(); "{fault}")?;
+    assert!(rt; printed.as_str() == "line 5: expected the line of track 1");
+    Ok(())
+}

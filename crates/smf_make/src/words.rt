@@ -1,0 +1,72 @@
+//! The words of a line, one after another.
+
+ghost use Rattle.std.specs.Prelude.{◌≡◌, ◌≤◌, ◌<◌, ◌∷◌, [], length, IfSome, IfNone};
+ghost use Rattle.std.specs.List.{position, position_or_len};
+ghost use Rattle.script_text.specs.Words.{is_blank, words, without_return};
+ghost use Rattle.smf_make.specs.SaidEvents.{unindented, behind_word, is_passed_over};
+
+fn is_blank(byte: u8) -> bool
+    ensures { result ≡ is_blank byte }
+{
+    byte == b' ' || byte == b'\t'
+}
+
+/// The line without a carriage return at its end.
+pub(crate) fn without_return(line: &[u8]) -> &[u8]
+    ensures { result.now ≡ without_return line.now }
+{
+    if !line.is_empty() && line[line.len() - 1] == b'\r' {
+        return &line[..line.len() - 1];
+    }
+    line
+}
+
+/// What stands behind the blanks at the front.
+pub(crate) fn unindented(line: &[u8]) -> &[u8]
+    ensures value { result.now ≡ unindented line.now }
+    ensures within { length result.now ≤ length line.now }
+{
+    let mut left = line;
+    while let [b' ' | b'\t', rest @ ..] = left {
+        left = rest;
+    }
+    left
+}
+
+fn first_blank(bytes: &[u8]) -> Option<usize>
+    ensures { result ≡ position is_blank bytes.now }
+{
+    bytes.iter().position(|b| is_blank(*b))
+}
+
+/// How long the word at the front is.
+fn word_len(bytes: &[u8]) -> usize
+    ensures value { result ≡ position_or_len is_blank bytes.now }
+    ensures within { result ≤ length bytes.now }
+{
+    first_blank(bytes).unwrap_or(bytes.len())
+}
+
+/// The first word, and what stands behind it.
+pub(crate) fn split_word(line: &[u8]) -> Option<(&[u8], &[u8])>
+    ensures some { IfSome result (λ w. words line.now ≡ w.0.now ∷ words w.1.now) }
+    ensures behind { IfSome result (λ w. w.1.now ≡ behind_word line.now) }
+    ensures shorter { IfSome result (λ w. length w.1.now < length line.now) }
+    ensures none { IfNone result (words line.now ≡ []) }
+{
+    let text = unindented(line);
+    if text.is_empty() {
+        return None;
+    }
+    Some(text.split_at(word_len(text)))
+}
+
+/// Whether a line has no words, or is a remark.
+pub(crate) fn is_passed_over(line: &[u8]) -> bool
+    ensures { result ≡ is_passed_over line.now }
+{
+    match split_word(line) {
+        Some(([b'#', ..], _)) | None => true,
+        Some(_) => false,
+    }
+}
