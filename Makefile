@@ -12,10 +12,11 @@ COMPLETIONS = $(DESTDIR)$(PREFIX)/share/bash-completion/completions
 
 .PHONY: build demo test gate-times check check-docs install uninstall clean
 
-# Proves every crate that the program stands on, and leaves the program as bin/midiseq.
+# Proves every crate that the program stands on, those that do not stand on one another side by side, and leaves the program as bin/midiseq.
 build: $(PROGRAM)
 
 $(PROGRAM): $(shell find crates -name '*.rt' -o -name '*.antt' | grep -v /out/) crates.txt
+	test/prove
 	cd crates/midiseq && rt run < stdin > /dev/null
 	mkdir -p bin
 	cp crates/midiseq/out/midiseq $(PROGRAM)
