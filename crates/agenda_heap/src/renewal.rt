@@ -12,7 +12,7 @@ use std::cmp::Reverse;
 use std::collections::BinaryHeap;
 
 /// How many entries one call makes at most.
-const ENTRIES_AT_A_CALL: usize = 4;
+const ENTRIES_AT_A_CALL: usize = 2;
 
 /// How many slots of the table one call passes at most: more, so that it ends in time where few of them have a cell.
 const SLOTS_AT_A_CALL: usize = 64;
