@@ -1,6 +1,9 @@
 -- Words at the front of a line.
-use Rattle.std.proofs.Common.{◌≡◌, ℕ, ◌+◌, ◌≤◌, Bool, true, false, not, cond, List, [], ◌∷◌, length, take, drop, refl, sym, ap, ◌∙◌, arith}
-use Rattle.std.specs.List.{filter, slice_split, onto_first, position_or_len, prefix_len}
+use Rattle.std.proofs.Common.{◌≡◌, ℕ, ◌+◌, ◌≤◌, Bool, true, false, not, cond, ltb, List, [], ◌∷◌, length, take, drop, get_or, Some, None, refl, sym, ap, ◌∙◌, arith}
+use Rattle.std.specs.Prelude.{nat_le}
+use Rattle.std.specs.List.{filter, slice_split, onto_first, position, position_or_len, prefix_len}
+use Rattle.std.proofs.lemmas.Bool.{ltb-false}
+use Rattle.std.proofs.lemmas.Bool.Decides.{nat_tests}
 use Rattle.std.proofs.lemmas.List.Splits.{slice_split-cons_yes, slice_split-cons_no, length-slice_split}
 use Rattle.std.proofs.lemmas.List.Sums.{length-filter, count_by-le-length}
 use Rattle.script_text.specs.Words.{is_blank, is_empty, words}
@@ -80,3 +83,46 @@ next_word bytes (c ∷ line) word rest n e some f g h =
     ∙ ap (λ k. take k (c ∷ line) ∷ words (drop k (c ∷ line))) (sym f)
     ∙ ap (λ w. w ∷ words (drop n (c ∷ line))) (sym g)
     ∙ ap (λ r. word ∷ words r) (sym h)
+
+-- ---- the first byte that is not above the blanks
+
+above : (b : ℕ) → nat_le b 32 ≡ false → is_blank b ≡ false
+above b e = grind (arith, nat_tests)
+
+low_first : (bytes : List ℕ) → is_blank (get_or bytes (position_or_len (λ b. nat_le b 32) bytes) 0) ≡ true → position_or_len (λ b. nat_le b 32) bytes ≡ position_or_len is_blank bytes
+low_first [] h = refl
+low_first (b ∷ bytes) h = go (nat_le b 32) refl h (low_first bytes)
+  where
+    go : (t : Bool) → nat_le b 32 ≡ t → is_blank (get_or (b ∷ bytes) (cond (not t) (1 + position_or_len (λ b. nat_le b 32) bytes) 0) 0) ≡ true →
+        (is_blank (get_or bytes (position_or_len (λ b. nat_le b 32) bytes) 0) ≡ true → position_or_len (λ b. nat_le b 32) bytes ≡ position_or_len is_blank bytes) →
+        cond (not t) (1 + position_or_len (λ b. nat_le b 32) bytes) 0 ≡ position_or_len is_blank (b ∷ bytes)
+    go true e h more = sym (ap (λ t. cond (not t) (1 + position_or_len is_blank bytes) 0) h)
+    go false e h more =
+        let next : is_blank (get_or bytes (position_or_len (λ b. nat_le b 32) bytes) 0) ≡ true = ap (λ n. is_blank (get_or (b ∷ bytes) n 0)) (sym (one-more (position_or_len (λ b. nat_le b 32) bytes))) ∙ h in
+        ap (λ n. 1 + n) (more next) ∙ sym (ap (λ t. cond (not t) (1 + position_or_len is_blank bytes) 0) (above b e))
+
+none_low : (bytes : List ℕ) → length bytes ≤ position_or_len (λ b. nat_le b 32) bytes → length bytes ≡ position_or_len is_blank bytes
+none_low [] h = refl
+none_low (b ∷ bytes) h = go (nat_le b 32) refl h (none_low bytes)
+  where
+    go : (t : Bool) → nat_le b 32 ≡ t → length (b ∷ bytes) ≤ cond (not t) (1 + position_or_len (λ b. nat_le b 32) bytes) 0 → (length bytes ≤ position_or_len (λ b. nat_le b 32) bytes → length bytes ≡ position_or_len is_blank bytes) → length (b ∷ bytes) ≡ position_or_len is_blank (b ∷ bytes)
+    go true e h more = absurd (omega arith)
+    go false e h more =
+        let rest : length bytes ≡ position_or_len is_blank bytes = more (omega arith) in
+        sym (one-more (length bytes)) ∙ ap (λ n. 1 + n) rest ∙ sym (ap (λ t. cond (not t) (1 + position_or_len is_blank bytes) 0) (above b e))
+
+pub low_place : (bytes : List ℕ) (n : ℕ) → Some n ≡ position (λ b. nat_le b 32) bytes → is_blank (get_or bytes n 0) ≡ true → n ≡ position_or_len is_blank bytes
+low_place bytes n e h =
+    let same : n ≡ position_or_len (λ b. nat_le b 32) bytes = go (ltb (position_or_len (λ b. nat_le b 32) bytes) (length bytes)) e in
+    same ∙ low_first bytes (ap (λ k. is_blank (get_or bytes k 0)) (sym same) ∙ h)
+  where
+    go : (t : Bool) → Some n ≡ cond t (Some (position_or_len (λ b. nat_le b 32) bytes)) None → n ≡ position_or_len (λ b. nat_le b 32) bytes
+    go true e = cc
+    go false e = cc
+
+pub no_low : (bytes : List ℕ) → None ≡ position (λ b. nat_le b 32) bytes → length bytes ≡ position_or_len is_blank bytes
+no_low bytes e = none_low bytes (go (ltb (position_or_len (λ b. nat_le b 32) bytes) (length bytes)) refl e)
+  where
+    go : (t : Bool) → ltb (position_or_len (λ b. nat_le b 32) bytes) (length bytes) ≡ t → None ≡ cond t (Some (position_or_len (λ b. nat_le b 32) bytes)) None → length bytes ≤ position_or_len (λ b. nat_le b 32) bytes
+    go true l e = cc
+    go false l e = ltb-false (position_or_len (λ b. nat_le b 32) bytes) (length bytes) l

@@ -109,7 +109,8 @@ pub(crate) fn due_of(word: &[u8]) -> Option<DueAt>
     }
 }
 
-fn hex_digit(byte: u8) -> Option<u8>
+#[inline]
+pub(crate) fn hex_digit(byte: u8) -> Option<u8>
     ensures { result ≡ says.hex_digit byte }
 {
     match byte {
@@ -120,8 +121,9 @@ fn hex_digit(byte: u8) -> Option<u8>
     }
 }
 
-/// Two hexadecimal digits.
-pub(crate) fn hex_byte(word: &[u8]) -> Option<u8>
+/// The byte that two hexadecimal digits say, in either case.
+#[inline]
+pub fn hex_byte(word: &[u8]) -> Option<u8>
     ensures { result ≡ says.hex_byte word.now }
 {
     if let [high, low] = word {

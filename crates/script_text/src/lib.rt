@@ -20,13 +20,16 @@ mod unread;
 mod word_kind;
 mod words;
 
+pub use address::hex_byte;
 pub use laws::unreadable_lines_have_faults;
+pub use line::without_return;
 pub use line_faults::{LineFault, line_fault};
 pub use line_slices::lines_of;
 pub use live_lines::{LiveLine, live_line};
-pub use number::{client_of, number_of, port_of};
+pub use number::{client_of, number_of, port_of, up_to};
 pub use reading::{ScriptInput, ScriptRead, Skip, SkipReason};
 pub use rows::{worked_faults, worked_scripts};
 pub use said_message::message_of;
 pub use script::{MOST_FILES, MOST_SCRIPT, parse_script};
 pub use word_kind::WordKind;
+pub use words::{is_blank, word_len};

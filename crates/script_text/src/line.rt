@@ -23,8 +23,9 @@ pub(crate) enum Fate {
     Taken(u64, Command),
 }
 
-/// The line without a carriage return at its end.
-pub(crate) fn without_return(line: &[u8]) -> &[u8]
+/// The line without a carriage return at its end. Of two one stays.
+#[inline]
+pub fn without_return(line: &[u8]) -> &[u8]
     ensures { result.now ≡ without_return line.now }
 {
     if !line.is_empty() && line[line.len() - 1] == b'\r' {

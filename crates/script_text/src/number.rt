@@ -1,6 +1,7 @@
 //! Numbers in words.
 
-ghost use Rattle.std.specs.Prelude.{◌≡◌, ◌≤◌, ◌<◌, ◌^◌, ℤ};
+ghost use Rattle.std.specs.Prelude.{◌≡◌, ◌≤◌, ◌<◌, ◌^◌, if◌then◌else◌, ℤ, Some, None, IfSome, length};
+ghost use Rattle.std.specs.List.{list_all};
 ghost use Rattle.script_text.specs.Numbers as says;
 
 use node_table::{
@@ -8,24 +9,52 @@ use node_table::{
 };
 
 /// The number that 1 to 20 decimal digits say, where it fits.
+#[inline]
 pub fn number_of(word: &[u8]) -> Option<u64>
     ensures { result ≡ says.u64 word.now }
 {
-    if word.is_empty() || word.len() > 20 {
-        return None;
+    match word.len() {
+        1..=19 => value_of(word),
+        20 => twenty_digits(word),
+        _ => None,
     }
-    let mut value = 0u64;
+}
+
+/// What digits say. So many fit whatever they are.
+#[inline]
+fn value_of(word: &[u8]) -> Option<u64>
+    requires { length word.now ≤ 19 }
+    ensures value { result ≡
+        (if list_all says.is_digit word.now then Some (says.read_on 0 word.now) else None) }
+    ensures small { IfSome result (λ n. n < 2 ^ 64) }
+{
+    let mut value = 0;
     for byte in word {
         if *byte < b'0' || *byte > b'9' {
             return None;
         }
-        value = value.checked_mul(10)?.checked_add(u64::from(*byte - b'0'))?;
+        value = value * 10 + u64::from(*byte - b'0');
     }
     Some(value)
 }
 
-/// The number that a word says, where it is not greater.
-pub(crate) fn up_to(word: &[u8], most: u64) -> Option<u64>
+/// The number that 20 digits say, where it fits: the last may be too much.
+#[cold]
+#[inline(never)]
+fn twenty_digits(word: &[u8]) -> Option<u64>
+    requires { length word.now ≡ 20 }
+    ensures { result ≡ says.u64 word.now }
+{
+    let (front, last) = word.split_at(19);
+    let value = value_of(front)?;
+    let digit = value_of(last)?;
+    let value = value.checked_mul(10)?.checked_add(digit)?;
+    Some(value)
+}
+
+/// The number that a word says, where it is not greater than `most`.
+#[inline]
+pub fn up_to(word: &[u8], most: u64) -> Option<u64>
     ensures { result ≡ says.up_to most word.now }
 {
     let value = number_of(word)?;

@@ -1,14 +1,15 @@
 //! A cursor over the words of a line.
 
-ghost use Rattle.std.specs.Prelude.{◌≡◌, ◌≤◌, ◌^◌, ◌∷◌, length, [], Some, None, IfSome, IfNone, IfOk, IfErr, IsErrOf, map, OnOk, OnErr, true, false};
+ghost use Rattle.std.specs.Prelude.{◌≡◌, ◌≤◌, ◌<◌, ◌^◌, ℕ, nat_le, ◌∷◌, length, [], Some, None, IfSome, IfNone, IfOk, IfErr, IsErrOf, map, OnOk, OnErr, OnSome, true, false};
 ghost use Rattle.script_text.specs.Words.{is_blank, words};
 ghost use Rattle.std.specs.List.{position, position_or_len, prefix_len};
 ghost use Rattle.script_text.specs.Table.{word_as, no_more, maybe, file};
-ghost use Rattle.script_text.specs.Numbers.{some_bytes};
+ghost use Rattle.std.specs.Option.{option_map};
+ghost use Rattle.script_text.specs.Numbers.{hex_bytes, some_bytes};
 ghost use Rattle.script_text.specs.Numbers as says;
 ghost use Rattle.script_text.specs.declared.script.TheConstants.{MOST_FILES};
 
-use crate::address::{addr_of, due_of, hex_byte, number_of_name, queue_of};
+use crate::address::{addr_of, due_of, hex_byte, hex_digit, number_of_name, queue_of};
 use crate::number::{
     caps_of, filter_of, number_of, port_of, queue_no_of, shift_of, u8_of, u16_of, u32_of,
 };
@@ -37,13 +38,16 @@ impl<'b> Model for Words<'b> {
     ghost view = { λ w. words w.rest.now };
 }
 
-fn is_blank(byte: u8) -> bool
+/// Whether a byte parts words: a space or a tab.
+#[inline]
+pub fn is_blank(byte: u8) -> bool
     ensures { result ≡ is_blank byte }
 {
     byte == b' ' || byte == b'\t'
 }
 
 /// How many blanks stand at the front.
+#[inline]
 fn blanks(bytes: &[u8]) -> usize
     ensures value { result ≡ prefix_len is_blank bytes.now }
     ensures within { result ≤ length bytes.now }
@@ -61,8 +65,33 @@ fn first_blank(bytes: &[u8]) -> Option<usize>
     bytes.iter().position(|b| is_blank(*b))
 }
 
-/// How long the word at the front is.
-fn word_len(bytes: &[u8]) -> usize
+/// The place of the first byte that is not above a space.
+#[inline]
+fn first_low(bytes: &[u8]) -> Option<usize>
+    ensures value { result ≡ position (λ b. nat_le b 32) bytes.now }
+    ensures within { IfSome result (λ n. n < length bytes.now) }
+{
+    bytes.iter().position(|b| *b <= b' ')
+}
+
+/// How long the word at the front is: a line that begins with a blank has one of no bytes.
+#[inline]
+pub fn word_len(bytes: &[u8]) -> usize
+    ensures value { result ≡ position_or_len is_blank bytes.now }
+    ensures within { result ≤ length bytes.now }
+{
+    // Words have few bytes below the blanks: one comparison passes over each other.
+    match first_low(bytes) {
+        Some(place) if !is_blank(bytes[place]) => longer_word_len(bytes),
+        Some(place) => place,
+        None => bytes.len(),
+    }
+}
+
+/// The same, of a word with any bytes.
+#[cold]
+#[inline(never)]
+fn longer_word_len(bytes: &[u8]) -> usize
     ensures value { result ≡ position_or_len is_blank bytes.now }
     ensures within { result ≤ length bytes.now }
 {
@@ -92,6 +121,7 @@ impl<'b> Words<'b> {
     }
 
     /// The next word.
+    #[inline]
     pub(crate) fn word(&mut self) -> Option<&'b [u8]>
         ensures some { IfSome result (λ w. self.old ≡ w.now ∷ self.new) }
         ensures none { IfNone result (self.old ≡ []) }
@@ -103,6 +133,23 @@ impl<'b> Words<'b> {
         let (word, rest) = line.split_at(word_len(line));
         self.rest = rest;
         Some(word)
+    }
+
+    /// The number that the next word says, where it is one digit that single spaces part from the other words.
+    #[inline]
+    fn spaced_digit(&mut self) -> Option<u8>
+        ensures some { IfSome result (λ n. (most : ℕ) → 9 ≤ most
+            → word_as (says.up_to most) self.old ≡ Some (n, self.new)) }
+        ensures small { IfSome result (λ n. n ≤ 9) }
+        ensures none { IfNone result (self.new ≡ self.old) }
+    {
+        if let [b' ', digit @ b'0'..=b'9', rest @ ..] = self.rest {
+            if let [] | [b' ', ..] = rest {
+                self.rest = rest;
+                return Some(*digit - b'0');
+            }
+        }
+        None
     }
 
     /// The next word, whatever it is.
@@ -188,6 +235,9 @@ impl<'b> Words<'b> {
         ensures err { OnErr result (word_as says.node_number self.old ≡ None) }
         ensures only { IfErr result (λ e. e ≡ Unread.Unreadable) }
     {
+        if let Some(digit) = self.spaced_digit() {
+            return PortNo::new(digit).ok_or(Unread::Unreadable);
+        }
         let word = self.word().ok_or(Unread::Unreadable)?;
         let value = port_of(word).ok_or(Unread::Unreadable)?;
         Ok(value)
@@ -287,14 +337,54 @@ impl<'b> Words<'b> {
         }
     }
 
+    /// The byte that the next word says, where single spaces part it from the others, as mostly.
+    #[inline(always)]
+    fn spaced_byte(&mut self) -> Option<u8>
+        ensures some { IfSome result (λ b.
+            hex_bytes self.old ≡ option_map (λ bytes. b ∷ bytes) (hex_bytes self.new)) }
+        ensures shorter { OnSome result (length self.new < length self.old) }
+        ensures none { IfNone result (self.new ≡ self.old) }
+    {
+        if let [b' ', high, low, rest @ ..] = self.rest {
+            if let [] | [b' ', ..] = rest {
+                let high = hex_digit(*high)?;
+                let low = hex_digit(*low)?;
+                self.rest = rest;
+                return Some(high * 16 + low);
+            }
+        }
+        None
+    }
+
+    /// The byte that the next word says, or nothing where no word is left.
+    #[inline(always)]
+    fn next_byte(&mut self) -> Result<Option<u8>, Unread>
+        ensures some { IfOk result (λ next. IfSome next (λ b.
+            hex_bytes self.old ≡ option_map (λ bytes. b ∷ bytes) (hex_bytes self.new))) }
+        ensures shorter { IfOk result (λ next. OnSome next (length self.new < length self.old)) }
+        ensures end { IfOk result (λ next. IfNone next (self.old ≡ [])) }
+        ensures err { OnErr result (hex_bytes self.old ≡ None) }
+        ensures only { IfErr result (λ e. e ≡ Unread.Unreadable) }
+    {
+        if let Some(byte) = self.spaced_byte() {
+            return Ok(Some(byte));
+        }
+        let Some(word) = self.word() else {
+            return Ok(None);
+        };
+        let byte = hex_byte(word).ok_or(Unread::Unreadable)?;
+        Ok(Some(byte))
+    }
+
     /// The bytes that all words say, one or more.
+    // Most messages have three: handing the vector over would cost as much as one of them.
+    #[inline(always)]
     pub(crate) fn bytes(&mut self, alloc: Global) -> Result<SmallVec<u8, SHORT>, Unread>
         ensures ok { IfOk result (λ x. some_bytes self.old ≡ Some x.items) }
         ensures err { IsErrOf result Unread.Unreadable → some_bytes self.old ≡ None }
     {
         let mut bytes = SmallVec::new(alloc);
-        while let Some(word) = self.word() {
-            let byte = hex_byte(word).ok_or(Unread::Unreadable)?;
+        while let Some(byte) = self.next_byte()? {
             bytes.push(byte)?;
         }
         if bytes.is_empty() {

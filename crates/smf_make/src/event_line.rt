@@ -8,12 +8,12 @@ ghost use Rattle.smf_make.specs.SaidEvents.{behind_word, event_by, plain_meta_sa
 ghost use Rattle.smf_make.specs.Events.{said_event, of_bytes};
 
 use crate::meta_types::{shaped, type_named};
-use crate::numbers::{hex_byte, hex_bytes};
+use crate::numbers::hex_bytes;
 use crate::said_event::{SaidEvent, has_bytes, voice_event};
 use crate::unsaid::Unsaid;
 use crate::words::split_word;
 use midi_wire::{END_OF_EXCLUSIVE, EXCLUSIVE};
-use script_text::number_of;
+use script_text::{hex_byte, number_of};
 use std::alloc::Global;
 
 /// An event at a tick from the start of its track.

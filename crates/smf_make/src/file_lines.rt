@@ -8,8 +8,8 @@ ghost use Rattle.script_text.specs.Numbers.{only_if};
 ghost use Rattle.smf_make.specs.SaidEvents.{track_said, can_head, header_said};
 ghost use Rattle.smf_make.specs.Words.{numbered};
 
-use crate::numbers::up_to;
 use crate::words::split_word;
+use script_text::up_to;
 use smf_grammar::{Header, header_of};
 
 /// The number behind a word, and what stands behind it.

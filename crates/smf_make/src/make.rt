@@ -7,9 +7,9 @@ ghost use Rattle.smf_make.specs.Making.{IsMaking, IsLineTaken, IsLineRefused, Is
 
 use crate::fault::MakeFault;
 use crate::maker::Maker;
-use crate::words::without_return;
 use crate::written_part::{LineStop, WrittenPart, take_line};
 use memchr::memchr;
+use script_text::without_return;
 use std::alloc::Global;
 
 impl Maker {

@@ -9,40 +9,8 @@ ghost use Rattle.smf_make.specs.Words.{only_number};
 use crate::unsaid::Unsaid;
 use crate::words::split_word;
 use byteorder::{BigEndian, ByteOrder};
-use script_text::number_of;
+use script_text::{hex_byte, up_to};
 use std::alloc::Global;
-
-fn hex_digit(byte: u8) -> Option<u8>
-    ensures { result ≡ says.hex_digit byte }
-{
-    match byte {
-        b'0'..=b'9' => Some(byte - 48),
-        b'A'..=b'F' => Some(byte - 55),
-        b'a'..=b'f' => Some(byte - 87),
-        _ => None,
-    }
-}
-
-/// Two hexadecimal digits.
-pub(crate) fn hex_byte(word: &[u8]) -> Option<u8>
-    ensures { result ≡ says.hex_byte word.now }
-{
-    if let [high, low] = word {
-        let high = hex_digit(*high)?;
-        let low = hex_digit(*low)?;
-        Some(high * 16 + low)
-    } else {
-        None
-    }
-}
-
-/// The number that a word says, where it is not greater.
-pub(crate) fn up_to(word: &[u8], most: u64) -> Option<u64>
-    ensures { result ≡ says.up_to most word.now }
-{
-    let value = number_of(word)?;
-    if value <= most { Some(value) } else { None }
-}
 
 /// The number that the only word says, where it is not greater.
 fn only_number(text: &[u8], most: u64) -> Option<u64>

@@ -5,9 +5,9 @@ ghost use Rattle.std.specs.Option.{option_map};
 ghost use Rattle.smf_make.specs.SaidEvents.{Whole, Escaping, quoted_from, quoted_said};
 ghost use Rattle.smf_make.specs.Words.{closes, mark_closed};
 
-use crate::numbers::hex_byte;
 use crate::unsaid::Unsaid;
 use crate::words::unindented;
+use script_text::hex_byte;
 use std::alloc::Global;
 
 /// Whether nothing but blanks is there.

@@ -1,25 +1,10 @@
 //! The words of a line, one after another.
 
 ghost use Rattle.std.specs.Prelude.{◌≡◌, ◌≤◌, ◌<◌, ◌∷◌, [], length, IfSome, IfNone};
-ghost use Rattle.std.specs.List.{position, position_or_len};
-ghost use Rattle.script_text.specs.Words.{is_blank, words, without_return};
+ghost use Rattle.script_text.specs.Words.{words};
 ghost use Rattle.smf_make.specs.SaidEvents.{unindented, behind_word, is_passed_over};
 
-fn is_blank(byte: u8) -> bool
-    ensures { result ≡ is_blank byte }
-{
-    byte == b' ' || byte == b'\t'
-}
-
-/// The line without a carriage return at its end.
-pub(crate) fn without_return(line: &[u8]) -> &[u8]
-    ensures { result.now ≡ without_return line.now }
-{
-    if !line.is_empty() && line[line.len() - 1] == b'\r' {
-        return &line[..line.len() - 1];
-    }
-    line
-}
+use script_text::word_len;
 
 /// What stands behind the blanks at the front.
 pub(crate) fn unindented(line: &[u8]) -> &[u8]
@@ -31,20 +16,6 @@ pub(crate) fn unindented(line: &[u8]) -> &[u8]
         left = rest;
     }
     left
-}
-
-fn first_blank(bytes: &[u8]) -> Option<usize>
-    ensures { result ≡ position is_blank bytes.now }
-{
-    bytes.iter().position(|b| is_blank(*b))
-}
-
-/// How long the word at the front is.
-fn word_len(bytes: &[u8]) -> usize
-    ensures value { result ≡ position_or_len is_blank bytes.now }
-    ensures within { result ≤ length bytes.now }
-{
-    first_blank(bytes).unwrap_or(bytes.len())
 }
 
 /// The first word, and what stands behind it.
