@@ -1,0 +1,11 @@
+pub mod Softened
+pub mod Payloads
+pub mod Behind
+pub mod LenientTracks
+pub mod LenientChunks
+pub mod Heads
+pub mod Contained
+pub mod StrictFiles
+pub mod OneReading
+pub mod Grown
+pub mod GrownFile

@@ -1,0 +1,9 @@
+pub mod Lenient
+pub mod Forgiving
+pub mod Mending
+pub mod Tallies
+pub mod Growing
+pub mod Containers
+pub mod LenientReading
+pub mod Laws
+pub mod Rows

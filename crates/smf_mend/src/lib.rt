@@ -1,0 +1,19 @@
+//! Standard MIDI Files that the strict grammar refuses and other readers take, made files that it takes.
+#![tactic(auto)]
+
+mod container;
+mod forgiven;
+mod growth;
+mod laws;
+mod mending;
+mod soft_pair;
+mod soft_track;
+mod soft_tracks;
+
+pub use container::unwrapped;
+pub use forgiven::{Forgiven, Mended};
+pub use laws::{forgives_softened, one_lenient_reading, strict_is_lenient, worked_mends};
+pub use mending::mend;
+
+#[cfg(test)]
+mod tests;
