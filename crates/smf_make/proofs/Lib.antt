@@ -3,6 +3,8 @@ pub mod FileLines
 pub mod VoiceEvents
 pub mod TextLines
 pub mod Taken
+pub mod Streaming
+pub mod ReadPieces
 pub mod QuotedBytes
 pub mod NumberRuns
 pub mod NamedTypes

@@ -9,12 +9,12 @@ use Rattle.script_text.proofs.Places.{uncut}
 use Rattle.smf_make.specs.SaidFiles.{without_empty_last}
 
 -- a text has a first line
-record HasLine (ls : List (List ℕ)) : Type 0 where
-  line : List ℕ
-  more : List (List ℕ)
-  is : ls ≡ line ∷ more
+pub record HasLine (ls : List (List ℕ)) : Type 0 where
+  pub line : List ℕ
+  pub more : List (List ℕ)
+  pub is : ls ≡ line ∷ more
 
-some-line : (text : List ℕ) → HasLine (lines text)
+pub some-line : (text : List ℕ) → HasLine (lines text)
 some-line text = go (lines text) (let n = length-slice_split is_line_end text in omega (arith, n))
   where
     go : (ls : List (List ℕ)) → 0 < length ls → HasLine ls

@@ -5,7 +5,7 @@ use Rattle.memory.specs.Faults.{out_of_memory_text}
 use Rattle.smf_make.specs.declared.fault.Expected.{Expected}
 use Rattle.smf_make.specs.declared.fault.Expected.TheVariants.{Header, Track, Event, End}
 use Rattle.smf_make.specs.declared.fault.MakeFault.{MakeFault}
-use Rattle.smf_make.specs.declared.fault.MakeFault.TheVariants.{Line, TooLarge, OutOfMemory}
+use Rattle.smf_make.specs.declared.fault.MakeFault.TheVariants.{Line, TooLarge, OutOfMemory, Read, TooLong}
 
 -- what was expected, as it is printed
 abbrev pub expected_text : Expected → List ℕ
@@ -20,3 +20,5 @@ make_fault_text (Line line expected) =
     codes "line " ++ (decimal line ++ (codes ": expected " ++ expected_text expected))
 make_fault_text (TooLarge line) = codes "line " ++ decimal line ++ codes ": the file is too large"
 make_fault_text OutOfMemory = out_of_memory_text
+make_fault_text Read = codes "a read failed"
+make_fault_text TooLong = codes "the text has more than 1073741824 bytes"

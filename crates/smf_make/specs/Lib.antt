@@ -5,5 +5,7 @@ pub mod Words
 pub mod Events
 pub mod WrittenParts
 pub mod Making
+pub mod Streamed
+pub mod ReadInPart
 pub mod Laws
 pub mod Rows

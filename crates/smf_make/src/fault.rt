@@ -43,6 +43,10 @@ pub enum MakeFault {
     TooLarge { line: u64 },
     /// A growth was refused.
     OutOfMemory,
+    /// A read of the text failed.
+    Read,
+    /// The text has more than `MOST_TEXT` bytes.
+    TooLong,
 }
 
 impl fmt::Display for MakeFault {
@@ -56,6 +60,8 @@ impl fmt::Display for MakeFault {
             MakeFault::Line { line, expected } => write!(f, "line {line}: expected {expected}"),
             MakeFault::TooLarge { line } => write!(f, "line {line}: the file is too large"),
             MakeFault::OutOfMemory => f.write_str("out of memory"),
+            MakeFault::Read => f.write_str("a read failed"),
+            MakeFault::TooLong => f.write_str("the text has more than 1073741824 bytes"),
         }
     }
 }

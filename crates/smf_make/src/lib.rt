@@ -11,6 +11,7 @@ mod meta_types;
 mod numbers;
 mod quoting;
 mod said_event;
+mod stream;
 mod unsaid;
 mod words;
 mod written_part;
@@ -19,6 +20,7 @@ pub use fault::{Expected, MakeFault};
 pub use laws::{makes_printed, reads_made, says_read, worked_makes};
 pub use make::make_file;
 pub use maker::Maker;
+pub use stream::{MOST_TEXT, make_text};
 
 #[cfg(test)]
 mod tests;

@@ -1,6 +1,10 @@
 //! A file made of a text once, and its faults as they are printed.
 
-use crate::{Expected, MakeFault, Maker, make_file};
+ghost use Rattle.std.specs.Prelude.{◌≡◌, false, IfOk};
+
+use crate::{Expected, MakeFault, Maker, make_file, make_text};
+use byte_io::{MemSource, OutOfMemory};
+use std::alloc::Global;
 use std::test::Fail;
 
 /// Most of the example of Standard MIDI Files 1.0, "Program Fragments and Example MIDI Files", with a text.
@@ -62,5 +66,106 @@ fn tells_a_fault(rt: HostRuntime) -> Result<(), Fail> {
     assert!(rt; fault == MakeFault::Line { line: 5, expected });
     let printed = format!(in rt.alloc(); "{fault}")?;
     assert!(rt; printed.as_str() == "line 5: expected the line of track 1");
+    Ok(())
+}
+
+/// How many bytes `make_text` reads at once.
+const PIECE: usize = 8192;
+
+/// A text of one track whose event stands behind a remark of so many bytes, by what stands behind that.
+fn one_track(alloc: Global, remark: usize, last: &[u8]) -> Result<MemSource, OutOfMemory>
+    ensures { IfOk result (λ s. s.broken ≡ false) }
+{
+    let mut text = Vec::from_slice(alloc, b"format 0 tracks 1 division 96\ntrack 0\n#")?;
+    text.extend_from_slice(vec![in alloc; b'-'; remark]?.as_slice())?;
+    text.extend_from_slice(last)?;
+    Ok(MemSource::new(text))
+}
+
+#[test]
+fn makes_a_file_of_a_text_as_it_comes(rt: HostRuntime) -> Result<(), Fail> {
+    let mut input = MemSource::new(Vec::from_slice(rt.alloc(), TEXT)?);
+    let Ok(bytes) = make_text(rt.alloc(), &mut input) else {
+        return Err(Fail::new("no file"));
+    };
+    assert!(rt; bytes.as_slice() == FILE);
+    Ok(())
+}
+
+/// The first piece ends at each place of the last lines.
+#[test]
+fn makes_a_file_of_a_text_in_pieces(rt: HostRuntime) -> Result<(), Fail> {
+    for last in [
+        b"\n0 C0 05\n0 end\n".as_slice(),
+        b"\r\n0 C0 05\r\n0 end".as_slice(),
+    ] {
+        for remark in PIECE - 56..PIECE - 38 {
+            let mut input = one_track(rt.alloc(), remark, last)?;
+            let Ok(bytes) = make_text(rt.alloc(), &mut input) else {
+                return Err(Fail::new("no file"));
+            };
+            assert!(rt;
+                bytes.as_slice()
+                    == b"MThd\x00\x00\x00\x06\x00\x00\x00\x01\x00\x60MTrk\x00\x00\x00\x07\
+                        \x00\xC0\x05\x00\xFF\x2F\x00"
+                        .as_slice(),
+                "behind {remark} bytes"
+            );
+        }
+    }
+    Ok(())
+}
+
+#[test]
+fn tells_the_fault_of_a_text_in_pieces(rt: HostRuntime) -> Result<(), Fail> {
+    let expected = Expected::Event { from: 0 };
+    for (remark, last, fail_at, fault) in [
+        (
+            PIECE,
+            b"\n0 C0\n0 end\n".as_slice(),
+            None,
+            MakeFault::Line { line: 4, expected },
+        ),
+        (
+            PIECE,
+            b"\n0 C0".as_slice(),
+            None,
+            MakeFault::Line { line: 4, expected },
+        ),
+        (
+            PIECE,
+            b"\n0 C0 05\n".as_slice(),
+            None,
+            MakeFault::Line { line: 5, expected },
+        ),
+        (PIECE, b"\n0 C0\n".as_slice(), Some(1), MakeFault::Read),
+        (0, b"\n0 end\n".as_slice(), Some(0), MakeFault::Read),
+        (0, b"\n0 end\n".as_slice(), Some(1), MakeFault::Read),
+        (
+            0,
+            b"\n0 C0\n".as_slice(),
+            Some(1),
+            MakeFault::Line { line: 4, expected },
+        ),
+    ] {
+        let mut input = one_track(rt.alloc(), remark, last)?;
+        if let Some(k) = fail_at {
+            input.fail_at(k);
+        }
+        match make_text(rt.alloc(), &mut input) {
+            Ok(_) => return Err(Fail::new("a file")),
+            Err(told) => assert!(rt; told == fault, "told {told}"),
+        }
+    }
+    let mut nothing = MemSource::new(Vec::new(rt.alloc()));
+    match make_text(rt.alloc(), &mut nothing) {
+        Ok(_) => return Err(Fail::new("a file")),
+        Err(told) => assert!(rt;
+            told == MakeFault::Line {
+                line: 1,
+                expected: Expected::Header
+            }
+        ),
+    }
     Ok(())
 }
