@@ -1,0 +1,15 @@
+use Rattle.std.proofs.Common.{◌≡◌, ◌≤◌, ℕ, List, ◌++◌, encode_utf8_all}
+use Rattle.std.specs.Fmt.{HasWritten, IsPlainFormatter}
+use Rattle.std.specs.Char.Escape.{escape_default}
+use Rattle.std.specs.Char.Iter.{escape_rest, escape_left, escape_end}
+use Rattle.folder_files.proofs.escaped.write_escape.Given as goal
+
+abbrev pub invariant-escape : goal.invariant-escape
+invariant-escape g l =
+    (escape_end l.rest ≤ 10)
+    × (IsPlainFormatter l.fn.f
+    → (done : List ℕ) × HasWritten g.W.Write.write_str_gives l.fn.f done l.f
+    × (done ++ encode_utf8_all (escape_rest l.rest) ≡ encode_utf8_all (escape_default l.fn.c)))
+
+abbrev pub decreases-escape : goal.decreases-escape
+decreases-escape g l = escape_left l.rest

@@ -1,0 +1,5 @@
+pub mod Names
+pub mod Paths
+pub mod Contents
+pub mod Escaped
+pub mod Unread

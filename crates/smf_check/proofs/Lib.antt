@@ -1,0 +1,4 @@
+pub mod Reported
+pub mod Words
+pub mod Counted
+pub mod Finished

@@ -1,0 +1,5 @@
+pub mod Verdicts
+pub mod Named
+pub mod Checks
+pub mod Checking
+pub mod Rows
