@@ -42,6 +42,7 @@ check: build
 	test/refused-memory
 	test/progress $(PROGRAM)
 	test/bridge $(PROGRAM)
+	test/texts --real /usr/share $(PROGRAM)
 	test/hostile --program $(PROGRAM)
 	test/random-nets $(PROGRAM)
 	test/random-circles --count 1000 $(PROGRAM)

@@ -23,7 +23,7 @@ _midiseq_word() {
 }
 
 _midiseq() {
-    local word sub previous subcommands='run record circle why live thru wire dump'
+    local word sub previous subcommands='run record circle why live thru wire dump make check'
     word=$(_midiseq_word)
     sub=${COMP_WORDS[1]}
     previous=${COMP_WORDS[COMP_CWORD - 1]}
@@ -83,6 +83,20 @@ _midiseq() {
         dump)
             if [[ $word == -?* ]]; then
                 mapfile -t COMPREPLY < <(compgen -W '--all --help' -- "$word")
+            else
+                _midiseq_files "$word" .mid .MID .midi
+            fi
+            ;;
+        make)
+            if [[ $word == -?* ]]; then
+                mapfile -t COMPREPLY < <(compgen -W '--out --help' -- "$word")
+            else
+                _midiseq_files "$word"
+            fi
+            ;;
+        check)
+            if [[ $word == -* ]]; then
+                mapfile -t COMPREPLY < <(compgen -W '--quiet --help' -- "$word")
             else
                 _midiseq_files "$word" .mid .MID .midi
             fi

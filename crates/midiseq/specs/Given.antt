@@ -11,7 +11,7 @@ use Rattle.program_tasks.specs.declared.answer.CircleAnswer.{CircleAnswer}
 use Rattle.program_tasks.specs.declared.end_word.EndWord.{EndWord}
 use Rattle.program_tasks.specs.declared.end_word.EndWord.TheVariants.{Until, For, ToEnd}
 use Rattle.program_tasks.specs.declared.ending.Ended.{Ended}
-use Rattle.program_tasks.specs.declared.ending.Ended.TheVariants.{Done, Answered, Judged}
+use Rattle.program_tasks.specs.declared.ending.Ended.TheVariants.{Done, Answered, Judged, Checked}
 use Rattle.program_tasks.specs.declared.question.CircleQuestion.TheVariants.{Of, OfAll}
 use Rattle.program_tasks.specs.declared.why_question.WhyQuestion.{WhyQuestion}
 use Rattle.program_tasks.specs.declared.why_question.WhyQuestion.TheVariants.{Message, Line}
@@ -29,12 +29,16 @@ use Rattle.program_tasks.specs.declared.recording.Recorded.TheVariants.{Stream, 
 use Rattle.program_tasks.specs.declared.recording.Recording.{Recording}
 use Rattle.program_tasks.specs.declared.run_answer.RunAnswer.{RunAnswer}
 use Rattle.program_tasks.specs.declared.session.Session.{Session}
+use Rattle.program_tasks.specs.Checked.{AreFilesChecked}
 use Rattle.program_tasks.specs.Live.{AreLinesAnswered}
+use Rattle.program_tasks.specs.Made.{IsMade}
 use Rattle.program_tasks.specs.Subcommands.{IsRunPrinted, IsRunStreamed, IsRunExplained, IsCircleAnswered, IsWhyAnswered, IsRunRecorded}
 use Rattle.program_tasks.specs.Tasks.{IsDone}
 use Rattle.program_tasks.specs.Times.{end_said}
+use Rattle.program_tasks.specs.declared.choice.Stream as choice
 use Rattle.program_tasks.specs.declared.choice.Task.{Task}
 use Rattle.program_tasks.specs.Program.{IsToolNamed, IsNamedBy}
+use Rattle.smf_check.specs.declared.answer.CheckAnswer.{CheckAnswer}
 
 -- the first value of an option, and no text where it has none
 abbrev pub text_of : Found → List ℕ → List ℕ
@@ -298,9 +302,58 @@ pub record ToolDoesAsGiven {R I W : Type 0} (IsOpened : List ℕ → R → Type 
   pub stream : IsNamedBy task.stream (unwrap_or (first_value found (codes "FILE")) (codes "-"))
   pub done : IsDone IsOpened HasLeft HasInput HasTaken task before after old new
 
+-- The file that the text says which TEXT names, or without one standard input, was written to the
+-- file of --out.
+pub record MakesAsGiven {R I W : Type 0} (IsOpened : List ℕ → R → Type 0)
+    (HasLeft : R → List ℕ → Type 0) (HasInput : I → List ℕ → Type 0)
+    (AreApart : List ℕ → List ℕ → Type 0) (IsBegun : List ℕ → W → Type 0)
+    (HasTaken : W → List ℕ → Type 0) (IsStored : List ℕ → W → Type 0) (found : Found)
+    (before after : I) : Type 0 where
+  pub text : choice.Stream
+  pub named : IsNamedBy text (unwrap_or (first_value found (codes "TEXT")) (codes "-"))
+  pub made : IsMade IsOpened HasLeft HasInput AreApart IsBegun HasTaken IsStored text
+      (text_of found (codes "out")) before after
+
+-- The files that the words FILE name were checked, with a line for each, or with --quiet for each
+-- that is not whole.
+pub record ChecksAsGiven {R W : Type 0} (IsOpened : List ℕ → R → Type 0)
+    (HasLeft : R → List ℕ → Type 0) (CannotOpen CannotList : List ℕ → Type 0) (failed : R → Bool)
+    (IsStanding : List ℕ → Standing → Type 0) (HasNames : List ℕ → List (List ℕ) → Type 0)
+    (HasTaken : W → List ℕ → Type 0) (found : Found) (old new : W) (ended : Ended) : Type 0 where
+  pub quiet : Bool
+  pub quiet_flag : IsFlag found (codes "quiet") quiet
+  pub answer : CheckAnswer
+  pub checked : AreFilesChecked IsOpened HasLeft CannotOpen CannotList failed IsStanding HasNames
+      HasTaken (unwrap_or (option_map raw_values (matched_of found (codes "FILE"))) []) quiet
+      answer old new
+  pub ends : ended ≡ Checked answer
+
+-- the name is that of no subcommand with words of its own for files
+abbrev pub IsOfPlainTool : List ℕ → Type 0
+IsOfPlainTool name = (name ≢ codes "make") × (name ≢ codes "check")
+
+-- What each subcommand that takes files does: make writes one, check prints verdicts, and each
+-- other is a tool's.
+pub record FilesDoAsGiven {R I V W : Type 0} (IsOpened : List ℕ → R → Type 0)
+    (HasLeft : R → List ℕ → Type 0) (CannotOpen CannotList : List ℕ → Type 0) (failed : R → Bool)
+    (IsStanding : List ℕ → Standing → Type 0) (HasNames : List ℕ → List (List ℕ) → Type 0)
+    (AreApart : List ℕ → List ℕ → Type 0) (IsBegun : List ℕ → V → Type 0)
+    (HasWritten : V → List ℕ → Type 0) (IsStored : List ℕ → V → Type 0)
+    (HasInput : I → List ℕ → Type 0) (HasTaken : W → List ℕ → Type 0) (name : List ℕ)
+    (found : Found) (asked left : I) (old new : W) (ended : Ended) : Type 0 where
+  pub made : name ≡ codes "make" →
+      MakesAsGiven IsOpened HasLeft HasInput AreApart IsBegun HasWritten IsStored found asked left
+      × (ended ≡ Done)
+  pub checked : name ≡ codes "check" →
+      ChecksAsGiven IsOpened HasLeft CannotOpen CannotList failed IsStanding HasNames HasTaken found
+      old new ended
+  pub tool : IsOfPlainTool name →
+      ToolDoesAsGiven IsOpened HasLeft HasInput HasTaken name found asked left old new
+      × (ended ≡ Done)
+
 -- the name is that of no subcommand that runs a sequencer
-abbrev pub IsOfTool : List ℕ → Type 0
-IsOfTool name = (name ≢ codes "circle") × (name ≢ codes "why") × (name ≢ codes "run")
+abbrev pub IsOfFiles : List ℕ → Type 0
+IsOfFiles name = (name ≢ codes "circle") × (name ≢ codes "why") × (name ≢ codes "run")
     × (name ≢ codes "record") × (name ≢ codes "live")
 
 -- The program ends with an answer of which this holds.
@@ -310,10 +363,11 @@ IfAnswered _ P = ⊥
 
 -- What each subcommand does: circle prints and answers; why prints; run prints, or writes logs to a
 -- folder, and record writes a file, where both may explain and judge; live answers the lines of
--- standard input; and each other is a tool's.
+-- standard input; and each other takes files.
 pub record DoesAsGiven {R V I W N : Type 0} (IsOpened : List ℕ → R → Type 0)
     (HasLeft : R → List ℕ → Type 0)
-    (CannotOpen : List ℕ → Type 0) (failed : R → Bool) (IsStanding : List ℕ → Standing → Type 0)
+    (CannotOpen CannotList : List ℕ → Type 0) (failed : R → Bool)
+    (IsStanding : List ℕ → Standing → Type 0)
     (HasNames : List ℕ → List (List ℕ) → Type 0)
     (IsBegun : List ℕ → V → Type 0) (HasWritten : V → List ℕ → Type 0)
     (IsStored : List ℕ → V → Type 0) (IsPlaced : List ℕ → Bool → V → Type 0)
@@ -337,6 +391,6 @@ pub record DoesAsGiven {R V I W N : Type 0} (IsOpened : List ℕ → R → Type 
   pub answered_lines : name ≡ codes "live" →
       AreLinesAnswered IsOpened HasLeft CannotOpen failed IsStanding HasNames HasInput HasTaken
       HasTold (first_value found (codes "dir")) asked left old new before after × (ended ≡ Done)
-  pub tool : IsOfTool name →
-      ToolDoesAsGiven IsOpened HasLeft HasInput HasTaken name found asked left old new
-      × (ended ≡ Done)
+  pub of_files : IsOfFiles name →
+      FilesDoAsGiven IsOpened HasLeft CannotOpen CannotList failed IsStanding HasNames AreApart
+      IsBegun HasWritten IsStored HasInput HasTaken name found asked left old new ended

@@ -13,20 +13,23 @@ use Rattle.program_tasks.specs.declared.log_folder.LogFolder.{LogFolder}
 use Rattle.program_tasks.specs.LogFiles.{IsOfReadLog}
 use Rattle.program_tasks.specs.declared.recording.Recording.{Recording}
 use Rattle.program_tasks.specs.declared.session.Session.{Session}
-use Rattle.program_tasks.specs.Faults.{IsOfListing, IsOfScripts, IsOfOutput}
+use Rattle.program_tasks.specs.Checked.{IsCheckingStopped}
+use Rattle.program_tasks.specs.Faults.{IsOfListing, IsOfScripts, IsOfOutput, IsOfWriting}
 use Rattle.program_tasks.specs.Live.{IsAnsweringStopped}
+use Rattle.program_tasks.specs.Made.{IsMakingStopped, IsOfOwnText}
 use Rattle.program_tasks.specs.Subcommands.{IsTimeless, IsStreamingStopped, IsRecordingStopped}
 use Rattle.program_tasks.specs.Why.{IsOfQuestion}
 use Rattle.program_tasks.specs.declared.why_question.WhyQuestion.{WhyQuestion}
 use Rattle.program_tasks.specs.Tasks.{IsToolFault}
 use Rattle.program_tasks.specs.Times.{end_said, IsNoEnd}
 use Rattle.program_tasks.specs.declared.end_word.EndWord.{EndWord}
+use Rattle.program_tasks.specs.declared.choice.Stream.{Stream}
 use Rattle.program_tasks.specs.declared.choice.Task.{Task}
 use Rattle.program_tasks.specs.declared.choice.Tool.{Tool}
 use Rattle.program_tasks.specs.declared.program_fault.ProgramFault.{ProgramFault}
 use Rattle.program_tasks.specs.declared.program_fault.ProgramFault.TheVariants.{NoSubcommand, NotAClient, NotAForm, NotAPort}
 use Rattle.program_tasks.specs.Program.{tool_name, IsToolNamed, IsNamedBy, IsReasoned}
-use Rattle.midiseq.specs.Given.{text_of, IsFlag, IsAsked, IsEndGiven, IsGiven, IsQuestionGiven, IsLogFolderGiven, AreGridWords, IsRecordingGiven, IsOfTool}
+use Rattle.midiseq.specs.Given.{text_of, IsFlag, IsAsked, IsEndGiven, IsGiven, IsQuestionGiven, IsLogFolderGiven, AreGridWords, IsRecordingGiven, IsOfFiles, IsOfPlainTool}
 
 -- The word for the session's end says none.
 pub record IsOfEndWord (found : Found) (fault : ProgramFault) : Type 0 where
@@ -219,6 +222,37 @@ abbrev pub IsOfNoTool : List ℕ → ProgramFault → Type 0
 IsOfNoTool name NoSubcommand = (t : Tool) → tool_name t ≢ name
 IsOfNoTool name _ = ⊥
 
+-- No file was made of the text that TEXT names, or it was not written to the file of --out.
+pub record IsMakeStopped {R I W : Type 0} (IsOpened : List ℕ → R → Type 0)
+    (CannotOpen : List ℕ → Type 0) (HasLeft : R → List ℕ → Type 0) (failed : R → Bool)
+    (AreOne : List ℕ → List ℕ → Type 0) (IsBegun : List ℕ → W → Type 0)
+    (writer_failed takes_some : W → Bool) (CannotBegin CannotStore : List ℕ → Type 0)
+    (HasInput : I → List ℕ → Type 0) (input_failed : I → Bool) (found : Found)
+    (before after : I) (fault : ProgramFault) : Type 0 where
+  pub text : Stream
+  pub named : IsNamedBy text (unwrap_or (first_value found (codes "TEXT")) (codes "-"))
+  pub why : IsOfOwnText AreOne text (text_of found (codes "out")) fault
+      ⊎ (IsMakingStopped IsOpened CannotOpen HasLeft failed HasInput input_failed text before after
+      fault
+      ⊎ IsOfWriting IsBegun writer_failed takes_some CannotBegin CannotStore
+      (text_of found (codes "out")) fault)
+
+-- Why each subcommand that takes files stops.
+pub record AreFilesStopped {R I V : Type 0} (IsOpened : List ℕ → R → Type 0)
+    (CannotOpen : List ℕ → Type 0) (HasLeft : R → List ℕ → Type 0) (failed : R → Bool)
+    (AreOne : List ℕ → List ℕ → Type 0) (IsBegun : List ℕ → V → Type 0)
+    (writer_failed takes_some : V → Bool) (CannotBegin CannotStore : List ℕ → Type 0)
+    (HasInput : I → List ℕ → Type 0) (input_failed : I → Bool) (stuck : Type 0) (name : List ℕ)
+    (found : Found) (before after : I) (fault : ProgramFault) : Type 0 where
+  pub made : name ≡ codes "make" →
+      IsMakeStopped IsOpened CannotOpen HasLeft failed AreOne IsBegun writer_failed takes_some
+      CannotBegin CannotStore HasInput input_failed found before after fault
+  pub checked : name ≡ codes "check" → IsCheckingStopped stuck fault
+  pub tool : IsOfPlainTool name →
+      IsOfNoTool name fault
+      ⊎ IsToolStopped IsOpened CannotOpen HasLeft failed HasInput input_failed stuck name found
+      before after fault
+
 -- Why each subcommand stops.
 pub record IsStoppedAsGiven {R V I W N : Type 0} (IsOpened : List ℕ → R → Type 0)
     (HasLeft : R → List ℕ → Type 0)
@@ -254,7 +288,6 @@ pub record IsStoppedAsGiven {R V I W N : Type 0} (IsOpened : List ℕ → R → 
       ⊎ IsAnsweringStopped IsOpened HasLeft CannotOpen failed IsStanding HasNames HasInput
       input_failed HasTaken stuck HasTold (first_value found (codes "dir")) asked left old new
       before after fault
-  pub tool : IsOfTool name →
-      IsOfNoTool name fault
-      ⊎ IsToolStopped IsOpened CannotOpen HasLeft failed HasInput input_failed stuck name found
-      asked left fault
+  pub of_files : IsOfFiles name →
+      AreFilesStopped IsOpened CannotOpen HasLeft failed AreOne IsBegun writer_failed takes_some
+      CannotBegin CannotStore HasInput input_failed stuck name found asked left fault

@@ -1,6 +1,7 @@
 //! `midiseq`: a MIDI sequencer and patchbay on the command line.
 #![tactic(auto)]
 
+mod files;
 mod reasons;
 mod sessions;
 mod subcommands;

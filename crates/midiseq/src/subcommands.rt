@@ -2,16 +2,16 @@
 
 ghost use Rattle.std.specs.Prelude.{◌≡◌, ◌⊎◌, false, codes, IfErr, IfOk, OnOk};
 ghost use Rattle.clap.specs.Matches.{first_value, found_of};
-ghost use Rattle.midiseq.specs.Given.{ToolDoesAsGiven, DoesAsGiven};
-ghost use Rattle.midiseq.specs.Refused.{IsOfNoTool, IsToolStopped, IsStoppedAsGiven};
+ghost use Rattle.midiseq.specs.Given.{DoesAsGiven};
+ghost use Rattle.midiseq.specs.Refused.{IsStoppedAsGiven};
 ghost use Rattle.program_tasks.specs.Faults.{IsOfListing, IsStuck};
 ghost use Rattle.program_tasks.specs.Live.{AreLinesAnswered, IsAnsweringStopped};
 
-use crate::{reasons, sessions};
+use crate::{files, reasons, sessions};
 use byte_io::{Sink, Source};
 use clap::ArgMatches;
 use file_store::FileStore;
-use program_tasks::{Ended, Notes, ProgramFault, ProgressLine, STANDARD, Task};
+use program_tasks::{Ended, Notes, ProgramFault, ProgressLine};
 use std::alloc::Global;
 
 /// Does what a subcommand says, with the words that clap has found for it.
@@ -28,9 +28,9 @@ pub(crate) fn perform<'a, S: FileStore, I: Source, W: Sink, N: Notes, R: Eprint>
 ) -> Result<Ended, ProgramFault<'a>>
     requires input_sound { I.failed input.old ≡ false }
     requires out_sound { W.failed out.old ≡ false }
-    ensures done { IfOk result (DoesAsGiven S.IsOpened S.Reader.HasLeft S.CannotOpen S.Reader.failed
-        S.IsStanding S.HasNames S.IsBegun S.Writer.HasTaken S.IsStored S.IsPlaced S.AreApart
-        I.HasLeft W.HasTaken N.HasTold name.now (found_of found.now)
+    ensures done { IfOk result (DoesAsGiven S.IsOpened S.Reader.HasLeft S.CannotOpen S.CannotList
+        S.Reader.failed S.IsStanding S.HasNames S.IsBegun S.Writer.HasTaken S.IsStored S.IsPlaced
+        S.AreApart I.HasLeft W.HasTaken N.HasTold name.now (found_of found.now)
         input.old input.new out.old out.new notes.old notes.new) }
     ensures fault { IfErr result (IsStoppedAsGiven S.IsOpened S.Reader.HasLeft S.CannotOpen
         S.CannotList S.Reader.failed S.IsStanding S.HasNames S.AreOne S.IsBegun S.IsPlaced
@@ -54,10 +54,7 @@ pub(crate) fn perform<'a, S: FileStore, I: Source, W: Sink, N: Notes, R: Eprint>
         }
         "run" => reasons::run(alloc, store, found, out, notes, progress),
         "record" => reasons::record(alloc, store, found, notes),
-        _ => {
-            perform_tool(alloc, store, name, found, input, out)?;
-            Ok(Ended::Done)
-        }
+        _ => files::perform(alloc, store, name, found, input, out),
     }
 }
 
@@ -84,30 +81,4 @@ fn answer_lines<'a, S: FileStore, I: Source, W: Sink, N: Notes>(
         out.old out.new notes.old notes.new e) }
 {
     program_tasks::live(alloc, store, found.get_str("dir"), input, out, notes)
-}
-
-/// Does what a tool's subcommand says, with --all or without it: on the stream that the word FILE names, and without
-/// one on standard input.
-fn perform_tool<'a, S: FileStore, I: Source, W: Sink>(
-    alloc: Global,
-    store: &S,
-    name: &str,
-    found: &ArgMatches<'a>,
-    input: &mut I,
-    out: &mut W,
-) -> Result<(), ProgramFault<'a>>
-    requires input_sound { I.failed input.old ≡ false }
-    requires out_sound { W.failed out.old ≡ false }
-    ensures done { OnOk result (ToolDoesAsGiven S.IsOpened S.Reader.HasLeft I.HasLeft W.HasTaken
-        name.now (found_of found.now) input.old input.new out.old out.new) }
-    ensures fault { IfErr result (λ e. IsOfNoTool name.now e
-        ⊎ IsToolStopped S.IsOpened S.CannotOpen S.Reader.HasLeft S.Reader.failed I.HasLeft I.failed
-        (IsStuck W.failed W.takes_some out.old out.new) name.now (found_of found.now)
-        input.old input.new e) }
-{
-    let file = found.get_str("FILE").unwrap_or(STANDARD);
-    match Task::of_words(name, found.get_flag("all"), file) {
-        Some(task) => program_tasks::perform(alloc, store, task, input, out),
-        None => Err(ProgramFault::NoSubcommand),
-    }
 }

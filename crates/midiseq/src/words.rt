@@ -9,9 +9,10 @@ const EXAMPLES: &str = "\
 run, record, circle and why take a script for each client: a command a line,
 each with its moment in nanoseconds. live takes such lines, each with its
 client, on standard input, and answers each at once. thru and wire take raw MIDI
-bytes, as they come from a cable; dump takes a Standard MIDI File (.mid). FILE
-may be - for standard input. `midiseq` alone does `thru -`: it waits for MIDI
-bytes on standard input.
+bytes, as they come from a cable; dump takes a Standard MIDI File (.mid), make
+the text that dump --all prints, and check many files. FILE and TEXT may be -
+for standard input, but for check. `midiseq` alone does `thru -`: it waits for
+MIDI bytes on standard input.
 
 Examples:
   printf '\\x90\\x3C\\x40' | midiseq thru -
@@ -25,6 +26,10 @@ Examples:
       prints the tempos and the messages of the file song.mid
   midiseq dump --all song.mid
       prints every event of it, track by track
+  midiseq make song.txt --out new.mid
+      writes the file of which song.txt says every event
+  midiseq check songs
+      says of each .mid file of the folder songs whether it is damaged
   midiseq run --for 1s --strict 128=keys.txt 129=synth.txt
       runs two scripts for a second, and prints the log of each client
   midiseq record --to-end --strict --port 129:0 --out take.mid 128=keys.txt \\
@@ -44,8 +49,8 @@ Examples:
 Status:
   0  done, or help or the version was asked for
   1  a fault, with one line on standard error: a file that cannot be read,
-     output that cannot be written, out of memory, a damaged file, a recording
-     that no file can hold
+     output that cannot be written, out of memory, a damaged file, a text that
+     says no file, a recording that no file can hold
   2  words that midiseq cannot follow
   3  midiseq circle has found the circle open, or run or record by --strict a
      line that did nothing, a message that was lost or a file that was left out";
@@ -104,6 +109,42 @@ Examples:
   midiseq dump --all song.mid
       prints `format 0 tracks 1 division 480`, `track 0`, `0 90 3C 40`,
       `480 90 3C 00` and `480 end` for the same file";
+
+const MAKE_HELP: &str = "\
+The text is one that `midiseq dump --all` prints, or one that is written like it:
+first `format F tracks N division D`, then for each track a line `track T`, from
+0, and below it a line `TICK EVENT` for each of its events, the last of which is
+`end`. Blank lines and those that begin with # are passed over. The file that is
+made says just this: `dump --all` of it prints the text. A status is left out
+where it is the running one, and each length has its shortest spelling.
+
+FILE is made or replaced when the whole text was read; it cannot be the text. At
+the first line that does not say what was expected, nothing is written, and
+standard error has its number, as in `midiseq: line 4: expected an event from
+tick 480 on`.
+
+Example, with these lines in song.txt:
+  format 0 tracks 1 division 480
+  track 0
+  0 90 3C 40
+  480 90 3C 00
+  480 end
+  midiseq make song.txt --out song.mid
+      writes a file of one note that sounds for a quarter note";
+
+const CHECK_HELP: &str = "\
+Each FILE is read as by `midiseq dump`, and has a line: its path, and `ok` or the
+fault, a number, a name and the byte or the track where it stands. Of a folder
+the files whose names end in .mid are checked, in byte order. A file that cannot
+be read has a line too, and the next is tried. The last line has the counts. With
+--quiet only the files that are not ok have a line, and there is no last line.
+The status is 1 where a file is not ok.
+
+Example, where songs has a file a.mid, and b.mid that ends too early:
+  midiseq check songs c.mid
+      prints `songs/a.mid: ok`, `songs/b.mid: 10 Truncated 22`,
+      `c.mid: cannot read: there is no such file` and
+      `ok 1 damaged 1 unread 1`, each on a line";
 
 const RUN_HELP: &str = "\
 Each CLIENT=PATH is a client, 128 to 191, and the file of its script. A script
@@ -307,7 +348,9 @@ pub(crate) fn command<'a>(alloc: Global) -> Result<Command<'a>, AllocError> {
     let program = with(program, live(alloc))?;
     let program = with(program, thru(alloc))?;
     let program = with(program, wire(alloc))?;
-    with(program, dump(alloc))
+    let program = with(program, dump(alloc))?;
+    let program = with(program, make(alloc))?;
+    with(program, check(alloc))
 }
 
 /// Adds a subcommand.
@@ -654,4 +697,37 @@ fn dump<'a>(alloc: Global) -> Result<Command<'a>, AllocError> {
         .after_help(DUMP_HELP)
         .arg(all(alloc))?
         .arg(file)
+}
+
+fn make<'a>(alloc: Global) -> Result<Command<'a>, AllocError> {
+    let text = Arg::new(alloc, "TEXT")
+        .required(true)
+        .help("the text of a file, or - for standard input");
+    Command::new(alloc, "make")
+        .about("Makes a Standard MIDI File of the text that dump --all prints")
+        .after_help(MAKE_HELP)
+        .arg(out(alloc))?
+        .arg(text)
+}
+
+/// Tells of the files alone that are not whole.
+fn quiet_check<'a>(alloc: Global) -> Arg<'a> {
+    Arg::new(alloc, "quiet")
+        .short('q')
+        .long("quiet")
+        .action(ArgAction::SetTrue)
+        .help("print only the files that are not ok")
+}
+
+fn check<'a>(alloc: Global) -> Result<Command<'a>, AllocError> {
+    let files = Arg::new(alloc, "FILE")
+        .required(true)
+        .action(ArgAction::Append)
+        .num_args(1..)
+        .help("a Standard MIDI File (.mid), or a folder of them");
+    Command::new(alloc, "check")
+        .about("Says of each Standard MIDI File whether it is damaged, and where")
+        .after_help(CHECK_HELP)
+        .arg(quiet_check(alloc))?
+        .arg(files)
 }

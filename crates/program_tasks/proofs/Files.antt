@@ -10,7 +10,9 @@ use Rattle.seq_session.specs.Sessions.{script_clients}
 use Rattle.program_tasks.specs.Sessions.{owners}
 use Rattle.program_tasks.specs.declared.words.ScriptWord.{ScriptWord}
 use Rattle.program_tasks.specs.Apart.{AreFilesApart, IsOneFile}
-use Rattle.program_tasks.specs.Opened.{IsOfFile, AreOfFiles, ReadsScripts, AreSourcesOf, IsContent, AreContents, path_in}
+use Rattle.folder_files.specs.Contents.{IsOfFile, IsContent}
+use Rattle.folder_files.specs.Paths.{path_in}
+use Rattle.program_tasks.specs.Opened.{AreOfFiles, ReadsScripts, AreSourcesOf, AreContents}
 
 -- ---- scripts
 

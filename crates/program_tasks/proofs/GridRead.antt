@@ -7,7 +7,7 @@ use Rattle.std.specs.Prelude.{◌+◌}
 use Rattle.smf_grammar.specs.declared.fault.SmfFault.{SmfFault}
 use Rattle.smf_grammar.specs.declared.fault.SmfFault.TheVariants as smf
 use Rattle.program_tasks.specs.Grid.{IsNoGridOf}
-use Rattle.program_tasks.specs.Opened.{IsOfFile}
+use Rattle.folder_files.specs.Contents.{IsOfFile}
 use Rattle.program_tasks.specs.declared.program_fault.ProgramFault.{ProgramFault}
 use Rattle.program_tasks.specs.declared.program_fault.ProgramFault.TheVariants as program
 

@@ -9,7 +9,6 @@ pub mod Unread
 pub mod Found
 pub mod Fronts
 pub mod Held
-pub mod Ordered
 pub mod Places
 pub mod Endless
 pub mod InSession

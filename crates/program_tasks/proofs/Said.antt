@@ -7,7 +7,8 @@ use Rattle.file_store.specs.declared.standing.Standing.{Standing}
 use Rattle.script_text.specs.declared.script.TheConstants.{MOST_FILES}
 use Rattle.seq_session.specs.Sessions.{FolderContents}
 use Rattle.program_tasks.specs.declared.opening.FolderFiles.{FolderFiles}
-use Rattle.program_tasks.specs.FolderFiles.{AreOpened, bytes_read, seen_files}
+use Rattle.folder_files.specs.Contents.{bytes_read}
+use Rattle.program_tasks.specs.FolderFiles.{AreOpened, seen_files}
 use Rattle.smf_grammar.specs.Played.{as_played}
 use Rattle.program_tasks.specs.LeftOut.{all_lost, lost_lines}
 use Rattle.program_tasks.specs.declared.folder.Folder as read

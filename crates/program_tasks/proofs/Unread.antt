@@ -14,7 +14,8 @@ use Rattle.program_tasks.specs.declared.program_fault.ProgramFault.{ProgramFault
 use Rattle.program_tasks.specs.declared.program_fault.ProgramFault.TheVariants.{OutOfMemory, CannotRead, CannotRecord}
 use Rattle.program_tasks.specs.declared.recording.Recording.{Recording}
 use Rattle.program_tasks.specs.Faults.{IsScript, IsOfReading, IsOfOpening, IsOfScripts, IsOfEvents, IsOfRefusal}
-use Rattle.program_tasks.specs.Opened.{AreSourcesOf, AreOfFiles, IsBroken}
+use Rattle.folder_files.specs.Contents.{IsBroken}
+use Rattle.program_tasks.specs.Opened.{AreSourcesOf, AreOfFiles}
 use Rattle.program_tasks.specs.Sessions.{IsToldAs}
 
 module _ {R : Type 0} (IsOpened : List ℕ → R → Type 0) (HasLeft : R → List ℕ → Type 0) (CannotOpen : List ℕ → Type 0) (failed : R → Bool) where

@@ -1,7 +1,7 @@
 -- Definition: Whether a path leads to a file that a session reads.
 use Rattle.std.specs.Prelude.{ℕ, ◌⊎◌, List, [], ◌∷◌, Option, Some, None}
 use Rattle.program_tasks.specs.declared.words.ScriptWord.{ScriptWord}
-use Rattle.program_tasks.specs.Opened.{path_in}
+use Rattle.folder_files.specs.Paths.{path_in}
 
 -- the path and each script's lead to different files
 abbrev pub AreScriptsApart : (List ℕ → List ℕ → Type 0) → List ℕ → List ScriptWord → Type 0

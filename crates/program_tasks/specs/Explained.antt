@@ -38,7 +38,8 @@ use Rattle.program_tasks.specs.declared.run_answer.RunAnswer.TheVariants.{Comple
 use Rattle.program_tasks.specs.declared.words.ScriptWord.{ScriptWord}
 use Rattle.program_tasks.specs.Opened.{AreOfFiles}
 use Rattle.program_tasks.specs.Printed.{session_text}
-use Rattle.program_tasks.specs.Program.{escaped_text, line_start}
+use Rattle.folder_files.specs.Escaped.{escaped_text}
+use Rattle.program_tasks.specs.Program.{line_start}
 
 -- ---- lines that did nothing
 

@@ -15,7 +15,8 @@ use Rattle.program_tasks.specs.declared.recording.Recorded.{Recorded}
 use Rattle.program_tasks.specs.declared.recording.Recorded.TheVariants.{Stream, Port, Ports}
 use Rattle.program_tasks.specs.declared.recording.Recording.{Recording}
 use Rattle.program_tasks.specs.Apart.{IsShared}
-use Rattle.program_tasks.specs.Opened.{AreOfFiles, IsBroken, IsUnreadable}
+use Rattle.folder_files.specs.Contents.{IsBroken, IsUnreadable}
+use Rattle.program_tasks.specs.Opened.{AreOfFiles}
 
 -- out of memory
 abbrev pub IsOfMemory : ProgramFault → Type 0

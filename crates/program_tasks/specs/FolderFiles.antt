@@ -1,40 +1,12 @@
--- Definition: The files of a folder that scripts may name.
-use Rattle.std.specs.Prelude.{◌≡◌, ℕ, ◌==◌, ◌-◌, ◌&&◌, Bool, not, List, [], ◌∷◌, ◌++◌, Result, Ok, Err, length, map, drop, codes, IsPermutation, IsSorted}
-use Rattle.std.specs.List.{filter, flat_map, ends_with}
-use Rattle.std.specs.Global.{Vec}
-use Rattle.std.specs.Ordering.{nat_cmp}
-use Rattle.std.specs.Cmp.Lexicographic.{slice_cmp}
-use Rattle.std.specs.Str.{str_eq_ignore_ascii_case}
+-- Definition: The files of a folder that a run takes.
+use Rattle.std.specs.Prelude.{◌≡◌, ℕ, List, [], ◌∷◌, ◌++◌, Result, Ok, Err, map}
+use Rattle.std.specs.List.{flat_map}
 use Rattle.file_store.specs.declared.standing.Standing.{Standing}
 use Rattle.smf_grammar.specs.Files.{MidiFile, IsFile, Fault}
 use Rattle.program_tasks.specs.declared.left_out.LeftOutFile.{LeftOutFile}
 use Rattle.program_tasks.specs.declared.left_out.WhyLeftOut.{WhyLeftOut}
 use Rattle.program_tasks.specs.declared.left_out.WhyLeftOut.TheVariants.{Damaged, Unread}
 use Rattle.program_tasks.specs.declared.opening.FolderFiles.{FolderFiles}
-
--- whether a name ends in `.mid`
-abbrev pub is_midi : List ℕ → Bool
-is_midi name = ends_with (λ a b. a == b) name (codes ".mid")
-
--- whether a name ends in `.mid` but for capitals
-abbrev pub is_in_capitals : List ℕ → Bool
-is_in_capitals name =
-    str_eq_ignore_ascii_case (drop (length name - 4) name) (codes ".mid") && not (is_midi name)
-
--- the names of this kind, each as often as it stands there, in byte order
-pub record AreKept (kind : List ℕ → Bool) (names files : List (List ℕ)) : Type 0 where
-  pub kept : IsPermutation (filter kind names) files
-  pub sorted : IsSorted (slice_cmp nat_cmp) files
-
--- the names that end in `.mid`
-abbrev pub AreMidiFiles : List (List ℕ) → List (List ℕ) → Type 0
-AreMidiFiles names files = AreKept is_midi names files
-
--- those that do but for capitals
-abbrev pub AreInCapitals : List (List ℕ) → List (List ℕ) → Type 0
-AreInCapitals names files = AreKept is_in_capitals names files
-
--- ---- what a run takes of them
 
 -- a file that is left out, by its name, and why it is
 pub record LostFile : Type 0 where
@@ -56,11 +28,6 @@ seen_files o = record {
   files = o.files.items;
   left_out = map seen_lost o.left_out.items;
 }
-
--- what a file holds, and of one that could not be read what stands at its path
-abbrev pub bytes_read : Result (Vec ℕ) Standing → Result (List ℕ) Standing
-bytes_read (Ok bytes) = Ok bytes.items
-bytes_read (Err there) = Err there
 
 -- A file is found where it could be read and is a Standard MIDI File, and else it is left out: for
 -- a fault that its bytes have, or for what stands at its path.

@@ -9,7 +9,7 @@ use Rattle.smf_grammar.specs.declared.fault.SmfFault.{SmfFault}
 use Rattle.tempo_clock.specs.Entries.{is_ppq}
 use Rattle.tempo_clock.specs.Ticks.{Tempos}
 use Rattle.program_tasks.specs.Faults.{IsOfMemory}
-use Rattle.program_tasks.specs.Opened.{IsOfFile, IsUnreadable}
+use Rattle.folder_files.specs.Contents.{IsOfFile, IsUnreadable}
 use Rattle.program_tasks.specs.declared.grid.GridWords.{GridWords}
 use Rattle.program_tasks.specs.declared.grid.GridWords.TheVariants.{Said, Like}
 use Rattle.program_tasks.specs.declared.program_fault.ProgramFault.{ProgramFault}

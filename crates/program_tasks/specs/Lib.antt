@@ -17,6 +17,8 @@ pub mod LeftOut
 pub mod Circles
 pub mod Recorded
 pub mod Faults
+pub mod Made
+pub mod Checked
 pub mod Grid
 pub mod Why
 pub mod LogFiles

@@ -10,7 +10,8 @@ use Rattle.seq_session.specs.Devices.{clients, reader_of, log_of_fault, Wrote, A
 use Rattle.seq_session.specs.Sessions.{FolderContents, all_logs, listing_after, script_clients}
 use Rattle.seq_session.specs.Streams.{logs_after, StopsBetween, IsCutShort}
 use Rattle.program_tasks.specs.Apart.{AreScriptsApart, IsOneScript}
-use Rattle.program_tasks.specs.Opened.{path_in, AreOfFiles}
+use Rattle.folder_files.specs.Paths.{path_in}
+use Rattle.program_tasks.specs.Opened.{AreOfFiles}
 use Rattle.program_tasks.specs.Sessions.{owners, IsToldAs}
 use Rattle.program_tasks.specs.declared.log_folder.LogFolder.{LogFolder}
 use Rattle.program_tasks.specs.declared.program_fault.ProgramFault.{ProgramFault}

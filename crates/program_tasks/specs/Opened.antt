@@ -1,13 +1,13 @@
 -- Definition: What was read of files that were opened by their paths.
-use Rattle.std.specs.Prelude.{◌≡◌, ◌+◌, ◌⊎◌, ℕ, Bool, true, List, [], ◌∷◌, ◌++◌, Option, Some, None, Result, Ok, Err, take, codes}
-use Rattle.byte_io.specs.Moved.{GaveAll}
+use Rattle.std.specs.Prelude.{◌≡◌, ◌+◌, ℕ, Bool, List, [], ◌∷◌, ◌++◌, Option, Some, None, Result, take}
 use Rattle.file_store.specs.declared.standing.Standing.{Standing}
-use Rattle.smf_grammar.specs.Chunks.{most_bytes}
+use Rattle.folder_files.specs.Contents.{IsContent, IsOfFile}
+use Rattle.folder_files.specs.Names.{AreInCapitals, AreMidiFiles}
+use Rattle.folder_files.specs.Paths.{path_in}
 use Rattle.script_text.specs.declared.script.TheConstants.{MOST_FILES, MOST_SCRIPT}
 use Rattle.seq_session.specs.declared.source.Script.{Script}
 use Rattle.seq_session.specs.declared.source.ScriptSource.{ScriptSource}
 use Rattle.program_tasks.specs.declared.words.ScriptWord.{ScriptWord}
-use Rattle.program_tasks.specs.FolderFiles.{AreInCapitals, AreMidiFiles}
 
 -- Each source is of the client that a word names, and was opened at the path that it names.
 abbrev pub AreSourcesOf : {R : Type 0} → (List ℕ → R → Type 0) → List ScriptWord
@@ -17,24 +17,13 @@ AreSourcesOf IsOpened (w ∷ words) (s ∷ sources) =
 AreSourcesOf IsOpened [] [] = Unit {0}
 AreSourcesOf IsOpened _ _ = ⊥
 
--- a file in a folder
-abbrev pub path_in : List ℕ → List ℕ → List ℕ
-path_in folder name = folder ++ codes "/" ++ name
-
 module _ {R : Type 0} (IsOpened : List ℕ → R → Type 0) (HasLeft : R → List ℕ → Type 0) where
-  -- These bytes are what the reads of the file at the path gave: all that it has, or so many.
-  pub record IsOfFile (most : ℕ) (path bytes : List ℕ) : Type 0 where
-    pub before : R
-    pub after : R
-    pub opened : IsOpened path before
-    pub gave : GaveAll HasLeft most before bytes after
-
   -- ---- scripts
 
   -- Each script is that of the client and of the path that a word names.
   abbrev pub AreOfFiles : List ScriptWord → List Script → Type 0
   AreOfFiles (w ∷ words) (s ∷ scripts) =
-      (s.client ≡ w.client) × IsOfFile (MOST_SCRIPT + 1) w.path.now s.text
+      (s.client ≡ w.client) × IsOfFile IsOpened HasLeft (MOST_SCRIPT + 1) w.path.now s.text
       × AreOfFiles words scripts
   AreOfFiles [] [] = Unit {0}
   AreOfFiles _ _ = ⊥
@@ -47,45 +36,30 @@ module _ {R : Type 0} (IsOpened : List ℕ → R → Type 0) (HasLeft : R → Li
 
   -- ---- the files of a folder
 
-  module _ (CannotOpen : List ℕ → Type 0) (failed : R → Bool) where
-    -- A read of the file at this path failed.
-    pub record IsBroken (path : List ℕ) : Type 0 where
-      pub before : R
-      pub after : R
-      pub opened : IsOpened path before
-      pub broken : failed after ≡ true
+  module _ (CannotOpen : List ℕ → Type 0) (failed : R → Bool)
+      (IsStanding : List ℕ → Standing → Type 0) where
+    -- so of each of these names in a folder
+    abbrev pub AreContents : List ℕ → List (List ℕ) → List (Result (List ℕ) Standing) → Type 0
+    AreContents folder (name ∷ names) (content ∷ contents) =
+        IsContent IsOpened HasLeft CannotOpen failed IsStanding (path_in folder name) content
+        × AreContents folder names contents
+    AreContents folder [] [] = Unit {0}
+    AreContents folder _ _ = ⊥
 
-    -- No file could be opened at this path, or a read of it failed.
-    abbrev pub IsUnreadable : List ℕ → Type 0
-    IsUnreadable path = CannotOpen path ⊎ IsBroken path
+    -- The names are those of a folder that end in `.mid`, the contents those of the first of
+    -- them, and then there are the names that end so but for capitals.
+    pub record IsFolderListed (HasNames : List ℕ → List (List ℕ) → Type 0) (folder : List ℕ)
+        (names : List (List ℕ)) (contents : List (Result (List ℕ) Standing))
+        (capitals : List (List ℕ)) : Type 0 where
+      pub entries : List (List ℕ)
+      pub listed : HasNames folder entries
+      pub files : AreMidiFiles entries names
+      pub read : AreContents folder (take MOST_FILES names) contents
+      pub in_capitals : AreInCapitals entries capitals
 
-    module _ (IsStanding : List ℕ → Standing → Type 0) where
-      -- what was read of the file at a path, and of one that could not be read what stands there
-      abbrev pub IsContent : List ℕ → Result (List ℕ) Standing → Type 0
-      IsContent path (Ok bytes) = IsOfFile (most_bytes + 1) path bytes
-      IsContent path (Err there) = IsUnreadable path × IsStanding path there
-
-      -- so of each of these names in a folder
-      abbrev pub AreContents : List ℕ → List (List ℕ) → List (Result (List ℕ) Standing) → Type 0
-      AreContents folder (name ∷ names) (content ∷ contents) =
-          IsContent (path_in folder name) content × AreContents folder names contents
-      AreContents folder [] [] = Unit {0}
-      AreContents folder _ _ = ⊥
-
-      -- The names are those of a folder that end in `.mid`, the contents those of the first of
-      -- them, and then there are the names that end so but for capitals.
-      pub record IsFolderListed (HasNames : List ℕ → List (List ℕ) → Type 0) (folder : List ℕ)
-          (names : List (List ℕ)) (contents : List (Result (List ℕ) Standing))
-          (capitals : List (List ℕ)) : Type 0 where
-        pub entries : List (List ℕ)
-        pub listed : HasNames folder entries
-        pub files : AreMidiFiles entries names
-        pub read : AreContents folder (take MOST_FILES names) contents
-        pub in_capitals : AreInCapitals entries capitals
-
-      -- where no folder is named there are no names
-      abbrev pub IsFolder : (List ℕ → List (List ℕ) → Type 0) → Option (List ℕ) →
-          List (List ℕ) → List (Result (List ℕ) Standing) → List (List ℕ) → Type 0
-      IsFolder HasNames None names contents capitals = (names ≡ []) × (capitals ≡ [])
-      IsFolder HasNames (Some folder) names contents capitals =
-          IsFolderListed HasNames folder names contents capitals
+    -- where no folder is named there are no names
+    abbrev pub IsFolder : (List ℕ → List (List ℕ) → Type 0) → Option (List ℕ) →
+        List (List ℕ) → List (Result (List ℕ) Standing) → List (List ℕ) → Type 0
+    IsFolder HasNames None names contents capitals = (names ≡ []) × (capitals ≡ [])
+    IsFolder HasNames (Some folder) names contents capitals =
+        IsFolderListed HasNames folder names contents capitals

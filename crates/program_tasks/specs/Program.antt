@@ -1,14 +1,16 @@
 -- Definition: What the program is asked to do, and what it prints where it stops.
-use Rattle.std.specs.Prelude.{◌≡◌, ◌≢◌, ℕ, Bool, true, false, if◌then◌else◌, List, [], ◌∷◌, ◌++◌, Result, Ok, Err, codes, encode_utf8, encode_utf8_all}
-use Rattle.std.specs.List.{flat_map}
-use Rattle.std.specs.Char.{is_control}
+use Rattle.std.specs.Prelude.{◌≡◌, ◌≢◌, ℕ, Bool, true, false, if◌then◌else◌, List, [], ◌∷◌, ◌++◌, Result, Ok, Err, codes}
 use Rattle.std.specs.Fmt.{decimal}
-use Rattle.std.specs.Char.Escape.{escape_default}
-use Rattle.std.specs.Str.{chars}
 use Rattle.memory.specs.Faults.{out_of_memory_text}
+use Rattle.smf_check.specs.declared.answer.CheckAnswer.{CheckAnswer}
+use Rattle.smf_check.specs.declared.answer.CheckAnswer.TheVariants as checked
 use Rattle.smf_grammar.specs.Faults as smf
+use Rattle.smf_make.specs.declared.fault.MakeFault.{MakeFault}
+use Rattle.smf_make.specs.declared.fault.MakeFault.TheVariants as making
+use Rattle.smf_make.specs.Faults.{make_fault_text}
 use Rattle.file_store.specs.declared.standing.Standing.{Standing}
-use Rattle.file_store.specs.declared.standing.Standing.TheVariants.{Nothing, Folder, Special, Denied, File}
+use Rattle.folder_files.specs.Escaped.{escaped_text}
+use Rattle.folder_files.specs.Unread.{unread_text}
 use Rattle.program_tasks.specs.declared.answer.CircleAnswer.{CircleAnswer}
 use Rattle.program_tasks.specs.declared.answer.CircleAnswer.TheVariants as circle
 use Rattle.program_tasks.specs.declared.choice.Tool.{Tool}
@@ -16,13 +18,13 @@ use Rattle.program_tasks.specs.declared.choice.Tool.TheVariants.{Thru, Wire, Dum
 use Rattle.program_tasks.specs.declared.choice.Stream.{Stream}
 use Rattle.program_tasks.specs.declared.choice.Stream.TheVariants.{Standard, Path}
 use Rattle.program_tasks.specs.declared.ending.Ended.{Ended}
-use Rattle.program_tasks.specs.declared.ending.Ended.TheVariants.{Done, Shown, Answered, Judged}
+use Rattle.program_tasks.specs.declared.ending.Ended.TheVariants.{Done, Shown, Answered, Judged, Checked}
 use Rattle.program_tasks.specs.declared.run_answer.RunAnswer.{RunAnswer}
 use Rattle.program_tasks.specs.declared.run_answer.RunAnswer.TheVariants.{Complete, Incomplete}
 use Rattle.tool_text.specs.declared.fault.ToolFault.{ToolFault}
 use Rattle.tool_text.specs.declared.fault.ToolFault.TheVariants as tool
 use Rattle.program_tasks.specs.declared.program_fault.ProgramFault.{ProgramFault}
-use Rattle.program_tasks.specs.declared.program_fault.ProgramFault.TheVariants.{NotUtf8, NoSubcommand, NotAMoment, NotATime, NotAPort, NotPorts, NotAPpq, NotABpm, NotAForm, NotASource, NotAMessage, NotALine, NotAClient, NotAScript, TwoScripts, OutIsRead, GoesBack, CannotRead, CannotWrite, OutOfMemory, CannotRecord, Smf, Unreadable, LogIsRead, CannotWriteLog}
+use Rattle.program_tasks.specs.declared.program_fault.ProgramFault.TheVariants.{NotUtf8, NoSubcommand, NotAMoment, NotATime, NotAPort, NotPorts, NotAPpq, NotABpm, NotAForm, NotASource, NotAMessage, NotALine, NotAClient, NotAScript, TwoScripts, OutIsRead, GoesBack, CannotRead, CannotWrite, OutOfMemory, CannotRecord, Smf, Unreadable, LogIsRead, CannotWriteLog, OutIsText, Make}
 
 -- ---- the choice
 
@@ -51,22 +53,6 @@ IsNamedBy Standard word = word ≡ codes "-"
 IsNamedBy (Path path) word = (path.now ≡ word) × (word ≢ codes "-")
 
 -- ---- the line of a fault
-
--- a control character as it is written with a backslash, and each other as it is
-abbrev pub escaped_char : ℕ → List ℕ
-escaped_char c = if is_control c then encode_utf8_all (escape_default c) else encode_utf8 c
-
--- a text without control characters
-abbrev pub escaped_text : List ℕ → List ℕ
-escaped_text text = flat_map escaped_char (chars text)
-
--- why a path cannot be read, where what stands there says so
-abbrev pub unread_text : Standing → List ℕ
-unread_text Nothing = codes ": there is no such file"
-unread_text Folder = codes ": it is a folder"
-unread_text Special = []
-unread_text Denied = codes ": permission is denied"
-unread_text File = []
 
 -- what stands in the line of a fault
 abbrev pub program_fault_text : ProgramFault → List ℕ
@@ -120,6 +106,8 @@ program_fault_text (LogIsRead folder client) =
     ++ codes ".log is a file that the session reads"
 program_fault_text (CannotWriteLog folder client) =
     codes "cannot write " ++ escaped_text folder.now ++ codes "/" ++ decimal client ++ codes ".log"
+program_fault_text (OutIsText path) = escaped_text path.now ++ codes " is the text itself"
+program_fault_text (Make fault) = make_fault_text fault
 
 -- what is printed for the fault of a tool that was given a stream
 abbrev pub told_text : Stream → ToolFault → List ℕ
@@ -127,6 +115,12 @@ told_text stream tool.Read = codes "cannot read " ++ escaped_text (stream_name s
 told_text stream tool.Write = codes "cannot write " ++ escaped_text (codes "-")
 told_text stream tool.OutOfMemory = out_of_memory_text
 told_text stream (tool.Smf fault) = smf.fault_text fault
+
+-- what is printed for the fault of a text of which a file was to be made
+abbrev pub told_making : Stream → MakeFault → List ℕ
+told_making stream making.Read = codes "cannot read " ++ escaped_text (stream_name stream)
+told_making stream making.OutOfMemory = out_of_memory_text
+told_making stream fault = make_fault_text fault
 
 -- whether the help of the program says more of what is wrong
 abbrev pub is_helped : ProgramFault → Bool
@@ -155,6 +149,8 @@ is_helped (Smf fault) = false
 is_helped (Unreadable path there) = false
 is_helped (LogIsRead folder client) = true
 is_helped (CannotWriteLog folder client) = false
+is_helped (OutIsText path) = true
+is_helped (Make fault) = false
 
 -- how to ask for help, where that says more
 abbrev pub help_hint : ProgramFault → List ℕ
@@ -208,6 +204,8 @@ exit_status (Smf fault) = 1
 exit_status (Unreadable path there) = 1
 exit_status (LogIsRead folder client) = 2
 exit_status (CannotWriteLog folder client) = 1
+exit_status (OutIsText path) = 2
+exit_status (Make fault) = 1
 
 -- ---- how the program ends
 
@@ -221,12 +219,18 @@ abbrev pub run_status : RunAnswer → ℕ
 run_status Complete = 0
 run_status Incomplete = 3
 
+-- 0 where each file that was checked is whole, 1 where one is not
+abbrev pub check_status : CheckAnswer → ℕ
+check_status checked.AllWhole = 0
+check_status checked.SomeNot = 1
+
 -- the status with which it ends
 abbrev pub end_status : Result Ended ProgramFault → ℕ
 end_status (Ok Done) = 0
 end_status (Ok (Shown status)) = status
 end_status (Ok (Answered answer)) = answer_status answer
 end_status (Ok (Judged answer)) = run_status answer
+end_status (Ok (Checked answer)) = check_status answer
 end_status (Err fault) = exit_status fault
 
 -- the lines that are shown as it ends: one for a fault, and else none

@@ -24,7 +24,7 @@ use Rattle.program_tasks.specs.declared.why_question.WhyQuestion.TheVariants as 
 use Rattle.program_tasks.specs.declared.words.ScriptWord.{ScriptWord}
 use Rattle.program_tasks.specs.Explained.{diagnostic_line, slip_line, path_for, place_text}
 use Rattle.program_tasks.specs.Opened.{AreOfFiles}
-use Rattle.program_tasks.specs.Program.{escaped_text}
+use Rattle.folder_files.specs.Escaped.{escaped_text}
 use Rattle.program_tasks.specs.Words.{parts_at}
 
 -- ---- words

@@ -4,10 +4,10 @@ ghost use Rattle.std.specs.Prelude.{◌≡◌, true, false, map, string_bytes, I
 ghost use Rattle.std.specs.Option.{option_map};
 ghost use Rattle.program_tasks.specs.Apart.{AreScriptsApart, AreFilesApart, IsApart, IsOneScript, IsOneFile, IsShared};
 
-use crate::folder::path_in;
 use crate::session::Session;
 use crate::words::ScriptWord;
 use file_store::FileStore;
+use folder_files::path_in;
 use memory::OutOfMemory;
 use std::alloc::Global;
 

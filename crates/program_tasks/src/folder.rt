@@ -5,25 +5,25 @@ ghost use Rattle.std.specs.Option.{option_map};
 ghost use Rattle.byte_io.specs.Moved.{Took};
 ghost use Rattle.script_text.specs.declared.script.TheConstants.{MOST_FILES};
 ghost use Rattle.program_tasks.specs.Explained.{are_none};
-ghost use Rattle.program_tasks.specs.FolderFiles.{bytes_read, seen_files, seen_lost, AreOpened};
+ghost use Rattle.folder_files.specs.Contents.{bytes_read, IsContent};
+ghost use Rattle.folder_files.specs.Paths.{path_in};
+ghost use Rattle.program_tasks.specs.FolderFiles.{seen_files, seen_lost, AreOpened};
 ghost use Rattle.program_tasks.specs.Faults.{IsOfMemory, IsOfListing};
-ghost use Rattle.program_tasks.specs.Opened.{path_in, IsContent, IsFolder};
+ghost use Rattle.program_tasks.specs.Opened.{IsFolder};
 ghost use Rattle.smf_grammar.specs.Played.{as_played};
 ghost use Rattle.program_tasks.specs.LeftOut.{all_lost, lost_for, lost_line, lost_lines, lost_where};
 
 use crate::left_out::{LeftOutFile, LeftOutSince, WhyLeftOut};
-use crate::names::{capital_files, midi_files, taken_files};
+use crate::names::taken_files;
 use crate::notes::Notes;
 use crate::opening::{FolderFiles, open_files};
 use crate::program_fault::{LeftOut, ProgramFault};
-use byte_io::{DeviceFault, Source, read_to};
+use byte_io::DeviceFault;
 use file_store::{FileStore, Standing};
+use folder_files::{capital_files, content_of, midi_files, path_in};
 use memory::OutOfMemory;
 use seq_session::NamedFiles;
 use std::alloc::Global;
-
-/// One byte more than a Standard MIDI File may have.
-pub(crate) const MOST_READ: usize = 16_777_217;
 
 /// The files of a folder, as they were read.
 #[derive(Drop)]
@@ -65,7 +65,7 @@ impl Folder {
         let names = midi_files(entries)?;
         let (taken, _) = taken_files(names.as_slice());
         for name in taken {
-            contents.push(content_of(alloc, store, dir, name.as_str())?)?;
+            contents.push(content_in(alloc, store, dir, name.as_str())?)?;
         }
         Ok(Folder {
             names,
@@ -179,37 +179,18 @@ fn names_in<'a, S: FileStore>(
     }
 }
 
-/// The path of a file in a folder.
-pub(crate) fn path_in(alloc: Global, dir: &str, name: &str) -> Result<String, OutOfMemory>
-    ensures { IfOk result (λ path. string_bytes path ≡ path_in dir.now name.now) }
-{
-    Ok(format!(in alloc; "{dir}/{name}")?)
-}
-
-/// What a regular file holds, up to one byte more than a file may have; if it cannot be read, what stands there.
-fn content_of<S: FileStore>(
+/// What the regular file with a name in a folder holds, as `content_of` says.
+fn content_in<S: FileStore>(
     alloc: Global,
     store: &S,
     dir: &str,
     name: &str,
-) -> Result<Result<Vec<u8>, Standing>, ProgramFault<'static>>
-    ensures read { IfOk result (λ content. IsContent S.IsOpened S.Reader.HasLeft S.CannotOpen
+) -> Result<Result<Vec<u8>, Standing>, OutOfMemory>
+    ensures { IfOk result (λ content. IsContent S.IsOpened S.Reader.HasLeft S.CannotOpen
         S.Reader.failed S.IsStanding (path_in dir.now name.now) (bytes_read content)) }
-    ensures fault { IfErr result IsOfMemory }
 {
     let path = path_in(alloc, dir, name)?;
-    let Ok(mut source) = store.open_regular(path.as_str()) else {
-        return Ok(Err(store.look(path.as_str())));
-    };
-    match read_to(alloc, &mut source, MOST_READ) {
-        Ok(bytes) => Ok(Ok(bytes)),
-        Err(_) => {
-            if source.has_failed() {
-                return Ok(Err(store.look(path.as_str())));
-            }
-            Err(ProgramFault::OutOfMemory)
-        }
-    }
+    content_of(alloc, store, path.as_str())
 }
 
 /// The files that a run may play, with their names.

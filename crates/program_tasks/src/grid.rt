@@ -5,12 +5,12 @@ ghost use Rattle.std.specs.Option.{option_map};
 ghost use Rattle.smf_grammar.specs.Chunks.{most_bytes};
 ghost use Rattle.tempo_clock.specs.Entries.{is_ppq, is_tempo};
 ghost use Rattle.program_tasks.specs.Grid.{is_bpm, ppq_said, bpm_said, tempo_of, one_tempo, grid_said, IsNoPpq, IsNoBpm, IsNoGrid, IsGridOf, IsNoGridOf, IsGrid, IsOfGrid};
-ghost use Rattle.program_tasks.specs.Opened.{IsOfFile};
+ghost use Rattle.folder_files.specs.Contents.{IsOfFile};
 
-use crate::folder::MOST_READ;
 use crate::program_fault::ProgramFault;
 use byte_io::{Source, read_to};
 use file_store::FileStore;
+use folder_files::MOST_READ;
 use memory::OutOfMemory;
 use script_text::number_of;
 use smf_files::{SmfFault, SmfFile};

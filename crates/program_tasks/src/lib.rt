@@ -2,18 +2,19 @@
 //! status of each fault.
 //!
 //! `run` is what `midiseq run` does, and `explain` what it does where it explains; `record` what `midiseq record` does,
-//! `circle` what `midiseq circle` does, `live` what `midiseq live` does, and `perform` what the tools do, over every
-//! store of files: from the files that the words name to the text that is printed, or to the file that is written.
+//! `circle` what `midiseq circle` does, `live` what `midiseq live` does, `make` what `midiseq make` does, `check` what
+//! `midiseq check` does, and `perform` what the tools do, over every store of files: from the files that the words name
+//! to the text that is printed, or to the file that is written.
 #![tactic(auto)]
 
 mod answer;
 mod answering;
 mod apart;
+mod checking;
 mod choice;
 mod circling;
 mod end_word;
 mod ending;
-mod escaped;
 mod explaining;
 mod explanation;
 mod folder;
@@ -24,6 +25,7 @@ mod held_log;
 mod left_out;
 mod log_folder;
 mod logs;
+mod making;
 mod names;
 mod notes;
 mod opening;
@@ -53,6 +55,7 @@ mod writing;
 
 pub use answer::CircleAnswer;
 pub use answering::print_circle;
+pub use checking::check;
 pub use choice::{STANDARD, Stream, Task, Tool};
 pub use end_word::EndWord;
 pub use ending::{Ended, finish};
@@ -65,7 +68,8 @@ pub use held_log::HeldLog;
 pub use left_out::{LeftOutFile, LeftOutSince, WhyLeftOut};
 pub use log_folder::LogFolder;
 pub use logs::print_logs;
-pub use names::{capital_files, midi_files, taken_files};
+pub use making::make;
+pub use names::taken_files;
 pub use notes::{Notes, StandardError};
 pub use opening::{FolderFiles, open_files};
 pub use port_file::record_file;

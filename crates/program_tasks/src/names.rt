@@ -1,38 +1,9 @@
-//! The files of a folder that scripts may name.
+//! The files of a folder that a run takes.
 
-ghost use Rattle.std.specs.Prelude.{◌≡◌, take, drop, map, string_bytes, IfOk};
+ghost use Rattle.std.specs.Prelude.{◌≡◌, take, drop};
 ghost use Rattle.script_text.specs.declared.script.TheConstants.{MOST_FILES};
-ghost use Rattle.program_tasks.specs.FolderFiles.{is_in_capitals, is_midi, AreInCapitals, AreMidiFiles};
 
-use memory::OutOfMemory;
 use script_text::MOST_FILES;
-use std::alloc::Global;
-
-/// The files of a folder, from the names of its entries: those that end in `.mid`, in byte order.
-pub fn midi_files(names: Vec<String>) -> Result<Vec<String>, OutOfMemory>
-    ensures { IfOk result (λ files.
-        AreMidiFiles (map string_bytes names.items) (map string_bytes files.items)) }
-{
-    let mut files = names;
-    files.retain(|name| is_midi(name.as_str()));
-    files.sort()?;
-    Ok(files)
-}
-
-/// The names of a folder's entries that end in `.mid` but for capitals, in byte order.
-pub fn capital_files(alloc: Global, names: &[String]) -> Result<Vec<String>, OutOfMemory>
-    ensures { IfOk result (λ files.
-        AreInCapitals (map string_bytes names.now) (map string_bytes files.items)) }
-{
-    let mut capitals = Vec::new(alloc);
-    for name in names {
-        if is_in_capitals(name.as_str()) {
-            capitals.push(String::from_str(alloc, name.as_str())?)?;
-        }
-    }
-    capitals.sort()?;
-    Ok(capitals)
-}
 
 /// The files that are taken, and those that are left out because there are more than `MOST_FILES`.
 pub fn taken_files(files: &[String]) -> (&[String], &[String])
@@ -40,19 +11,4 @@ pub fn taken_files(files: &[String]) -> (&[String], &[String])
     ensures left_out { result.1.now ≡ drop MOST_FILES files.now }
 {
     files.split_at(MOST_FILES.min(files.len()))
-}
-
-fn is_midi(name: &str) -> bool
-    ensures { result ≡ is_midi name.now }
-{
-    name.as_bytes().ends_with(b".mid")
-}
-
-/// Whether a name ends in `.mid` but for capitals.
-fn is_in_capitals(name: &str) -> bool
-    ensures { result ≡ is_in_capitals name.now }
-{
-    let bytes = name.as_bytes();
-    let (_, ending) = bytes.split_at(bytes.len().saturating_sub(4));
-    ending.eq_ignore_ascii_case(b".mid") && !is_midi(name)
 }

@@ -1,7 +1,8 @@
 //! The files of a folder that a run can play.
 
 ghost use Rattle.std.specs.Prelude.{◌≡◌, ◌≤◌, [], length, map, string_bytes, IfOk, OnOk};
-ghost use Rattle.program_tasks.specs.FolderFiles.{seen_files, bytes_read, IsOpenedAs, AreOpened, GainsFile};
+ghost use Rattle.folder_files.specs.Contents.{bytes_read};
+ghost use Rattle.program_tasks.specs.FolderFiles.{seen_files, IsOpenedAs, AreOpened, GainsFile};
 
 use crate::left_out::{LeftOutFile, WhyLeftOut};
 use file_store::Standing;

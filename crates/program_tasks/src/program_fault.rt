@@ -2,13 +2,15 @@
 
 ghost use Rattle.std.specs.Prelude.{◌≡◌, ◌≢◌};
 ghost use Rattle.std.specs.Fmt.{WritesOnOk};
-ghost use Rattle.program_tasks.specs.Program.{program_fault_text, told_text, exit_status, is_helped, line_start, unread_text};
+ghost use Rattle.folder_files.specs.Unread.{unread_text};
+ghost use Rattle.program_tasks.specs.Program.{program_fault_text, told_text, told_making, exit_status, is_helped, line_start};
 
 use crate::choice::{STANDARD, Stream};
-use crate::escaped::Escaped;
 use file_store::Standing;
+use folder_files::{Escaped, unread_text};
 use memory::OutOfMemory;
 use smf_files::SmfFault;
+use smf_make::MakeFault;
 use std::alloc::{AllocError, AllocFailed};
 use std::fmt;
 use std::io::ErrorKind;
@@ -62,6 +64,10 @@ pub enum ProgramFault<'a> {
     LogIsRead { folder: &'a str, client: u8 },
     /// The log of a client in a folder could not be begun, or not written to its end.
     CannotWriteLog { folder: &'a str, client: u8 },
+    /// The file that is to be made of a text is the text itself.
+    OutIsText(&'a str),
+    /// Why no file can be made of a text.
+    Make(MakeFault),
 }
 
 impl<'a> ProgramFault<'a> {
@@ -89,6 +95,18 @@ impl<'a> ProgramFault<'a> {
         }
     }
 
+    /// The fault of a text of which a file was to be made, from the stream that it was read from.
+    pub fn of_making(stream: Stream<'a>, fault: MakeFault) -> ProgramFault<'a>
+        ensures text { program_fault_text result ≡ told_making stream.entry fault }
+        ensures status { exit_status result ≡ 1 }
+    {
+        match fault {
+            MakeFault::OutOfMemory => ProgramFault::OutOfMemory,
+            MakeFault::Read => ProgramFault::CannotRead(stream.name()),
+            _ => ProgramFault::Make(fault),
+        }
+    }
+
     /// The status that the program ends with: 2 for a fault in the words, 1 for any other.
     pub fn status(&self) -> u8
         ensures { result ≡ exit_status self.now }
@@ -110,6 +128,7 @@ impl<'a> ProgramFault<'a> {
             | ProgramFault::NotAScript(_)
             | ProgramFault::TwoScripts(_)
             | ProgramFault::OutIsRead(_)
+            | ProgramFault::OutIsText(_)
             | ProgramFault::LogIsRead { .. }
             | ProgramFault::GoesBack { .. } => 2,
             ProgramFault::CannotRead(_)
@@ -118,6 +137,7 @@ impl<'a> ProgramFault<'a> {
             | ProgramFault::OutOfMemory
             | ProgramFault::CannotRecord
             | ProgramFault::Smf(_)
+            | ProgramFault::Make(_)
             | ProgramFault::Unreadable { .. } => 1,
         }
     }
@@ -143,21 +163,10 @@ impl<'a> ProgramFault<'a> {
                 | ProgramFault::NotAScript(_)
                 | ProgramFault::TwoScripts(_)
                 | ProgramFault::OutIsRead(_)
+                | ProgramFault::OutIsText(_)
                 | ProgramFault::LogIsRead { .. }
                 | ProgramFault::GoesBack { .. }
         )
-    }
-}
-
-/// Why a path cannot be read, where what stands there says so.
-fn unread_text(there: Standing) -> &'static str
-    ensures { result.now ≡ unread_text there }
-{
-    match there {
-        Standing::Nothing => ": there is no such file",
-        Standing::Folder => ": it is a folder",
-        Standing::Denied => ": permission is denied",
-        Standing::Special | Standing::File => "",
     }
 }
 
@@ -275,6 +284,11 @@ impl fmt::Display for ProgramFault<'_> {
                 let folder = Escaped(folder);
                 write!(f, "cannot write {folder}/{client}.log")
             }
+            ProgramFault::OutIsText(path) => {
+                let path = Escaped(path);
+                write!(f, "{path} is the text itself")
+            }
+            ProgramFault::Make(fault) => write!(f, "{fault}"),
         }
     }
 }

@@ -4,7 +4,8 @@ ghost use Rattle.std.specs.Prelude.{◌≡◌, ◌+◌, false, IfOk, IfErr, OnOk
 ghost use Rattle.script_text.specs.declared.script.TheConstants.{MOST_SCRIPT};
 ghost use Rattle.seq_session.specs.Devices.{AreSound};
 ghost use Rattle.program_tasks.specs.Faults.{IsOfReading, IsOfScripts};
-ghost use Rattle.program_tasks.specs.Opened.{IsOfFile, AreOfFiles, AreSourcesOf, ReadsScripts};
+ghost use Rattle.folder_files.specs.Contents.{IsOfFile};
+ghost use Rattle.program_tasks.specs.Opened.{AreOfFiles, AreSourcesOf, ReadsScripts};
 
 use crate::program_fault::ProgramFault;
 use crate::session::Session;

@@ -6,9 +6,9 @@ ghost use Rattle.node_table.specs.Text.{addr_text};
 ghost use Rattle.node_table.specs.declared.number.Node.TheVariants.{Port};
 ghost use Rattle.program_tasks.specs.Explained.{skipped_since, said_text, tempo_meant, messages_text, channel_text, note_text};
 
-use crate::escaped::Escaped;
 use crate::program_fault::write_start;
 use crate::remedy::write_remedy;
+use folder_files::Escaped;
 use node_table::PortAddr;
 use script_text::SkipReason;
 use seq_engine::Loss;

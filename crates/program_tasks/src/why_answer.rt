@@ -8,7 +8,6 @@ ghost use Rattle.program_tasks.specs.Sessions.{owners};
 ghost use Rattle.program_tasks.specs.Why.{diagnostic_at, slip_at, nothing_text, told_of_line, IsWhyTold, IsOfQuestion, IsWhyPrinted};
 
 use crate::choice::STANDARD;
-use crate::escaped::Escaped;
 use crate::explanation::Explanation;
 use crate::program_fault::ProgramFault;
 use crate::reading::read_scripts;
@@ -18,6 +17,7 @@ use crate::telling::{DiagnosticLine, Place, SlipLine};
 use crate::why_question::{ScriptLine, WhyQuestion, line_named, message_said, source_named};
 use byte_io::Sink;
 use file_store::FileStore;
+use folder_files::Escaped;
 use memory::OutOfMemory;
 use seq_session::{Diagnostic, NamedFiles, SlipOnLine};
 use session_fates::{MOST_TOLD, fates_text, session_fates};

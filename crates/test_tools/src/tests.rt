@@ -1,5 +1,6 @@
 //! The tools of the program, through their public calls.
 
+mod checks;
 mod circles;
 mod circles_of_scripts;
 mod dump;
@@ -9,6 +10,7 @@ mod grids;
 mod left_out;
 mod live;
 mod log_files;
+mod makings;
 mod recording;
 mod refusals;
 mod sessions;

@@ -33,6 +33,9 @@ const AGAIN: &str = "a.mid";
 impl MemFolder {
     /// What stands at a path, which is that of the folder and a name.
     fn at(&self, path: &str) -> Result<&'static [u8], Standing> {
+        if path == "tunes" {
+            return Err(Standing::Folder);
+        }
         if path == "tunes/a.mid" && self.times > 0 {
             return Ok(SHORT);
         }

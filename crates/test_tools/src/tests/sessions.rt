@@ -4,12 +4,13 @@ ghost use Rattle.std.specs.Prelude.{◌≡◌, IfOk, false};
 
 use byte_io::{MemSink, Sink};
 use file_store::Standing;
+use folder_files::{capital_files, midi_files};
 use memory::OutOfMemory;
 use node_table::{ClientId, PortAddr, PortNo};
 use program_tasks::{
-    EndWord, FolderFiles, HeldLog, LeftOutFile, ProgramFault, ScriptWord, WhyLeftOut,
-    capital_files, client_named, midi_files, open_files, port_named, ports_named, print_logs,
-    scripts_named, taken_files, time_named, until_named,
+    EndWord, FolderFiles, HeldLog, LeftOutFile, ProgramFault, ScriptWord, WhyLeftOut, client_named,
+    open_files, port_named, ports_named, print_logs, scripts_named, taken_files, time_named,
+    until_named,
 };
 use smf_files::SmfFault;
 use std::alloc::Global;

@@ -1,7 +1,7 @@
 use Rattle.std.proofs.Common.{rules}
 use Rattle.std.specs.Prelude.{string_bytes}
 use Rattle.std.proofs.lemmas.Result.{IfOk-weaker}
-use Rattle.program_tasks.specs.Opened.{path_in}
+use Rattle.folder_files.specs.Paths.{path_in}
 use Rattle.program_tasks.proofs.Files.{files_apart, one_file_more}
 use Rattle.program_tasks.proofs.apart.+is_no_file.Goals as goal
 

@@ -1,7 +1,8 @@
 use Rattle.std.proofs.Common.{◌≡◌, ◌≤◌, length, map, ap, sym, ◌∙◌, arith}
 use Rattle.std.specs.Prelude.{string_bytes}
 use Rattle.std.proofs.lemmas.List.{length-map}
-use Rattle.program_tasks.specs.FolderFiles.{seen_files, seen_lost, bytes_read}
+use Rattle.folder_files.specs.Contents.{bytes_read}
+use Rattle.program_tasks.specs.FolderFiles.{seen_files, seen_lost}
 use Rattle.program_tasks.proofs.Found.{opens_first, next_opened, all_opened, many_opened, few_opened}
 use Rattle.program_tasks.proofs.opening.open_files.Goals as goal
 

@@ -1,6 +1,7 @@
 use Rattle.std.proofs.Common.{map, drop}
 use Rattle.std.specs.Prelude.{string_bytes}
-use Rattle.program_tasks.specs.FolderFiles.{seen_files, bytes_read}
+use Rattle.folder_files.specs.Contents.{bytes_read}
+use Rattle.program_tasks.specs.FolderFiles.{seen_files}
 use Rattle.program_tasks.proofs.Found.{OpensOn}
 use Rattle.program_tasks.proofs.opening.open_files.Given as goal
 

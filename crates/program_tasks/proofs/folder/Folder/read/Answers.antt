@@ -3,7 +3,8 @@ use Rattle.std.specs.Prelude.{string_bytes}
 use Rattle.std.proofs.lemmas.List.{length-append, take-map}
 use Rattle.std.specs.Option.{option_map}
 use Rattle.script_text.specs.declared.script.TheConstants.{MOST_FILES}
-use Rattle.program_tasks.specs.FolderFiles.{bytes_read, AreInCapitals}
+use Rattle.folder_files.specs.Contents.{bytes_read}
+use Rattle.folder_files.specs.Names.{AreInCapitals}
 use Rattle.program_tasks.specs.Opened.{AreContents, IsFolder}
 use Rattle.program_tasks.proofs.Opened.{take-all}
 use Rattle.program_tasks.proofs.Files.{contents_next}

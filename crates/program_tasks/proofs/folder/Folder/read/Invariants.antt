@@ -1,6 +1,6 @@
 use Rattle.std.proofs.Common.{◌≡◌, length, map, take}
 use Rattle.std.specs.Prelude.{string_bytes}
-use Rattle.program_tasks.specs.FolderFiles.{bytes_read}
+use Rattle.folder_files.specs.Contents.{bytes_read}
 use Rattle.program_tasks.specs.Opened.{AreContents}
 use Rattle.program_tasks.proofs.folder.Folder.read.Given as goal
 

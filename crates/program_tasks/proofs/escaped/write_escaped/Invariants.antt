@@ -1,7 +1,0 @@
-use Rattle.std.specs.List.{flat_map}
-use Rattle.std.specs.Fmt.{HasWritten, IsPlainFormatter}
-use Rattle.program_tasks.specs.Program.{escaped_char}
-use Rattle.program_tasks.proofs.escaped.write_escaped.Given as goal
-
-abbrev pub invariant-loop-c : goal.invariant-loop-c
-invariant-loop-c g l = IsPlainFormatter l.initial.f → HasWritten g.W.Write.write_str_gives l.initial.f (flat_map escaped_char l.yielded) l.f

@@ -1,8 +1,0 @@
-use Rattle.std.proofs.Common.{◌≡◌, map, take}
-use Rattle.std.specs.Prelude.{string_bytes}
-use Rattle.std.specs.List.{filter}
-use Rattle.program_tasks.specs.FolderFiles.{is_in_capitals}
-use Rattle.program_tasks.proofs.names.capital_files.Given as goal
-
-abbrev pub invariant-loop-name : goal.invariant-loop-name
-invariant-loop-name l = map string_bytes l.capitals.items ≡ filter is_in_capitals (map string_bytes (take l.name-index l.names))
