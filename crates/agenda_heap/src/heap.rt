@@ -1,16 +1,17 @@
-//! An agenda over a list and a heap, in which old entries stay until they are met or cleared.
+//! An agenda over a list and a heap, in which old entries stay until they are met, swept or cleared.
 
-ghost use Rattle.std.specs.Prelude.{◌≡◌, ◌≤◌, ◌<◌, ◌+◌, ◌*◌, ◌^◌, ◌↔◌, [], ◌∷◌, ◌++◌, IsTrue, OnOk, OnErr, IfSome, IfNone, length, slice_get, if◌then◌else◌};
+ghost use Rattle.std.specs.Prelude.{◌≡◌, ◌≤◌, ◌+◌, ◌*◌, ◌↔◌, [], ◌∷◌, ◌++◌, IsTrue, OnOk, OnErr, IfSome, IfNone, length, slice_get, if◌then◌else◌};
 ghost use Rattle.std.specs.FinMap as map;
-ghost use Rattle.std.specs.BinaryHeap.{heap_items, heap_len, IsHeap, KeepsHeap};
+ghost use Rattle.std.specs.BinaryHeap.{IsHeap, KeepsHeap};
 ghost use Rattle.std.specs.VecDeque.{deque_len};
 ghost use Rattle.agenda_heap.specs.Due.{IsFirst, IsFirstDue, IsBare, NoneDue};
-ghost use Rattle.agenda_heap.specs.Stored.{heap_item, most_for_each, reversed_cmp, slack, AllLater, Ascends, GainsEntry, IsAgenda, IsCounted, IsLeast, IsRenewed, IsStored, HoldsCells, HoldsOthers};
+ghost use Rattle.agenda_heap.specs.Stored.{heap_item, reversed_cmp, slack, AllLater, Ascends, GainsEntry, IsLeast, IsStored, HoldsCells, HoldsOthers};
 
 use crate::agenda::Agenda;
 use crate::due_key::DueKey;
 use crate::entry::Entry;
-use crate::renewal::Renewal;
+use crate::sifting::{greatest, push, take_at};
+use crate::sweeping::sweep;
 use crate::table::KeyTable;
 use cell_pools::CellKey;
 use memory::OutOfMemory;
@@ -20,39 +21,28 @@ use std::collections::{BinaryHeap, VecDeque};
 use std::marker::Model;
 use std::mem;
 
-/// How many entries may stand for each cell.
-const MOST_FOR_EACH: usize = 6;
-
-/// How many may stand beyond those.
+/// How many entries may stand beyond two for each cell.
 const SLACK: usize = 64;
-
-/// Up to so many entries are cleared at once.
-const CLEARED_AT_ONCE: usize = 4_096;
 
 /// An agenda of entries, ordered by key and then by cell: a cell that goes or gets another key leaves its entry behind.
 ///
 /// An entry that is greater than the last of a list goes to its end, in constant time, and any other into a heap, in
 /// logarithmic time. So the list ascends, and the least entry is its first or the heap's top.
 ///
-/// An entry is stale once its cell went or got another key, and of equal entries all but one are. A call after which
-/// more than two entries for each cell and 64 would stand sees to it that the stale ones, more than half of all, are
-/// dropped. Up to 4,096 entries are cleared at once, in linear time and in place. Of more, a renewal is begun: each
-/// `rekey`, `remove` and `pop_due` from then on makes the entries of a few cells anew, in a second heap, each in
-/// logarithmic time, and once that heap has an entry for each cell, it takes the place of the list and of the first. A
-/// cell that gets a key meanwhile may cost an entry in both.
-///
-/// A renewal is given up where memory for it is refused, or where more than six entries for each cell and 64 would
-/// stand before it ends, as when many cells go. Then one call clears all at once. Either way an entry is dropped once.
+/// An entry is stale once its cell went or got another key, and of equal entries all but one are. Where more than three
+/// entries for two cells and 32 stand, each call that may leave one looks at eight of them, one after another, and drops
+/// those that are stale. So two for each cell and 64 are hardly ever exceeded; a call after which they would be drops all
+/// that are stale, in linear time and in place.
 ///
 /// Beside the entries stands a table as long as the greatest number of a cell so far; it never shrinks.
 pub struct HeapAgenda {
     alloc: Global,
     // Reversed as the heap's are, so that one function clears both.
     ascending: VecDeque<Reverse<Entry>>,
-    heap: BinaryHeap<Reverse<Entry>>,
-    // It takes the place of both once it has passed all cells, and is not read before.
-    renewal: Renewal,
+    heap: Vec<Reverse<Entry>>,
     table: KeyTable,
+    // How many places of the heap are still to be looked at; then comes the list.
+    unswept: usize,
 }
 
 // Not derived: so what it has is taken apart here alone, and not in each crate that drops an agenda.
@@ -62,30 +52,26 @@ impl Drop for HeapAgenda {
             alloc: _,
             ascending: _,
             heap: _,
-            renewal: _,
             table: _,
+            unswept: _,
         } = self;
     }
 }
 
 impl Model for HeapAgenda {
     ghost use Rattle.std.specs.Prelude.{◌+◌};
-    ghost use Rattle.std.specs.BinaryHeap.{heap_items, heap_len};
+    ghost use Rattle.std.specs.Vec.{vec_len};
     ghost use Rattle.std.specs.VecDeque.{deque_len};
-    ghost use Rattle.agenda_heap.specs.Stored.{HeapState, coded_heap, IsAgenda};
+    ghost use Rattle.agenda_heap.specs.Stored.{HeapState, coded_heap, IsStored};
 
     ghost Value = { HeapState };
 
     ghost coded = { coded_heap };
 
     ghost view = { λ a.
-        record {
-          keys = a.table;
-          stored = deque_len a.ascending + heap_len a.heap + heap_len a.renewal.entries;
-        } };
+        record { keys = a.table; stored = deque_len a.ascending + vec_len a.heap } };
 
-    ghost invariant = { λ a. IsAgenda a.table a.ascending.items (heap_items a.heap)
-        (heap_items a.renewal.entries) a.renewal.passed };
+    ghost invariant = { λ a. IsStored a.table a.ascending.items a.heap.items };
 }
 
 impl HeapAgenda {
@@ -97,31 +83,29 @@ impl HeapAgenda {
         HeapAgenda {
             alloc,
             ascending: VecDeque::new(alloc),
-            heap: BinaryHeap::new(alloc),
-            renewal: Renewal::new(alloc),
+            heap: Vec::new(alloc),
             table: KeyTable::new(alloc),
+            unswept: 0,
         }
     }
 
-    /// How many entries stand in the list, in the heap and in a renewal, stale ones too.
+    /// How many entries stand in the list and the heap, stale ones too.
     pub fn stored(&self) -> usize
         ensures value { result ≡ self.now.stored }
-        ensures few { result ≤ most_for_each * map.len self.now.keys + slack }
+        ensures few { result ≤ 2 * map.len self.now.keys + slack }
     {
-        self.ascending.len() + self.heap.len() + self.renewal.entries.len()
+        self.ascending.len() + self.heap.len()
     }
 }
 
 impl Agenda for HeapAgenda {
     ghost content = { λ a. a.keys };
 
-    // Always inline, as what it calls is, so that the heap's push is its one call.
-    #[inline(always)]
+    #[inline]
     fn insert(&mut self, cell: CellKey, key: DueKey) -> Result<(), OutOfMemory> {
         store(
             &mut self.ascending,
             &mut self.heap,
-            &mut self.renewal,
             &mut self.table,
             cell.number(),
             key,
@@ -134,7 +118,6 @@ impl Agenda for HeapAgenda {
         store(
             &mut self.ascending,
             &mut self.heap,
-            &mut self.renewal,
             &mut self.table,
             cell.number(),
             key,
@@ -143,8 +126,8 @@ impl Agenda for HeapAgenda {
             self.alloc,
             &mut self.ascending,
             &mut self.heap,
-            &mut self.renewal,
             &mut self.table,
+            &mut self.unswept,
         );
         Ok(())
     }
@@ -156,8 +139,8 @@ impl Agenda for HeapAgenda {
             self.alloc,
             &mut self.ascending,
             &mut self.heap,
-            &mut self.renewal,
             &mut self.table,
+            &mut self.unswept,
         );
     }
 
@@ -169,8 +152,8 @@ impl Agenda for HeapAgenda {
             self.alloc,
             &mut self.ascending,
             &mut self.heap,
-            &mut self.renewal,
             &mut self.table,
+            &mut self.unswept,
         );
         Some((CellKey::new(entry.cell), entry.key))
     }
@@ -189,15 +172,13 @@ impl Agenda for HeapAgenda {
 /// Drops the entries before the first that is not stale, and gives its key.
 fn first_live(
     ascending: &mut VecDeque<Reverse<Entry>>,
-    heap: &mut BinaryHeap<Reverse<Entry>>,
+    heap: &mut Vec<Reverse<Entry>>,
     table: &KeyTable,
 ) -> Option<DueKey>
-    requires { IsStored table.now ascending.old.items (heap_items heap.old) }
+    requires { IsStored table.now ascending.old.items heap.old.items }
     ensures some { IfSome result (λ key. IsFirst table.now key) }
     ensures none { IfNone result (IsBare table.now) }
-    ensures few { length ascending.new.items + length (heap_items heap.new)
-        ≤ length ascending.old.items + length (heap_items heap.old) }
-    ensures kept { IsStored table.now ascending.new.items (heap_items heap.new) }
+    ensures kept { IsStored table.now ascending.new.items heap.new.items }
 {
     while let Some((least, is_listed)) = first_of(ascending, heap) {
         if table.has(&least) {
@@ -212,126 +193,43 @@ fn first_live(
 #[inline]
 fn drop_first(
     ascending: &mut VecDeque<Reverse<Entry>>,
-    heap: &mut BinaryHeap<Reverse<Entry>>,
+    heap: &mut Vec<Reverse<Entry>>,
     first: Entry,
     is_listed: bool,
 )
     requires ascends { Ascends ascending.old.items }
-    requires order { IsHeap reversed_cmp (heap_items heap.old) }
-    requires place { slice_get (if is_listed then ascending.old.items else heap_items heap.old) 0
+    requires order { IsHeap reversed_cmp heap.old.items }
+    requires place { slice_get (if is_listed then ascending.old.items else heap.old.items) 0
         ≡ Some (record { 0 = first }) }
     ensures ascends { Ascends ascending.new.items }
-    ensures order { IsHeap reversed_cmp (heap_items heap.new) }
-    ensures popped { GainsEntry (ascending.new.items ++ heap_items heap.new)
-        (ascending.old.items ++ heap_items heap.old) first.key first.cell }
+    ensures order { IsHeap reversed_cmp heap.new.items }
+    ensures popped { GainsEntry (ascending.new.items ++ heap.new.items)
+        (ascending.old.items ++ heap.old.items) first.key first.cell }
 {
     if is_listed {
         ascending.pop_front();
     } else {
-        heap.pop();
+        take_at(heap, 0);
     }
 }
 
 /// Gives a cell a key, and adds their entry.
-#[inline(always)]
+#[inline]
 fn store(
     ascending: &mut VecDeque<Reverse<Entry>>,
-    heap: &mut BinaryHeap<Reverse<Entry>>,
-    renewal: &mut Renewal,
-    table: &mut KeyTable,
-    cell: usize,
-    key: DueKey,
-) -> Result<(), OutOfMemory>
-    requires ascends { Ascends ascending.old.items }
-    requires renewed { IsRenewed table.old (heap_items renewal.old.entries) renewal.old.passed }
-    requires counted { IsCounted ascending.old.items (heap_items heap.old)
-        (heap_items renewal.old.entries) renewal.old.passed }
-    ensures ascends { Ascends ascending.new.items }
-    ensures order { KeepsHeap reversed_cmp (heap_items heap.old) (heap_items heap.new) }
-    ensures gained { OnOk result (GainsEntry (ascending.old.items ++ heap_items heap.old)
-        (ascending.new.items ++ heap_items heap.new) key cell) }
-    ensures keyed { OnOk result (table.new ≡ map.insert table.old cell key) }
-    ensures renewed { IsRenewed table.new (heap_items renewal.new.entries) renewal.new.passed }
-    ensures counted { IsCounted ascending.new.items (heap_items heap.new)
-        (heap_items renewal.new.entries) renewal.new.passed }
-    ensures more { OnOk result (length (heap_items renewal.new.entries)
-        ≤ length (heap_items renewal.old.entries) + 1) }
-    ensures no_more { OnErr result
-        (heap_items renewal.new.entries ≡ heap_items renewal.old.entries) }
-    ensures listed { OnErr result (ascending.new.items ≡ ascending.old.items) }
-    ensures items { OnErr result (heap_items heap.new ≡ heap_items heap.old) }
-    ensures err { OnErr result (table.new ≡ table.old) }
-{
-    if renewal.passed > 0 {
-        return store_renewing(ascending, heap, renewal, table, cell, key);
-    }
-    store_entry(ascending, heap, table, cell, key)
-}
-
-/// The same while a renewal is under way, which gets the entry too where it has passed the cell.
-// Not inline, so that a call outside a renewal costs little.
-#[cold]
-#[inline(never)]
-fn store_renewing(
-    ascending: &mut VecDeque<Reverse<Entry>>,
-    heap: &mut BinaryHeap<Reverse<Entry>>,
-    renewal: &mut Renewal,
-    table: &mut KeyTable,
-    cell: usize,
-    key: DueKey,
-) -> Result<(), OutOfMemory>
-    requires ascends { Ascends ascending.old.items }
-    requires renewed { IsRenewed table.old (heap_items renewal.old.entries) renewal.old.passed }
-    requires counted { IsCounted ascending.old.items (heap_items heap.old)
-        (heap_items renewal.old.entries) renewal.old.passed }
-    ensures ascends { Ascends ascending.new.items }
-    ensures order { KeepsHeap reversed_cmp (heap_items heap.old) (heap_items heap.new) }
-    ensures gained { OnOk result (GainsEntry (ascending.old.items ++ heap_items heap.old)
-        (ascending.new.items ++ heap_items heap.new) key cell) }
-    ensures keyed { OnOk result (table.new ≡ map.insert table.old cell key) }
-    ensures renewed { IsRenewed table.new (heap_items renewal.new.entries) renewal.new.passed }
-    ensures counted { IsCounted ascending.new.items (heap_items heap.new)
-        (heap_items renewal.new.entries) renewal.new.passed }
-    ensures more { OnOk result (length (heap_items renewal.new.entries)
-        ≤ length (heap_items renewal.old.entries) + 1) }
-    ensures no_more { OnErr result
-        (heap_items renewal.new.entries ≡ heap_items renewal.old.entries) }
-    ensures listed { OnErr result (ascending.new.items ≡ ascending.old.items) }
-    ensures items { OnErr result (heap_items heap.new ≡ heap_items heap.old) }
-    ensures err { OnErr result (table.new ≡ table.old) }
-{
-    // No memory holds so many that `stored` could wrap.
-    if (ascending.len() + heap.len()).saturating_add(renewal.entries.len()) > usize::MAX / 2 {
-        return Err(OutOfMemory);
-    }
-    if cell >= renewal.passed {
-        return store_entry(ascending, heap, table, cell, key);
-    }
-    renewal.entries.reserve(1)?;
-    store_entry(ascending, heap, table, cell, key)?;
-    match renewal.entries.push(Reverse(Entry { key, cell })) {
-        Ok(()) => Ok(()),
-        Err(_) => unreachable!(),
-    }
-}
-
-/// Gives a cell a key, and adds their entry to the list or the heap.
-#[inline(always)]
-fn store_entry(
-    ascending: &mut VecDeque<Reverse<Entry>>,
-    heap: &mut BinaryHeap<Reverse<Entry>>,
+    heap: &mut Vec<Reverse<Entry>>,
     table: &mut KeyTable,
     cell: usize,
     key: DueKey,
 ) -> Result<(), OutOfMemory>
     requires { Ascends ascending.old.items }
     ensures ascends { Ascends ascending.new.items }
-    ensures order { KeepsHeap reversed_cmp (heap_items heap.old) (heap_items heap.new) }
-    ensures gained { OnOk result (GainsEntry (ascending.old.items ++ heap_items heap.old)
-        (ascending.new.items ++ heap_items heap.new) key cell) }
+    ensures order { KeepsHeap reversed_cmp heap.old.items heap.new.items }
+    ensures gained { OnOk result (GainsEntry (ascending.old.items ++ heap.old.items)
+        (ascending.new.items ++ heap.new.items) key cell) }
     ensures keyed { OnOk result (table.new ≡ map.insert table.old cell key) }
     ensures listed { OnErr result (ascending.new.items ≡ ascending.old.items) }
-    ensures items { OnErr result (heap_items heap.new ≡ heap_items heap.old) }
+    ensures items { OnErr result (heap.new.items ≡ heap.old.items) }
     ensures err { OnErr result (table.new ≡ table.old) }
 {
     // There is room first, so that the entry finds its place once the cell has its key.
@@ -344,7 +242,7 @@ fn store_entry(
     }
     heap.reserve(1)?;
     table.put(cell, key)?;
-    match heap.push(Reverse(entry)) {
+    match push(heap, Reverse(entry)) {
         Ok(()) => Ok(()),
         Err(_) => unreachable!(),
     }
@@ -367,20 +265,20 @@ fn comes_last(ascending: &VecDeque<Reverse<Entry>>, entry: &Entry) -> bool
 #[inline]
 fn pop_live(
     ascending: &mut VecDeque<Reverse<Entry>>,
-    heap: &mut BinaryHeap<Reverse<Entry>>,
+    heap: &mut Vec<Reverse<Entry>>,
     table: &KeyTable,
     moment: u64,
 ) -> Option<Entry>
-    requires { IsStored table.now ascending.old.items (heap_items heap.old) }
+    requires { IsStored table.now ascending.old.items heap.old.items }
     ensures ascends { Ascends ascending.new.items }
-    ensures order { IsHeap reversed_cmp (heap_items heap.new) }
+    ensures order { IsHeap reversed_cmp heap.new.items }
     ensures some { IfSome result (λ e. IsFirstDue table.now e.cell e.key moment) }
     ensures others { IfSome result (λ e.
-        HoldsOthers table.now e.cell (ascending.new.items ++ heap_items heap.new)) }
-    ensures few { length ascending.new.items + length (heap_items heap.new)
-        ≤ length ascending.old.items + length (heap_items heap.old) }
+        HoldsOthers table.now e.cell (ascending.new.items ++ heap.new.items)) }
+    ensures few { length ascending.new.items + length heap.new.items
+        ≤ length ascending.old.items + length heap.old.items }
     ensures none { IfNone result (NoneDue table.now moment) }
-    ensures kept { IfNone result (IsStored table.now ascending.new.items (heap_items heap.new)) }
+    ensures kept { IfNone result (IsStored table.now ascending.new.items heap.new.items) }
 {
     while let Some(first) = pop_first(ascending, heap, moment) {
         if table.has(&first) {
@@ -394,20 +292,20 @@ fn pop_live(
 #[inline]
 fn pop_first(
     ascending: &mut VecDeque<Reverse<Entry>>,
-    heap: &mut BinaryHeap<Reverse<Entry>>,
+    heap: &mut Vec<Reverse<Entry>>,
     moment: u64,
 ) -> Option<Entry>
     requires ascends { Ascends ascending.old.items }
-    requires order { IsHeap reversed_cmp (heap_items heap.old) }
+    requires order { IsHeap reversed_cmp heap.old.items }
     ensures ascends { Ascends ascending.new.items }
-    ensures order { IsHeap reversed_cmp (heap_items heap.new) }
+    ensures order { IsHeap reversed_cmp heap.new.items }
     ensures due { IfSome result (λ e. e.key.moment ≤ moment) }
-    ensures least { IfSome result (λ e. IsLeast e (ascending.old.items ++ heap_items heap.old)) }
-    ensures popped { IfSome result (λ e. GainsEntry (ascending.new.items ++ heap_items heap.new)
-        (ascending.old.items ++ heap_items heap.old) e.key e.cell) }
-    ensures none { IfNone result (AllLater moment (ascending.old.items ++ heap_items heap.old)) }
+    ensures least { IfSome result (λ e. IsLeast e (ascending.old.items ++ heap.old.items)) }
+    ensures popped { IfSome result (λ e. GainsEntry (ascending.new.items ++ heap.new.items)
+        (ascending.old.items ++ heap.old.items) e.key e.cell) }
+    ensures none { IfNone result (AllLater moment (ascending.old.items ++ heap.old.items)) }
     ensures listed { IfNone result (ascending.new.items ≡ ascending.old.items) }
-    ensures items { IfNone result (heap_items heap.new ≡ heap_items heap.old) }
+    ensures items { IfNone result (heap.new.items ≡ heap.old.items) }
 {
     let (first, is_listed) = first_of(ascending, heap)?;
     // What is stale and still to come stays, since all else is still to come too.
@@ -422,21 +320,21 @@ fn pop_first(
 #[inline]
 fn first_of(
     ascending: &VecDeque<Reverse<Entry>>,
-    heap: &BinaryHeap<Reverse<Entry>>,
+    heap: &Vec<Reverse<Entry>>,
 ) -> Option<(Entry, bool)>
     requires ascends { Ascends ascending.now.items }
-    requires order { IsHeap reversed_cmp (heap_items heap.now) }
-    ensures least { IfSome result (λ r. IsLeast r.0 (ascending.now.items ++ heap_items heap.now)) }
+    requires order { IsHeap reversed_cmp heap.now.items }
+    ensures least { IfSome result (λ r. IsLeast r.0 (ascending.now.items ++ heap.now.items)) }
     ensures place { IfSome result (λ r.
-        slice_get (if r.1 then ascending.now.items else heap_items heap.now) 0
+        slice_get (if r.1 then ascending.now.items else heap.now.items) 0
         ≡ Some (record { 0 = r.0 })) }
-    ensures none { IfNone result (ascending.now.items ++ heap_items heap.now ≡ []) }
+    ensures none { IfNone result (ascending.now.items ++ heap.now.items ≡ []) }
 {
     let front = match ascending.front() {
         Some(front) => front.0,
-        None => return Some((heap.peek()?.0, false)),
+        None => return Some((greatest(heap)?.0, false)),
     };
-    if let Some(top) = heap.peek() {
+    if let Some(top) = greatest(heap) {
         if top.0 < front {
             return Some((top.0, false));
         }
@@ -444,96 +342,77 @@ fn first_of(
     Some((front, true))
 }
 
-/// Goes on with a renewal, or drops the stale entries where they are too many.
+/// Drops stale entries where there are many.
 #[inline(always)]
 fn trim(
     alloc: Global,
     ascending: &mut VecDeque<Reverse<Entry>>,
-    heap: &mut BinaryHeap<Reverse<Entry>>,
-    renewal: &mut Renewal,
+    heap: &mut Vec<Reverse<Entry>>,
     table: &mut KeyTable,
+    unswept: &mut usize,
 )
     requires ascends { Ascends ascending.old.items }
-    requires order { IsHeap reversed_cmp (heap_items heap.old) }
-    requires held { HoldsCells table.old (ascending.old.items ++ heap_items heap.old) }
-    requires renewed { IsRenewed table.old (heap_items renewal.old.entries) renewal.old.passed }
+    requires order { IsHeap reversed_cmp heap.old.items }
+    requires held { HoldsCells table.old (ascending.old.items ++ heap.old.items) }
     ensures same { table.new ≡ table.old }
-    ensures kept { IsAgenda table.old ascending.new.items (heap_items heap.new)
-        (heap_items renewal.new.entries) renewal.new.passed }
+    ensures kept { IsStored table.old ascending.new.items heap.new.items }
 {
-    // A sum that wraps is too small, and entries dropped too early do no harm.
-    let most = table.len().wrapping_mul(2).wrapping_add(SLACK);
-    if renewal.passed > 0 || ascending.len() + heap.len() > most {
-        drop_stale(alloc, ascending, heap, renewal, table);
+    if ascending.len() + heap.len() > many(table.len()) {
+        drop_some(alloc, ascending, heap, table, unswept);
     }
 }
 
-/// Begins a renewal or goes on with it, or clears the stale entries at once: where there are few entries, where memory
-/// is refused, and where too many were left behind meanwhile.
+/// How many entries may stand beside so many cells before stale ones are looked for.
+// A sum that wraps is too small, and entries that are dropped too early do no harm.
+#[inline(always)]
+fn many(cells: usize) -> usize
+    ensures { result ≤ 2 * cells + slack }
+{
+    (cells / 2).wrapping_add(cells).wrapping_add(SLACK / 2)
+}
+
+/// Looks at some entries and drops those that are stale, and clears all that are where there are too many.
 // Not inline, so that a call that drops nothing costs little.
 #[cold]
 #[inline(never)]
-fn drop_stale(
+fn drop_some(
     alloc: Global,
     ascending: &mut VecDeque<Reverse<Entry>>,
-    heap: &mut BinaryHeap<Reverse<Entry>>,
-    renewal: &mut Renewal,
+    heap: &mut Vec<Reverse<Entry>>,
     table: &mut KeyTable,
+    unswept: &mut usize,
 )
     requires ascends { Ascends ascending.old.items }
-    requires order { IsHeap reversed_cmp (heap_items heap.old) }
-    requires held { HoldsCells table.old (ascending.old.items ++ heap_items heap.old) }
-    requires renewed { IsRenewed table.old (heap_items renewal.old.entries) renewal.old.passed }
+    requires order { IsHeap reversed_cmp heap.old.items }
+    requires held { HoldsCells table.old (ascending.old.items ++ heap.old.items) }
     ensures same { table.new ≡ table.old }
-    ensures kept { IsAgenda table.old ascending.new.items (heap_items heap.new)
-        (heap_items renewal.new.entries) renewal.new.passed }
+    ensures kept { IsStored table.old ascending.new.items heap.new.items }
 {
-    let is_quick = renewal.passed == 0 && ascending.len() + heap.len() <= CLEARED_AT_ONCE;
-    if !is_quick && renewal.pass_some(table).is_ok() {
-        take_over(alloc, ascending, heap, renewal, table);
-        let most = table.len().wrapping_mul(MOST_FOR_EACH).wrapping_add(SLACK);
-        if (ascending.len() + heap.len()).saturating_add(renewal.entries.len()) < most {
-            return;
-        }
+    sweep(ascending, heap, table, unswept);
+    let stored = ascending.len() + heap.len();
+    if stored <= many(table.len()) {
+        // So that the list is left alone while the heap has enough that is stale.
+        *unswept = heap.len();
+        return;
     }
-    *renewal = Renewal::new(alloc);
-    clear(alloc, ascending, heap, table);
-}
-
-/// Puts the renewal's entries in the place of all others, once it has passed each cell.
-fn take_over(
-    alloc: Global,
-    ascending: &mut VecDeque<Reverse<Entry>>,
-    heap: &mut BinaryHeap<Reverse<Entry>>,
-    renewal: &mut Renewal,
-    table: &KeyTable,
-)
-    requires stored { IsStored table.now ascending.old.items (heap_items heap.old) }
-    requires renewed { IsRenewed table.now (heap_items renewal.old.entries) renewal.old.passed }
-    ensures stored { IsStored table.now ascending.new.items (heap_items heap.new) }
-    ensures renewed { IsRenewed table.now (heap_items renewal.new.entries) renewal.new.passed }
-{
-    if renewal.passed >= table.end() {
-        *heap = mem::replace(&mut renewal.entries, BinaryHeap::new(alloc));
-        *ascending = VecDeque::new(alloc);
-        renewal.passed = 0;
+    if stored > table.len().wrapping_mul(2).wrapping_add(SLACK) {
+        clear(alloc, ascending, heap, table);
     }
 }
 
-/// Clears the stale entries at once. It takes no memory: the heap goes through a vector in place.
+/// Clears the stale entries. It takes no memory: the heap goes through a vector in place.
 fn clear(
     alloc: Global,
     ascending: &mut VecDeque<Reverse<Entry>>,
-    heap: &mut BinaryHeap<Reverse<Entry>>,
+    heap: &mut Vec<Reverse<Entry>>,
     table: &mut KeyTable,
 )
     requires ascends { Ascends ascending.old.items }
-    requires held { HoldsCells table.old (ascending.old.items ++ heap_items heap.old) }
+    requires held { HoldsCells table.old (ascending.old.items ++ heap.old.items) }
     ensures same { table.new ≡ table.old }
-    ensures kept { IsStored table.old ascending.new.items (heap_items heap.new) }
-    ensures few { length ascending.new.items + length (heap_items heap.new) ≤ map.len table.old }
+    ensures kept { IsStored table.old ascending.new.items heap.new.items }
 {
-    let mut entries = mem::replace(heap, BinaryHeap::new(alloc)).into_vec();
-    table.keep_live(ascending, &mut entries);
-    *heap = BinaryHeap::from(entries);
+    table.keep_live(ascending, heap);
+    let entries = mem::replace(heap, Vec::new(alloc));
+    *heap = BinaryHeap::from(entries).into_vec();
 }

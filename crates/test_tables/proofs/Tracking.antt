@@ -7,7 +7,6 @@ use Rattle.std.specs.FinMap.{FinMap, get, get-empty}
 use Rattle.std.proofs.lemmas.Bool.Decides.{eqb_tells, leb_tells}
 use Rattle.std.proofs.lemmas.List.{get_or-set_same, get_or-set_other, get_or-replicate, get_or_past, length-replicate, length-set}
 use Rattle.agenda_heap.specs.declared.due_key.DueKey.{DueKey}
-use Rattle.test_tables.specs.declared.driver.TheConstants.{CELLS}
 use Rattle.test_tables.specs.Tracked.{IsTracked}
 use Rattle.node_table.proofs.Numbered.{get-insert_same, get-insert_other, get-remove_same, get-remove_other}
 
@@ -21,11 +20,11 @@ Same a b = Told (a == b) (a ≡ b) (a ≢ b)
 abbrev pub Content : Type 0
 Content = FinMap nat_cmp DueKey
 
-pub tracked-empty : (m : Content) (there : List Bool) → m ≡ map.empty → ((q : ℕ) → get_or there q false ≡ false) → length there ≡ CELLS → IsTracked m there
+pub tracked-empty : (m : Content) (there : List Bool) → m ≡ map.empty → ((q : ℕ) → get_or there q false ≡ false) → length there ≡ 100 → IsTracked m there
 tracked-empty m there e none l = record {
   ranked = λ q k g. let bad : None ≡ Some k = sym (ap (λ n. get n q) e ∙ get-empty nat_cmp q) ∙ g in let no : ⊥ = cc in absurd no;
   told = λ q. ap (λ n. is_some (get n q)) e ∙ ap is_some (get-empty nat_cmp q) ∙ sym (none q);
-  sized = l;
+  hundred = l;
 }
 
 pub none_there : (n q : ℕ) → get_or (replicate n false) q false ≡ false
@@ -40,7 +39,7 @@ pub tracked-insert : (m n : Content) (there then : List Bool) (c : ℕ) (k : Due
 tracked-insert m n there then c k t e r here others l = record {
   ranked = λ q key g. rank q key (eqb_tells q c) g;
   told = λ q. flag q (eqb_tells q c);
-  sized = l ∙ t.sized;
+  hundred = l ∙ t.hundred;
 }
   where
     same : (q : ℕ) → q ≡ c → get n q ≡ Some k
@@ -65,7 +64,7 @@ pub tracked-remove : (m n : Content) (there then : List Bool) (c : ℕ) → IsTr
 tracked-remove m n there then c t e here others l = record {
   ranked = λ q key g. rank q key (eqb_tells q c) g;
   told = λ q. flag q (eqb_tells q c);
-  sized = l ∙ t.sized;
+  hundred = l ∙ t.hundred;
 }
   where
     same : (q : ℕ) → q ≡ c → get n q ≡ None
@@ -83,11 +82,11 @@ tracked-remove m n there then c t e here others l = record {
     flag q (inr s) = ap is_some (other q s.1) ∙ t.told q ∙ sym (others q s.1)
 
 -- the flag of a cell is written
-pub tracked-set : (m n : Content) (there : List Bool) (c : ℕ) (k : DueKey) → IsTracked m there → c < CELLS → n ≡ map.insert m c k → k.rank ≡ c → IsTracked n (set there c true)
-tracked-set m n there c k t l e r = tracked-insert m n there (set there c true) c k t e r (get_or-set_same there c true false (subst (λ n. c < n) (sym t.sized) l)) (λ q o. get_or-set_other there c q true false o) (length-set there c true)
+pub tracked-set : (m n : Content) (there : List Bool) (c : ℕ) (k : DueKey) → IsTracked m there → c < 100 → n ≡ map.insert m c k → k.rank ≡ c → IsTracked n (set there c true)
+tracked-set m n there c k t l e r = tracked-insert m n there (set there c true) c k t e r (get_or-set_same there c true false (subst (λ n. c < n) (sym t.hundred) l)) (λ q o. get_or-set_other there c q true false o) (length-set there c true)
 
-pub tracked-clear : (m n : Content) (there : List Bool) (c : ℕ) → IsTracked m there → c < CELLS → n ≡ map.remove m c → IsTracked n (set there c false)
-tracked-clear m n there c t l e = tracked-remove m n there (set there c false) c t e (get_or-set_same there c false false (subst (λ n. c < n) (sym t.sized) l)) (λ q o. get_or-set_other there c q false false o) (length-set there c false)
+pub tracked-clear : (m n : Content) (there : List Bool) (c : ℕ) → IsTracked m there → c < 100 → n ≡ map.remove m c → IsTracked n (set there c false)
+tracked-clear m n there c t l e = tracked-remove m n there (set there c false) c t e (get_or-set_same there c false false (subst (λ n. c < n) (sym t.hundred) l)) (λ q o. get_or-set_other there c q false false o) (length-set there c false)
 
 -- or memory is refused
 pub tracked-tried : {E : Type 0} (o : Result Unit E) (m n : Content) (there : List Bool) (c : ℕ) (k : DueKey) → IsTracked m there → get_or there c false ≡ true → k.rank ≡ c → OnOk o (n ≡ map.insert m c k) → OnErr o (n ≡ m) → IsTracked n there

@@ -3,13 +3,12 @@ use Rattle.std.specs.Prelude.{◌≡◌, ℕ, Bool, false, List, Some, is_some, 
 use Rattle.std.specs.Ordering.{nat_cmp}
 use Rattle.std.specs.FinMap.{FinMap, get, insert}
 use Rattle.agenda_heap.specs.declared.due_key.DueKey.{DueKey}
-use Rattle.test_tables.specs.declared.driver.TheConstants.{CELLS}
 
--- a key's rank is its cell, and so many flags tell which cells are there
+-- a key's rank is its cell, and these 100 flags tell which cells are there
 pub record IsTracked (m : FinMap nat_cmp DueKey) (there : List Bool) : Type 0 where
   pub ranked : (q : ℕ) (k : DueKey) → get m q ≡ Some k → k.rank ≡ q
   pub told : (q : ℕ) → is_some (get m q) ≡ slice_index_or there q false
-  pub sized : length there ≡ CELLS
+  pub hundred : length there ≡ 100
 
 -- the cell has a key of this moment now
 abbrev pub with_key : FinMap nat_cmp DueKey → ℕ → ℕ → FinMap nat_cmp DueKey

@@ -8,8 +8,8 @@ ghost use Rattle.test_tables.specs.Tracked.{IsTracked, with_key};
 use agenda_heap::{Agenda, DueKey, OutOfMemory};
 use cell_pools::CellKey;
 
-/// How many cells a driver uses: so many that `HeapAgenda` does not clear what is stale at once.
-pub const CELLS: usize = 2_100;
+/// How many cells a driver uses.
+pub const CELLS: usize = 100;
 
 /// An agenda, and which cells are in it. A key's rank is the number of its cell, so that no two cells have one key.
 #[derive(Drop)]

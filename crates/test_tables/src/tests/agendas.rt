@@ -67,7 +67,7 @@ fn turn(
         }
     }
     assert!(rt; heap.agenda.len() == sorted.agenda.len());
-    assert!(rt; heap.agenda.stored() <= 6 * CELLS + 64);
+    assert!(rt; heap.agenda.stored() <= 2 * CELLS + 64);
     Ok(())
 }
 
@@ -80,7 +80,7 @@ fn both_bodies_agree(rt: HostRuntime) -> Result<(), OutOfMemory> {
         sorted.set(cell, 0)?;
     }
     let mut chance = 88_172_645_463_325_252;
-    for count in 0..12_000 {
+    for count in 0..6000 {
         chance = after(chance);
         turn(&rt, &mut heap, &mut sorted, count / 4, chance)?;
     }
