@@ -1,11 +1,13 @@
 -- Digits read one by one.
-use Rattle.std.proofs.Common.{◌≡◌, ℕ, ◌+◌, ◌-◌, ◌*◌, ◌≤◌, ◌<◌, ◌^◌, Bool, IfSome, add-one, Option, if◌then◌else◌, subst, true, false, cond, ◌&&◌, List, [], ◌∷◌, ◌++◌, length, take, get_or, Some, None, refl, sym, ap, ◌∙◌, arith}
+use Rattle.std.proofs.Common.{◌≡◌, ℕ, zero, suc, not, ◌+◌, ◌-◌, ◌*◌, ◌≤◌, ◌<◌, ◌^◌, Bool, IfSome, add-one, Option, if◌then◌else◌, subst, true, false, cond, ◌&&◌, List, [], ◌∷◌, ◌++◌, length, take, get_or, Some, None, refl, sym, ap, ◌∙◌, arith}
 use Rattle.std.specs.Prelude.{nat_le}
-use Rattle.std.specs.List.{list_all}
+use Rattle.std.specs.List.{list_all, position_or_len}
 use Rattle.std.proofs.lemmas.Bool.{lt-leb, le-leb}
+use Rattle.std.proofs.lemmas.Bool.Decides.{nat_tests}
 use Rattle.std.proofs.lemmas.List.{take_more}
 use Rattle.std.proofs.Math.Nat.{pow-suc, pow-le-pow_right}
-use Rattle.seq_state.proofs.Lists.{and_both, list_all-append}
+use Rattle.script_text.specs.Words.{is_blank}
+use Rattle.seq_state.proofs.Lists.{and_both, both_left, both_right, list_all-append}
 use Rattle.script_text.specs.Numbers.{only_if, is_digit, is_number, read_on, u64}
 
 pub read_on-append : (n : ℕ) (xs ys : List ℕ) → read_on n (xs ++ ys) ≡ read_on (read_on n xs) ys
@@ -93,3 +95,16 @@ with_last w front last value digit sum n e l f g s h =
     let same : sum ≡ read_on 0 w = s ∙ sym x.1 in
     let is : Some sum ≡ value_of w = ap Some same ∙ sym (ap (λ t. cond t (Some (read_on 0 w)) None) x.0) in
     is ∙ fitting_number w (omega arith) (omega arith) (subst (λ o. IfSome o (λ n. n < 2 ^ 64)) is h)
+
+-- ---- digits at the front of a line
+
+-- digits up to a blank are a word
+pub digits_end : (xs : List ℕ) (n : ℕ) → n ≤ length xs → list_all is_digit (take n xs) ≡ true → (n < length xs → is_blank (get_or xs n 0) ≡ true) → n ≡ position_or_len is_blank xs
+digits_end [] n l d h = omega arith
+digits_end (x ∷ xs) zero l d h = sym (ap (λ t. cond (not t) (1 + position_or_len is_blank xs) 0) (h (omega arith)))
+digits_end (x ∷ xs) (suc n) l d h =
+    let digit : is_digit x ≡ true = both_left (is_digit x) (list_all is_digit (take n xs)) d in
+    let unblank : is_blank x ≡ false = grind (arith, nat_tests) in
+    let more : n ≡ position_or_len is_blank xs = digits_end xs n (omega arith) (both_right (is_digit x) (list_all is_digit (take n xs)) d) (λ k. h (omega arith)) in
+    let one : suc n ≡ 1 + position_or_len is_blank xs = omega arith in
+    one ∙ sym (ap (λ t. cond (not t) (1 + position_or_len is_blank xs) 0) unblank)

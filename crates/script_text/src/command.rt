@@ -1,11 +1,13 @@
 //! A line's words to a command: a function for each row of the table.
 
-ghost use Rattle.std.specs.Prelude.{◌≡◌, ◌∷◌, ◌≤◌, List, [], map, length, codes, Some, None, IfOk, IfErr, OnErr, IsErrOf};
+ghost use Rattle.std.specs.Prelude.{◌≡◌, ◌∷◌, ◌≤◌, List, [], map, length, codes, Some, None, IfSome, IfOk, IfErr, OnErr, IsErrOf};
 ghost use Rattle.route_filter.specs.declared.rule_args.RuleArgs.{RuleArgs};
 ghost use Rattle.seq_state.specs.declared.input.Command.{Command};
 ghost use Rattle.std.specs.List.{position, position_or_len};
 ghost use Rattle.std.specs.Str.{bytes_eq};
+ghost use Rattle.midi_wire.specs.Messages.{is_message};
 ghost use Rattle.script_text.specs.Numbers as says;
+ghost use Rattle.script_text.specs.Numbers.{only_if};
 ghost use Rattle.script_text.specs.Table.{command, rule};
 ghost use Rattle.script_text.specs.declared.script.TheConstants.{MOST_FILES};
 
@@ -13,7 +15,7 @@ use crate::unread::Unread;
 use crate::words::Words;
 use bitflags::Flags;
 use memory::Items;
-use midi_wire::Message;
+use midi_wire::{Message, StatusClass, Width};
 use route_filter::{Kinds, RuleArgs};
 use seq_state::Command;
 use std::alloc::Global;
@@ -311,6 +313,39 @@ pub(crate) fn message(alloc: Global, words: &mut Words) -> Result<Message, Unrea
     ensures ok { IfOk result (λ m. says.message words.old ≡ Some m) }
     ensures err { IsErrOf result Unread.Unreadable → says.message words.old ≡ None }
 {
+    // Most messages are such.
+    if let Some((status, first, second)) = words.three_bytes() {
+        if let Some(message) = with_two_data(status, first, second) {
+            return Ok(message);
+        }
+    }
+    any_message(alloc, words)
+}
+
+/// The message with this status and two data bytes, where that is one.
+#[inline]
+fn with_two_data(status: u8, first: u8, second: u8) -> Option<Message>
+    ensures { IfSome result
+        (λ m. only_if is_message (Some (status ∷ first ∷ second ∷ [])) ≡ Some m) }
+{
+    match StatusClass::of(status) {
+        StatusClass::Channel(Width::Two) | StatusClass::Common(Width::Two) => {
+            if first < 0x80 && second < 0x80 {
+                Some(Message::with_two(status, first, second))
+            } else {
+                None
+            }
+        }
+        _ => None,
+    }
+}
+
+/// The message whose full bytes all words say, of any kind.
+#[inline(never)]
+fn any_message(alloc: Global, words: &mut Words) -> Result<Message, Unread>
+    ensures ok { IfOk result (λ m. says.message words.old ≡ Some m) }
+    ensures err { IsErrOf result Unread.Unreadable → says.message words.old ≡ None }
+{
     let bytes = words.bytes(alloc)?;
     let message = Message::from_bytes(alloc, bytes.as_slice())?;
     message.ok_or(Unread::Unreadable)
@@ -395,6 +430,22 @@ pub(crate) fn command_of(
     names: &[Vec<u8>],
     words: &mut Words,
 ) -> Result<Command, Unread>
+    requires { length names.now ≤ MOST_FILES }
+    ensures ok { IfOk result (λ c. command (map (λ n. n.items) names.now) words.old ≡ Some c) }
+    ensures err { IsErrOf result Unread.Unreadable
+        → command (map (λ n. n.items) names.now) words.old ≡ None }
+{
+    // Long scripts are full of these.
+    if words.pass_schedule() {
+        return schedule(alloc, words);
+    }
+    row_of(alloc, names, words)
+}
+
+/// The same, by the table.
+// A call of its own hands the command over as a whole, and not field by field.
+#[inline(never)]
+fn row_of(alloc: Global, names: &[Vec<u8>], words: &mut Words) -> Result<Command, Unread>
     requires { length names.now ≤ MOST_FILES }
     ensures ok { IfOk result (λ c. command (map (λ n. n.items) names.now) words.old ≡ Some c) }
     ensures err { IsErrOf result Unread.Unreadable

@@ -1,7 +1,9 @@
 //! What becomes of a line.
 
 ghost use Rattle.std.specs.Prelude.{◌≡◌, ◌≤◌, length, map, IfOk};
-ghost use Rattle.script_text.specs.Scripts.{fate};
+ghost use Rattle.std.specs.Option.{option_map};
+ghost use Rattle.script_text.specs.Scripts.{fate, fate_in_time};
+ghost use Rattle.script_text.specs.Table.{command};
 ghost use Rattle.script_text.specs.Words.{without_return};
 ghost use Rattle.script_text.specs.declared.script.TheConstants.{MOST_FILES};
 
@@ -46,6 +48,9 @@ pub(crate) fn fate_of(
     ensures { IfOk result (λ f. f ≡ fate (map (λ n. n.items) names.now) until latest line.now) }
 {
     let mut words = Words::new(without_return(line));
+    if let Some(moment) = words.first_number() {
+        return timed_fate(alloc, names, until, latest, moment, &mut words);
+    }
     let Some(first) = words.word() else {
         return Ok(Fate::PassedOver);
     };
@@ -55,7 +60,23 @@ pub(crate) fn fate_of(
     let Some(moment) = number_of(first) else {
         return Ok(Fate::Skipped(SkipReason::Unreadable));
     };
-    match command_of(alloc, names, &mut words) {
+    timed_fate(alloc, names, until, latest, moment, &mut words)
+}
+
+/// What becomes of a line whose words after its moment are these.
+fn timed_fate(
+    alloc: Global,
+    names: &[Vec<u8>],
+    until: u64,
+    latest: u64,
+    moment: u64,
+    words: &mut Words,
+) -> Result<Fate, OutOfMemory>
+    requires { length names.now ≤ MOST_FILES }
+    ensures { IfOk result (λ f. f ≡ fate_in_time until latest
+        (option_map (λ c. (moment, c)) (command (map (λ n. n.items) names.now) words.old))) }
+{
+    match command_of(alloc, names, words) {
         Ok(command) => {
             if moment > until {
                 Ok(Fate::Skipped(SkipReason::PastEnd))

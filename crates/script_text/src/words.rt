@@ -1,8 +1,8 @@
 //! A cursor over the words of a line.
 
-ghost use Rattle.std.specs.Prelude.{◌≡◌, ◌≤◌, ◌<◌, ◌^◌, ℕ, nat_le, ◌∷◌, length, [], Some, None, IfSome, IfNone, IfOk, IfErr, IsErrOf, map, OnOk, OnErr, OnSome, true, false};
+ghost use Rattle.std.specs.Prelude.{◌≡◌, ◌≤◌, ◌<◌, ◌^◌, ℕ, nat_le, ◌∷◌, codes, length, take, [], Some, None, IfSome, IfNone, IfOk, IfErr, IsErrOf, map, OnOk, OnErr, OnSome, true, false};
 ghost use Rattle.script_text.specs.Words.{is_blank, words};
-ghost use Rattle.std.specs.List.{position, position_or_len, prefix_len};
+ghost use Rattle.std.specs.List.{list_all, position, position_or_len, prefix_len};
 ghost use Rattle.script_text.specs.Table.{word_as, no_more, maybe, file};
 ghost use Rattle.std.specs.Option.{option_map};
 ghost use Rattle.script_text.specs.Numbers.{hex_bytes, some_bytes};
@@ -14,7 +14,7 @@ use crate::number::{
     caps_of, filter_of, number_of, port_of, queue_no_of, shift_of, u8_of, u16_of, u32_of,
 };
 use crate::unread::Unread;
-use node_table::{Addr, Caps, FilterNo, PortNo, QueueAddr, QueueNo};
+use node_table::{Addr, Caps, ClientId, FilterNo, PortNo, QueueAddr, QueueNo};
 use seq_state::DueAt;
 use smallvec::SmallVec;
 use std::alloc::Global;
@@ -98,6 +98,29 @@ fn longer_word_len(bytes: &[u8]) -> usize
     first_blank(bytes).unwrap_or(bytes.len())
 }
 
+/// The number at the front and how many digits it has, where a word of 1 to 19 digits stands there. So many fit.
+// Looking for the word's end first would take two passes over the digits.
+#[inline]
+fn front_number(bytes: &[u8]) -> Option<(u64, usize)>
+    ensures value { IfSome result (λ p. says.u64 (take p.1 bytes.now) ≡ Some p.0) }
+    ensures digits { IfSome result (λ p. list_all says.is_digit (take p.1 bytes.now) ≡ true) }
+    ensures whole { IfSome result (λ p. p.1 ≡ position_or_len is_blank bytes.now) }
+    ensures within { IfSome result (λ p. p.1 ≤ length bytes.now) }
+    ensures some { IfSome result (λ p. 1 ≤ p.1) }
+{
+    let most = bytes.len().min(19);
+    let mut value = 0;
+    let mut n = 0;
+    while n < most && bytes[n] >= b'0' && bytes[n] <= b'9' {
+        value = value * 10 + u64::from(bytes[n] - b'0');
+        n += 1;
+    }
+    if n == 0 || (n < bytes.len() && !is_blank(bytes[n])) {
+        return None;
+    }
+    Some((value, n))
+}
+
 impl<'b> Words<'b> {
     pub(crate) fn new(line: &'b [u8]) -> Words<'b>
         ensures { result ≡ words line.now }
@@ -150,6 +173,92 @@ impl<'b> Words<'b> {
             }
         }
         None
+    }
+
+    /// The number that the next word says, where the line begins with it and it has 1 to 19 digits.
+    #[inline]
+    pub(crate) fn first_number(&mut self) -> Option<u64>
+        ensures some { IfSome result (λ n. word_as says.u64 self.old ≡ Some (n, self.new)) }
+        ensures none { IfNone result (self.new ≡ self.old) }
+    {
+        let (value, len) = front_number(self.rest)?;
+        self.rest = &self.rest[len..];
+        Some(value)
+    }
+
+    /// Whether the next word is `schedule`, where single spaces part it from the others. It is then passed over.
+    #[inline]
+    pub(crate) fn pass_schedule(&mut self) -> bool
+        ensures yes { result ≡ true → self.old ≡ codes "schedule" ∷ self.new }
+        ensures no { result ≡ false → self.new ≡ self.old }
+    {
+        if let [
+            b' ',
+            b's',
+            b'c',
+            b'h',
+            b'e',
+            b'd',
+            b'u',
+            b'l',
+            b'e',
+            rest @ ..,
+        ] = self.rest
+        {
+            if let [b' ', ..] = rest {
+                self.rest = rest;
+                return true;
+            }
+        }
+        false
+    }
+
+    /// The queue that the next word names, where it is as `128:q0` and single spaces part it from the other words.
+    #[inline]
+    fn spaced_queue(&mut self) -> Option<QueueAddr>
+        ensures some { IfSome result (λ q. word_as says.queue self.old ≡ Some (q, self.new)) }
+        ensures none { IfNone result (self.new ≡ self.old) }
+    {
+        if let [
+            b' ',
+            b'1',
+            tens @ b'2'..=b'9',
+            ones @ b'0'..=b'9',
+            b':',
+            b'q',
+            digit @ b'0'..=b'7',
+            rest @ ..,
+        ] = self.rest
+        {
+            if let [] | [b' ', ..] = rest {
+                let client = ClientId::new(100 + (*tens - b'0') * 10 + (*ones - b'0'))?;
+                let queue = QueueNo::new(*digit - b'0')?;
+                self.rest = rest;
+                return Some(QueueAddr { client, queue });
+            }
+        }
+        None
+    }
+
+    /// The due time that the next word says, where it is as `t480` or `n100` and single spaces part it from the others.
+    #[inline]
+    fn spaced_due(&mut self) -> Option<DueAt>
+        ensures some { IfSome result (λ d. word_as says.due_word self.old ≡ Some (d, self.new)) }
+        ensures none { IfNone result (self.new ≡ self.old) }
+    {
+        match self.rest {
+            [b' ', b't', digits @ ..] => {
+                let (ticks, len) = front_number(digits)?;
+                self.rest = &digits[len..];
+                Some(DueAt::Tick(ticks))
+            }
+            [b' ', b'n', digits @ ..] => {
+                let (nanos, len) = front_number(digits)?;
+                self.rest = &digits[len..];
+                Some(DueAt::Nanos(nanos))
+            }
+            _ => None,
+        }
     }
 
     /// The next word, whatever it is.
@@ -293,6 +402,9 @@ impl<'b> Words<'b> {
         ensures err { OnErr result (word_as says.queue self.old ≡ None) }
         ensures only { IfErr result (λ e. e ≡ Unread.Unreadable) }
     {
+        if let Some(queue) = self.spaced_queue() {
+            return Ok(queue);
+        }
         let word = self.word().ok_or(Unread::Unreadable)?;
         let value = queue_of(word).ok_or(Unread::Unreadable)?;
         Ok(value)
@@ -304,6 +416,9 @@ impl<'b> Words<'b> {
         ensures err { OnErr result (word_as says.due_word self.old ≡ None) }
         ensures only { IfErr result (λ e. e ≡ Unread.Unreadable) }
     {
+        if let Some(due_at) = self.spaced_due() {
+            return Ok(due_at);
+        }
         let word = self.word().ok_or(Unread::Unreadable)?;
         let value = due_of(word).ok_or(Unread::Unreadable)?;
         Ok(value)
@@ -374,6 +489,22 @@ impl<'b> Words<'b> {
         };
         let byte = hex_byte(word).ok_or(Unread::Unreadable)?;
         Ok(Some(byte))
+    }
+
+    /// The bytes that all words say, where they are three and single spaces part them.
+    #[inline]
+    pub(crate) fn three_bytes(&self) -> Option<(u8, u8, u8)>
+        ensures { IfSome result (λ x. some_bytes self.now ≡ Some (x.0 ∷ x.1 ∷ x.2 ∷ [])) }
+    {
+        let mut words = self.again();
+        let status = words.spaced_byte()?;
+        let first = words.spaced_byte()?;
+        let second = words.spaced_byte()?;
+        if words.rest.is_empty() {
+            Some((status, first, second))
+        } else {
+            None
+        }
     }
 
     /// The bytes that all words say, one or more.

@@ -1,7 +1,7 @@
 -- Each arm is a row of the table.
 use Rattle.std.proofs.Common.{◌≡◌, ◌∙◌, ◌≤◌, IfOk, Some, sym, subst, map, arith}
 use Rattle.script_text.proofs.ByPlace.{at_row, past_rows}
-use Rattle.script_text.proofs.command.command_of.Goals as goal
+use Rattle.script_text.proofs.command.row_of.Goals as goal
 
 pub returns-in-0-clause-ok : goal.returns-in-0-clause-ok
 returns-in-0-clause-ok c = subst (λ o. IfOk c.schedule.result (λ x. o ≡ Some x)) (sym (at_row (map (λ n. n.items) c.args.names.now) c.args.words.now c.in_ok-word.word.now c.any.new.self c.keyword.result 0 c.in_ok-word.ensures.ok c.keyword.ensures c.in-0.is)) c.schedule.ensures.ok
