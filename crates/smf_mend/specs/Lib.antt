@@ -4,6 +4,8 @@ pub mod Mending
 pub mod Tallies
 pub mod Growing
 pub mod Containers
+pub mod Unwrapping
+pub mod Told
 pub mod LenientReading
 pub mod Laws
 pub mod Rows

@@ -1,5 +1,6 @@
--- Worked rows: What the lenient grammar says of a few files that the strict one refuses.
-use Rattle.std.specs.Prelude.{◌≡◌, ℕ, List, [], ◌∷◌, ◌++◌, Err}
+-- Worked rows: What the lenient grammar says of a few files that the strict one refuses, and how it
+-- is told.
+use Rattle.std.specs.Prelude.{◌≡◌, ℕ, List, [], ◌∷◌, ◌++◌, Err, codes}
 use Rattle.smf_grammar.specs.declared.fault.SmfFault.{SmfFault}
 use Rattle.smf_grammar.specs.declared.fault.SmfFault.TheVariants.{NoStatus, BadData}
 use Rattle.smf_grammar.specs.Pairs.{TrackEvent, Voice, Exclusive, Meta, Pair}
@@ -9,6 +10,8 @@ use Rattle.smf_grammar.specs.Reading.{file_reading}
 use Rattle.smf_grammar.specs.Rows.{header, track_of_length}
 use Rattle.smf_mend.specs.Lenient.{IsLenientFile, LenientFault}
 use Rattle.smf_mend.specs.Forgiving.{forgives_status, forgives_data, file_places}
+use Rattle.smf_mend.specs.Told.{forgiven_text}
+use Rattle.smf_mend.specs.declared.told.Lenience.TheVariants.{RunningStatus, ProgramChange}
 
 -- format 0, 96 ticks per quarter note, and a track of so many bytes
 abbrev pub one_track : ℕ → List ℕ → List ℕ
@@ -64,3 +67,10 @@ pub record NotForgiven : Type 0 where
       (one_track 7 (0x00 ∷ 0x3C ∷ 0x40 ∷ 0x00 ∷ 0xFF ∷ 0x2F ∷ 0x00 ∷ [])) (NoStatus 22)
   pub control : LenientFault
       (one_track 8 (0x00 ∷ 0xB0 ∷ 0x07 ∷ 0x85 ∷ 0x00 ∷ 0xFF ∷ 0x2F ∷ 0x00 ∷ [])) (BadData 22)
+
+-- what was forgiven, in words
+pub record ToldForgiven : Type 0 where
+  pub status : forgiven_text RunningStatus (record { times = 3; first = 6977 })
+      ≡ codes "forgiven 3 running status 6977"
+  pub program : forgiven_text ProgramChange (record { times = 1; first = 22 })
+      ≡ codes "forgiven 1 program change 22"

@@ -1,7 +1,7 @@
 //! What holds of the lenient grammar, for all bytes.
 
 ghost use Rattle.smf_mend.specs.Laws.{ForgivesSoftened, StrictIsLenient, LenientFileOrFault, OneLenientFile, OneLenientFault, NotBothLeniently, ReadsLenientFiles, ReadsLenientFaults};
-ghost use Rattle.smf_mend.specs.Rows.{OverOthers, HighPrograms, NotForgiven};
+ghost use Rattle.smf_mend.specs.Rows.{OverOthers, HighPrograms, NotForgiven, ToldForgiven};
 
 /// Bit 7 is forgiven of a pair just where softening changes what is left.
 pub fn forgives_softened()
@@ -24,10 +24,11 @@ pub fn one_lenient_reading()
     ensures reads_faults { ReadsLenientFaults }
 {}
 
-/// Running status behind a meta and an exclusive event, a program change whose data byte has bit 7 set, and what is not
-/// forgiven.
+/// Running status behind a meta and an exclusive event, a program change whose data byte has bit 7 set, what is not
+/// forgiven, and how what is forgiven is told.
 pub fn worked_mends()
     ensures over_others { OverOthers }
     ensures high_programs { HighPrograms }
     ensures not_forgiven { NotForgiven }
+    ensures told { ToldForgiven }
 {}

@@ -1,5 +1,6 @@
 use Rattle.std.proofs.Common.{[], ◌∷◌, refl, arith, inr}
 use Rattle.std.specs.Prelude.{Some}
+use Rattle.std.specs.Fmt.{digits}
 use Rattle.midi_wire.specs.Messages.{begins}
 use Rattle.smf_grammar.specs.declared.fault.PairFault.TheVariants as pair_fault
 use Rattle.smf_grammar.specs.Quantities.{quantity}
@@ -117,3 +118,7 @@ returns-clause-not_forgiven c = record {
     next = (refl, record { fault = pair_fault.BadData; rest = _; stops = record { before = []; after = _; stand = (refl, refl); next = refl }; told = refl });
   });
 }
+
+pub returns-clause-told : goal.returns-clause-told
+unfolding digits
+returns-clause-told c = record { status = refl; program = refl }
