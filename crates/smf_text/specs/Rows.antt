@@ -1,8 +1,10 @@
--- Worked rows: What is printed of meta events, of events of each kind, and of a whole file.
-use Rattle.std.specs.Prelude.{◌≡◌, ℕ, List, [], ◌∷◌, ◌++◌, codes}
+-- Worked rows: What is printed of meta events, of events of each kind, and of a whole file, without
+-- places and with them.
+use Rattle.std.specs.Prelude.{◌≡◌, ℕ, true, List, [], ◌∷◌, ◌++◌, codes}
 use Rattle.smf_grammar.specs.Pairs.{TrackEvent, Voice, Exclusive, Escape, Meta, Pair}
 use Rattle.smf_grammar.specs.Files.{MidiFile, IsFile}
 use Rattle.smf_text.specs.AllTexts.{meta_text, event_text, all_text}
+use Rattle.smf_text.specs.PlacedTexts.{placed_text}
 
 -- ---- meta events
 
@@ -135,3 +137,21 @@ pub record WholeFile : Type 0 where
       ++ codes "480 F7 F3 01\n"
       ++ codes "480 meta 60 01 02\n"
       ++ codes "960 end\n"
+
+-- the same with places
+pub record PlacedFile : Type 0 where
+  pub text : (file : IsFile example example_file) → placed_text true example file ≡
+      codes "0 format 1 tracks 2 division 480\n"
+      ++ codes "14 track 0\n"
+      ++ codes "22 0 name \"Piano & Bass\"\n"
+      ++ codes "38 0 tempo 500000\n"
+      ++ codes "45 0 time 4 2 24 8\n"
+      ++ codes "53 0 key -3 0\n"
+      ++ codes "59 480 end\n"
+      ++ codes "74 track 1\n"
+      ++ codes "82 0 90 3C 40\n"
+      ++ codes "86 0 90 3E 40\n"
+      ++ codes "89 480 F0 7E 7F 09 01 F7\n"
+      ++ codes "98 480 F7 F3 01\n"
+      ++ codes "103 480 meta 60 01 02\n"
+      ++ codes "109 960 end\n"

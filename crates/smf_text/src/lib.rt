@@ -10,5 +10,5 @@ mod quoting;
 mod walk;
 mod words;
 
-pub use dump_all::dump_all_text;
-pub use laws::{prints_lines, worked_texts};
+pub use dump_all::{dump_all_text, dump_places_text, print_all};
+pub use laws::{places_add_nothing_else, prints_lines, worked_texts};

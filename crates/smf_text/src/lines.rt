@@ -1,8 +1,9 @@
-//! The line of a pair.
+//! The line of a pair, and places in front of lines.
 
 ghost use Rattle.std.specs.Prelude.{◌≡◌, ◌∷◌, [], ◌++◌, OnOk};
 ghost use Rattle.smf_grammar.specs.Seen.{event_seen};
 ghost use Rattle.smf_text.specs.AllTexts.{event_text, line_text};
+ghost use Rattle.smf_text.specs.PlacedTexts.{place_text};
 
 use crate::meta::push_meta;
 use memory::OutOfMemory;
@@ -39,14 +40,38 @@ fn push_event(event: &EventBytes<'_>, text: &mut Vec<u8>) -> Result<(), OutOfMem
 }
 
 /// Adds the line of an event at a tick.
-pub(crate) fn push_line(
-    tick: u64,
-    event: &EventBytes<'_>,
-    text: &mut Vec<u8>,
-) -> Result<(), OutOfMemory>
+fn push_line(tick: u64, event: &EventBytes<'_>, text: &mut Vec<u8>) -> Result<(), OutOfMemory>
     ensures { OnOk result (text.new.items
         ≡ text.old.items ++ line_text tick (event_seen event.now)) }
 {
     push_decimal(text, tick)?;
     push_event(event, text)
+}
+
+/// Adds a place and a space where places are wanted.
+#[inline]
+pub(crate) fn push_place(is_placed: bool, place: u64, text: &mut Vec<u8>) -> Result<(), OutOfMemory>
+    ensures { OnOk result (text.new.items ≡ text.old.items ++ place_text is_placed place) }
+{
+    if is_placed {
+        push_decimal(text, place)?;
+        text.push(b' ')?;
+    }
+    Ok(())
+}
+
+/// Adds the line of an event at a tick, behind its place where places are wanted.
+#[inline]
+pub(crate) fn push_placed_line(
+    is_placed: bool,
+    place: u64,
+    tick: u64,
+    event: &EventBytes<'_>,
+    text: &mut Vec<u8>,
+) -> Result<(), OutOfMemory>
+    ensures { OnOk result (text.new.items ≡ text.old.items
+        ++ (place_text is_placed place ++ line_text tick (event_seen event.now))) }
+{
+    push_place(is_placed, place, text)?;
+    push_line(tick, event, text)
 }

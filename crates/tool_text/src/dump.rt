@@ -59,11 +59,11 @@ pub fn dump_text<R: Source, W: Sink>(
         Ok(file) => file,
         Err(fault) => return Err(ToolFault::from(fault)),
     };
-    print_file(alloc, &file, out)
+    print_dump(alloc, &file, out)
 }
 
-/// Prints a file.
-fn print_file<W: Sink>(alloc: Global, file: &SmfFile<'_>, out: &mut W) -> Result<(), ToolFault>
+/// Prints what a file says, as `dump_text` prints it. At a fault the sink has taken the first part of the text.
+pub fn print_dump<W: Sink>(alloc: Global, file: &SmfFile<'_>, out: &mut W) -> Result<(), ToolFault>
     requires { W.failed out.old ≡ false }
     ensures text { OnOk result (Took W.HasTaken out.old (dump_of file.now) out.new) }
     ensures short { OnErr result (TookFirst W.HasTaken out.old (dump_of file.now) out.new) }

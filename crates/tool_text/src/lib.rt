@@ -10,7 +10,7 @@ mod printing;
 mod thru;
 mod wire;
 
-pub use dump::{dump_text, push_head};
+pub use dump::{dump_text, print_dump, push_head};
 pub use fault::ToolFault;
 pub use laws::{thru_prints_messages, worked_texts};
 pub use printing::{Printer, flush, print_stream, send, spill};

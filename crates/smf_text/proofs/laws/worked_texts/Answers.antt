@@ -8,6 +8,7 @@ use Rattle.smf_grammar.specs.Reading.{pairs_from, pairs_of, tracks_from, file_re
 use Rattle.smf_grammar.proofs.Whole.{reading-file}
 use Rattle.smf_text.specs.AllTexts.{meta_words}
 use Rattle.smf_text.specs.Rows.{example, example_file}
+use Rattle.smf_text.proofs.PlacedExample.{placed-file}
 use Rattle.smf_text.proofs.laws.worked_texts.Goals as goal
 
 pub returns-clause-named : goal.returns-clause-named
@@ -64,3 +65,6 @@ returns-clause-events c = record { note = refl; program = refl; exclusive = refl
 pub returns-clause-file : goal.returns-clause-file
 unfolding meta_words digits quantity group_at voice_at sized_at meta_at event_at pair_at header_of header_at chunk_at pairs_from pairs_of tracks_from file_reading begins
 returns-clause-file c = record { read = reading-file example example_file refl; text = refl }
+
+pub returns-clause-placed : goal.returns-clause-placed
+returns-clause-placed c = placed-file

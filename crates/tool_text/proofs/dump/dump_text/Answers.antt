@@ -9,14 +9,14 @@ returns-in-Err-read-clause-told g c = fault-told g.R.Source.HasLeft _ _ _ c.in-O
 pub returns-clause-text : goal.returns-clause-text
 returns-clause-text g c =
     let file = rw c.as_slice.ensures.value at c.in-Ok-read.ensures.file in
-    on_ok_weaker c.print_file.result (λ k. file-dumped g.R.Source.HasLeft _ _ _ c.in-Ok.ensures.bytes c.in-Ok-read.file file g.W.Sink.HasTaken _ _ k) c.print_file.ensures.text
+    on_ok_weaker c.print_dump.result (λ k. file-dumped g.R.Source.HasLeft _ _ _ c.in-Ok.ensures.bytes c.in-Ok-read.file file g.W.Sink.HasTaken _ _ k) c.print_dump.ensures.text
 
 pub returns-clause-short : goal.returns-clause-short
 returns-clause-short g c =
     let file = rw c.as_slice.ensures.value at c.in-Ok-read.ensures.file in
-    on_err_weaker c.print_file.result (λ k. inr (file-stops g.R.Source.HasLeft _ _ _ c.in-Ok.ensures.bytes c.in-Ok-read.file file g.W.Sink.HasTaken _ _ k)) c.print_file.ensures.short
+    on_err_weaker c.print_dump.result (λ k. inr (file-stops g.R.Source.HasLeft _ _ _ c.in-Ok.ensures.bytes c.in-Ok-read.file file g.W.Sink.HasTaken _ _ k)) c.print_dump.ensures.short
 
 pub returns-clause-told : goal.returns-clause-told
 returns-clause-told g c =
     let file = rw c.as_slice.ensures.value at c.in-Ok-read.ensures.file in
-    file-told g.R.Source.HasLeft _ _ _ c.in-Ok.ensures.bytes c.in-Ok-read.file file c.print_file.result c.print_file.ensures.only
+    file-told g.R.Source.HasLeft _ _ _ c.in-Ok.ensures.bytes c.in-Ok-read.file file c.print_dump.result c.print_dump.ensures.only

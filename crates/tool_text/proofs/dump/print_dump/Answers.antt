@@ -2,7 +2,7 @@ use Rattle.std.proofs.lemmas.Result.{on_ok_weaker, on_err_weaker}
 use Rattle.memory.proofs.Outcomes.{on_err}
 use Rattle.tool_text.proofs.Dumped.{head-printed, tempos-printed, tempos-stop, events-printed, events-stop, all-printed, all-stop}
 use Rattle.tool_text.proofs.Pieces.{stops-none, goes-stops}
-use Rattle.tool_text.proofs.dump.print_file.Goals as goal
+use Rattle.tool_text.proofs.dump.print_dump.Goals as goal
 
 pub returns-in_err-cursor-clause-short : goal.returns-in_err-cursor-clause-short
 returns-in_err-cursor-clause-short g c = on_err c.from_residual.result (stops-none g.W.Sink.HasTaken _ _)
