@@ -6,7 +6,7 @@ use Rattle.byte_io.specs.Memory.{one_more}
 use Rattle.smf_check.specs.declared.answer.CheckAnswer.TheVariants.{AllWhole, SomeNot}
 use Rattle.smf_check.specs.declared.tally.Tally.{Tally}
 use Rattle.smf_check.specs.declared.verdict.Verdict.{Verdict}
-use Rattle.smf_check.specs.declared.verdict.Verdict.TheVariants.{Whole, Damaged, Unread}
+use Rattle.smf_check.specs.declared.verdict.Verdict.TheVariants.{Whole, Forgiven, Damaged, Unread}
 use Rattle.smf_check.specs.Verdicts.{finds_whole, finds_damaged, finds_unread}
 use Rattle.smf_check.specs.Checks.{JudgedFile, check_answer, counts_text, how_many}
 use Rattle.smf_check.specs.Checking.{answer_by, end_text, no_verdicts, with_verdicts, with_verdict}
@@ -49,16 +49,19 @@ module _ (count : Tally → ℕ) (test : Verdict → Bool) (one : (tally : Tally
 
 whole-one : (tally : Tally) (verdict : Verdict) → (with_verdict tally verdict).whole ≡ cond (finds_whole verdict) (one_more tally.whole) tally.whole
 whole-one tally Whole = refl
+whole-one tally (Forgiven status program) = refl
 whole-one tally (Damaged fault) = refl
 whole-one tally (Unread there) = refl
 
 damaged-one : (tally : Tally) (verdict : Verdict) → (with_verdict tally verdict).damaged ≡ cond (finds_damaged verdict) (one_more tally.damaged) tally.damaged
 damaged-one tally Whole = refl
+damaged-one tally (Forgiven status program) = refl
 damaged-one tally (Damaged fault) = refl
 damaged-one tally (Unread there) = refl
 
 unread-one : (tally : Tally) (verdict : Verdict) → (with_verdict tally verdict).unread ≡ cond (finds_unread verdict) (one_more tally.unread) tally.unread
 unread-one tally Whole = refl
+unread-one tally (Forgiven status program) = refl
 unread-one tally (Damaged fault) = refl
 unread-one tally (Unread there) = refl
 
@@ -95,6 +98,7 @@ all-whole (file ∷ files) = go (all-whole files) file.verdict
 
     go : list_all (λ f. finds_whole f.verdict) files ≡ (length damaged == 0 && length unread == 0) → (v : Verdict) → (finds_whole v && list_all (λ f. finds_whole f.verdict) files) ≡ (length (cond (finds_damaged v) (file ∷ damaged) damaged) == 0 && length (cond (finds_unread v) (file ∷ unread) unread) == 0)
     go others Whole = others
+    go others (Forgiven status program) = others
     go others (Damaged fault) = ap (λ b. b && (length unread == 0)) (some-counted (length damaged))
     go others (Unread there) = and-false (length damaged == 0) ∙ ap (λ b. (length damaged == 0) && b) (some-counted (length unread))
 

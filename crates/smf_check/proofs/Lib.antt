@@ -2,3 +2,4 @@ pub mod Reported
 pub mod Words
 pub mod Counted
 pub mod Finished
+pub mod Forgiving

@@ -1,7 +1,6 @@
 -- The paths that words name, one word after another.
 use Rattle.std.proofs.Common.{◌≡◌, ◌≢◌, ℕ, zero, suc, ◌+◌, ◌<◌, ◌≤◌, List, [], ◌∷◌, ◌++◌, ◌∙◌, map, take, drop, length, get_or, refl, ap, sym, append_assoc, append-nil, inl, inr, arith}
 use Rattle.std.proofs.lemmas.List.{map_more}
-use Rattle.std.proofs.Math.Seq.{take-length}
 use Rattle.file_store.specs.declared.standing.Standing.{Standing}
 use Rattle.file_store.specs.declared.standing.Standing.TheVariants.{Folder}
 use Rattle.folder_files.specs.Names.{AreMidiFiles}
@@ -9,9 +8,6 @@ use Rattle.folder_files.specs.Paths.{path_in}
 use Rattle.smf_check.specs.Named.{AreFirst, AreFirstPathsOf, ArePathsAt, ArePathsIn, ArePathsOf, AreThese}
 
 -- ---- lists that are gone through
-
-pub take-all : {X : Type 0} (i : ℕ) (xs : List X) → i ≤ length xs → length xs ≤ i → take i xs ≡ xs
-take-all i xs l g = ap (λ n. take n xs) (let e : i ≡ length xs = omega arith in e) ∙ take-length xs
 
 -- the first of them, the next, and those behind it
 split-at : {X Y : Type 0} (f : X → Y) (xs : List X) (i : ℕ) (x : X) → i < length xs → x ≡ get_or xs i x → map f xs ≡ map f (take i xs) ++ (f x ∷ map f (drop (i + 1) xs))

@@ -8,7 +8,7 @@ use Rattle.smf_check.specs.declared.answer.CheckAnswer.TheVariants.{AllWhole, So
 use Rattle.smf_check.specs.declared.report.Report.{Report}
 use Rattle.smf_check.specs.declared.tally.Tally.{Tally}
 use Rattle.smf_check.specs.declared.verdict.Verdict.{Verdict}
-use Rattle.smf_check.specs.declared.verdict.Verdict.TheVariants.{Whole, Damaged, Unread}
+use Rattle.smf_check.specs.declared.verdict.Verdict.TheVariants.{Whole, Forgiven, Damaged, Unread}
 use Rattle.smf_check.specs.Checks.{JudgedFile, paths_of, shown_text, AreJudged}
 
 -- ---- counts
@@ -20,6 +20,7 @@ no_verdicts = record { whole = 0; damaged = 0; unread = 0 }
 -- one file more
 abbrev pub with_verdict : Tally → Verdict → Tally
 with_verdict tally Whole = record tally { whole = one_more tally.whole }
+with_verdict tally (Forgiven status program) = record tally { whole = one_more tally.whole }
 with_verdict tally (Damaged fault) = record tally { damaged = one_more tally.damaged }
 with_verdict tally (Unread there) = record tally { unread = one_more tally.unread }
 

@@ -20,24 +20,28 @@ use tool_text::ToolFault;
 
 /// Prints the verdict on each file that words name, and then how many files have which. A word that names a folder is
 /// for the files in it that end in `.mid`, in byte order. With `quiet` only those that are not whole have a line, and
-/// there is no other.
+/// there is no other. Where it is lenient, each file is judged by the lenient grammar, and may stand in a RIFF
+/// container; one of which something is forgiven is whole.
 ///
 /// A file that is damaged or can't be read stops nothing. What is held in memory is the names of one folder, the bytes
-/// of one file, and a piece of the text.
+/// of one file, leniently those of the strict file made of it too, and a piece of the text.
 pub fn check_files<S: FileStore, W: Sink>(
     alloc: Global,
     store: &S,
     words: &[&str],
     quiet: bool,
+    is_lenient: bool,
     out: &mut W,
 ) -> Result<CheckAnswer, ToolFault>
     requires { W.failed out.old ≡ false }
     ensures checked { IfOk result (λ answer. IsChecked
-        (IsJudged S.IsOpened S.Reader.HasLeft S.CannotOpen S.Reader.failed S.IsStanding)
+        (IsJudged is_lenient S.IsOpened S.Reader.HasLeft S.CannotOpen S.Reader.failed
+        S.IsStanding)
         (ArePathsOf S.CannotList S.HasNames S.IsStanding (map (λ w. w.now) words.now))
         W.HasTaken quiet answer out.old out.new) }
     ensures short { OnErr result (IsCheckedInPart
-        (IsJudged S.IsOpened S.Reader.HasLeft S.CannotOpen S.Reader.failed S.IsStanding)
+        (IsJudged is_lenient S.IsOpened S.Reader.HasLeft S.CannotOpen S.Reader.failed
+        S.IsStanding)
         (ArePathsOf S.CannotList S.HasNames S.IsStanding (map (λ w. w.now) words.now))
         (AreFirstPathsOf S.CannotList S.HasNames S.IsStanding (map (λ w. w.now) words.now))
         W.HasTaken quiet out.old out.new) }
@@ -45,7 +49,7 @@ pub fn check_files<S: FileStore, W: Sink>(
     ensures only { IfErr result IsOutput }
 {
     let mut report = Report::new(alloc, quiet);
-    check_words(alloc, store, words, &mut report, out)?;
+    check_words(alloc, store, words, is_lenient, &mut report, out)?;
     report.finish(alloc, out)
 }
 
@@ -54,23 +58,26 @@ fn check_words<S: FileStore, W: Sink>(
     alloc: Global,
     store: &S,
     words: &[&str],
+    is_lenient: bool,
     report: &mut Report,
     out: &mut W,
 ) -> Result<(), ToolFault>
     requires { W.failed out.old ≡ false }
     ensures checked { OnOk result (HasChecked
-        (IsJudged S.IsOpened S.Reader.HasLeft S.CannotOpen S.Reader.failed S.IsStanding)
+        (IsJudged is_lenient S.IsOpened S.Reader.HasLeft S.CannotOpen S.Reader.failed
+        S.IsStanding)
         (ArePathsOf S.CannotList S.HasNames S.IsStanding (map (λ w. w.now) words.now))
         W.HasTaken out.old out.new report.old report.new) }
     ensures short { OnErr result (StopsChecking
-        (IsJudged S.IsOpened S.Reader.HasLeft S.CannotOpen S.Reader.failed S.IsStanding)
+        (IsJudged is_lenient S.IsOpened S.Reader.HasLeft S.CannotOpen S.Reader.failed
+        S.IsStanding)
         (AreFirstPathsOf S.CannotList S.HasNames S.IsStanding (map (λ w. w.now) words.now))
         W.HasTaken out.old out.new report.old) }
     ensures marks { SinkMarks W.failed W.takes_some out.old out.new (blames_sink result) }
     ensures only { IfErr result IsOutput }
 {
     for word in words {
-        check_word(alloc, store, word, report, out)?;
+        check_word(alloc, store, word, is_lenient, report, out)?;
     }
     Ok(())
 }
@@ -80,24 +87,27 @@ fn check_word<S: FileStore, W: Sink>(
     alloc: Global,
     store: &S,
     word: &str,
+    is_lenient: bool,
     report: &mut Report,
     out: &mut W,
 ) -> Result<(), ToolFault>
     requires { W.failed out.old ≡ false }
     ensures checked { OnOk result (HasChecked
-        (IsJudged S.IsOpened S.Reader.HasLeft S.CannotOpen S.Reader.failed S.IsStanding)
+        (IsJudged is_lenient S.IsOpened S.Reader.HasLeft S.CannotOpen S.Reader.failed
+        S.IsStanding)
         (ArePathsAt S.CannotList S.HasNames S.IsStanding word.now)
         W.HasTaken out.old out.new report.old report.new) }
     ensures short { OnErr result (StopsChecking
-        (IsJudged S.IsOpened S.Reader.HasLeft S.CannotOpen S.Reader.failed S.IsStanding)
+        (IsJudged is_lenient S.IsOpened S.Reader.HasLeft S.CannotOpen S.Reader.failed
+        S.IsStanding)
         (AreFirst (ArePathsAt S.CannotList S.HasNames S.IsStanding word.now))
         W.HasTaken out.old out.new report.old) }
     ensures marks { SinkMarks W.failed W.takes_some out.old out.new (blames_sink result) }
     ensures only { IfErr result IsOutput }
 {
     match store.look(word) {
-        Standing::Folder => check_folder(alloc, store, word, report, out),
-        _ => check_file(alloc, store, word, report, out),
+        Standing::Folder => check_folder(alloc, store, word, is_lenient, report, out),
+        _ => check_file(alloc, store, word, is_lenient, report, out),
     }
 }
 
@@ -106,16 +116,19 @@ fn check_folder<S: FileStore, W: Sink>(
     alloc: Global,
     store: &S,
     folder: &str,
+    is_lenient: bool,
     report: &mut Report,
     out: &mut W,
 ) -> Result<(), ToolFault>
     requires { W.failed out.old ≡ false }
     ensures checked { OnOk result (HasChecked
-        (IsJudged S.IsOpened S.Reader.HasLeft S.CannotOpen S.Reader.failed S.IsStanding)
+        (IsJudged is_lenient S.IsOpened S.Reader.HasLeft S.CannotOpen S.Reader.failed
+        S.IsStanding)
         (ArePathsIn S.CannotList S.HasNames folder.now)
         W.HasTaken out.old out.new report.old report.new) }
     ensures short { OnErr result (StopsChecking
-        (IsJudged S.IsOpened S.Reader.HasLeft S.CannotOpen S.Reader.failed S.IsStanding)
+        (IsJudged is_lenient S.IsOpened S.Reader.HasLeft S.CannotOpen S.Reader.failed
+        S.IsStanding)
         (AreFirst (ArePathsIn S.CannotList S.HasNames folder.now))
         W.HasTaken out.old out.new report.old) }
     ensures marks { SinkMarks W.failed W.takes_some out.old out.new (blames_sink result) }
@@ -124,10 +137,18 @@ fn check_folder<S: FileStore, W: Sink>(
     match store.names(alloc, folder) {
         Ok(entries) => {
             let names = midi_files(entries)?;
-            check_names(alloc, store, folder, names.as_slice(), report, out)
+            check_names(
+                alloc,
+                store,
+                folder,
+                names.as_slice(),
+                is_lenient,
+                report,
+                out,
+            )
         }
         Err(DeviceFault::OutOfMemory) => Err(ToolFault::OutOfMemory),
-        Err(DeviceFault::Broken) => check_file(alloc, store, folder, report, out),
+        Err(DeviceFault::Broken) => check_file(alloc, store, folder, is_lenient, report, out),
     }
 }
 
@@ -137,23 +158,26 @@ fn check_names<S: FileStore, W: Sink>(
     store: &S,
     folder: &str,
     names: &[String],
+    is_lenient: bool,
     report: &mut Report,
     out: &mut W,
 ) -> Result<(), ToolFault>
     requires { W.failed out.old ≡ false }
     ensures checked { OnOk result (HasChecked
-        (IsJudged S.IsOpened S.Reader.HasLeft S.CannotOpen S.Reader.failed S.IsStanding)
+        (IsJudged is_lenient S.IsOpened S.Reader.HasLeft S.CannotOpen S.Reader.failed
+        S.IsStanding)
         (AreThese (map (λ name. path_in folder.now (string_bytes name)) names.now))
         W.HasTaken out.old out.new report.old report.new) }
     ensures short { OnErr result (StopsChecking
-        (IsJudged S.IsOpened S.Reader.HasLeft S.CannotOpen S.Reader.failed S.IsStanding)
+        (IsJudged is_lenient S.IsOpened S.Reader.HasLeft S.CannotOpen S.Reader.failed
+        S.IsStanding)
         (AreFirst (AreThese (map (λ name. path_in folder.now (string_bytes name)) names.now)))
         W.HasTaken out.old out.new report.old) }
     ensures marks { SinkMarks W.failed W.takes_some out.old out.new (blames_sink result) }
     ensures only { IfErr result IsOutput }
 {
     for name in names {
-        check_name(alloc, store, folder, name.as_str(), report, out)?;
+        check_name(alloc, store, folder, name.as_str(), is_lenient, report, out)?;
     }
     Ok(())
 }
@@ -164,23 +188,26 @@ fn check_name<S: FileStore, W: Sink>(
     store: &S,
     folder: &str,
     name: &str,
+    is_lenient: bool,
     report: &mut Report,
     out: &mut W,
 ) -> Result<(), ToolFault>
     requires { W.failed out.old ≡ false }
     ensures checked { OnOk result (HasChecked
-        (IsJudged S.IsOpened S.Reader.HasLeft S.CannotOpen S.Reader.failed S.IsStanding)
+        (IsJudged is_lenient S.IsOpened S.Reader.HasLeft S.CannotOpen S.Reader.failed
+        S.IsStanding)
         (AreThese (path_in folder.now name.now ∷ []))
         W.HasTaken out.old out.new report.old report.new) }
     ensures short { OnErr result (StopsChecking
-        (IsJudged S.IsOpened S.Reader.HasLeft S.CannotOpen S.Reader.failed S.IsStanding)
+        (IsJudged is_lenient S.IsOpened S.Reader.HasLeft S.CannotOpen S.Reader.failed
+        S.IsStanding)
         (AreFirst (AreThese (path_in folder.now name.now ∷ [])))
         W.HasTaken out.old out.new report.old) }
     ensures marks { SinkMarks W.failed W.takes_some out.old out.new (blames_sink result) }
     ensures only { IfErr result IsOutput }
 {
     let path = path_in(alloc, folder, name)?;
-    check_file(alloc, store, path.as_str(), report, out)
+    check_file(alloc, store, path.as_str(), is_lenient, report, out)
 }
 
 /// Checks the file at a path.
@@ -188,19 +215,22 @@ fn check_file<S: FileStore, W: Sink>(
     alloc: Global,
     store: &S,
     path: &str,
+    is_lenient: bool,
     report: &mut Report,
     out: &mut W,
 ) -> Result<(), ToolFault>
     requires { W.failed out.old ≡ false }
     ensures checked { OnOk result (HasChecked
-        (IsJudged S.IsOpened S.Reader.HasLeft S.CannotOpen S.Reader.failed S.IsStanding)
+        (IsJudged is_lenient S.IsOpened S.Reader.HasLeft S.CannotOpen S.Reader.failed
+        S.IsStanding)
         (AreThese (path.now ∷ [])) W.HasTaken out.old out.new report.old report.new) }
     ensures short { OnErr result (StopsChecking
-        (IsJudged S.IsOpened S.Reader.HasLeft S.CannotOpen S.Reader.failed S.IsStanding)
+        (IsJudged is_lenient S.IsOpened S.Reader.HasLeft S.CannotOpen S.Reader.failed
+        S.IsStanding)
         (AreFirst (AreThese (path.now ∷ []))) W.HasTaken out.old out.new report.old) }
     ensures marks { SinkMarks W.failed W.takes_some out.old out.new (blames_sink result) }
     ensures only { IfErr result IsOutput }
 {
-    let verdict = verdict_at(alloc, store, path)?;
+    let verdict = verdict_at(alloc, store, path, is_lenient)?;
     report.add(alloc, path, verdict, out)
 }

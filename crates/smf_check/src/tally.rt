@@ -30,7 +30,9 @@ impl Tally {
         ensures { self.new ≡ with_verdict self.old verdict }
     {
         match verdict {
-            Verdict::Whole => self.whole = self.whole.saturating_add(1),
+            Verdict::Whole | Verdict::Forgiven { .. } => {
+                self.whole = self.whole.saturating_add(1)
+            }
             Verdict::Damaged(_) => self.damaged = self.damaged.saturating_add(1),
             Verdict::Unread(_) => self.unread = self.unread.saturating_add(1),
         }

@@ -22,6 +22,8 @@ const ENTRIES: &[(&str, Standing, &[u8])] = &[
     ("e\t.mid", Standing::Denied, b""),
     ("f.mid", Standing::Special, b""),
     ("g.mid", Standing::File, WHOLE),
+    ("soft.mid", Standing::File, OVER_TEXT),
+    ("boxed.mid", Standing::File, BOXED),
 ];
 
 /// The names in the one folder that can be listed.
@@ -37,6 +39,15 @@ const WHOLE: &[u8] =
 /// A track whose second event is a data byte, where no status goes before it.
 const NO_STATUS: &[u8] = b"MThd\x00\x00\x00\x06\x00\x00\x00\x01\x00\x60MTrk\x00\x00\x00\x0F\
     \x00\xFF\x58\x04\x04\x02\x18\x08\x00\x3C\x40\x00\xFF\x2F\x00";
+
+/// A note off that leaves out its status behind a text.
+const OVER_TEXT: &[u8] = b"MThd\x00\x00\x00\x06\x00\x00\x00\x01\x00\x60MTrk\x00\x00\x00\x10\
+    \x00\x90\x3C\x40\x00\xFF\x01\x01a\x60\x3C\x00\x00\xFF\x2F\x00";
+
+/// The same behind two program changes whose data bytes have bit 7 set, in a container.
+const BOXED: &[u8] = b"RIFF\x38\x00\x00\x00RMIDdata\x2C\x00\x00\x00\
+    MThd\x00\x00\x00\x06\x00\x00\x00\x01\x00\x60MTrk\x00\x00\x00\x16\
+    \x00\xC0\x85\x00\xC0\x86\x00\x90\x3C\x40\x00\xFF\x01\x01a\x60\x3C\x00\x00\xFF\x2F\x00";
 
 #[derive(Drop)]
 struct MemStore {
@@ -154,10 +165,12 @@ impl FileStore for MemStore {
     }
 }
 
-/// Words, whether files that are whole are passed over, what is printed, and the answer.
+/// Words, whether files that are whole are passed over, whether they are judged by the lenient grammar, what is
+/// printed, and the answer.
 struct Checked {
     words: &'static [&'static str],
     quiet: bool,
+    is_lenient: bool,
     text: &'static str,
     answer: CheckAnswer,
 }
@@ -166,6 +179,7 @@ const CHECKED: &[Checked] = &[
     Checked {
         words: &["songs", "c.mid"],
         quiet: false,
+        is_lenient: false,
         text: "songs/a.mid: ok\nsongs/b.mid: 12 NoStatus 30\n\
             c.mid: cannot read: there is no such file\nok 1 damaged 1 unread 1\n",
         answer: CheckAnswer::SomeNot,
@@ -173,12 +187,14 @@ const CHECKED: &[Checked] = &[
     Checked {
         words: &["songs", "c.mid"],
         quiet: true,
+        is_lenient: false,
         text: "songs/b.mid: 12 NoStatus 30\nc.mid: cannot read: there is no such file\n",
         answer: CheckAnswer::SomeNot,
     },
     Checked {
         words: &["d.mid", "shut", "e\t.mid", "f.mid", "g.mid", "songs/a.mid"],
         quiet: false,
+        is_lenient: false,
         text: "d.mid: 1 NotMidi\nshut: cannot read: it is a folder\n\
             e\\t.mid: cannot read: permission is denied\nf.mid: cannot read\n\
             g.mid: cannot read\nsongs/a.mid: ok\nok 1 damaged 1 unread 4\n",
@@ -187,12 +203,37 @@ const CHECKED: &[Checked] = &[
     Checked {
         words: &["shut/a.mid", "songs/a.mid", "songs/a.mid"],
         quiet: true,
+        is_lenient: false,
+        text: "",
+        answer: CheckAnswer::AllWhole,
+    },
+    Checked {
+        words: &["soft.mid", "boxed.mid"],
+        quiet: false,
+        is_lenient: false,
+        text: "soft.mid: 12 NoStatus 31\nboxed.mid: 1 NotMidi\nok 0 damaged 2 unread 0\n",
+        answer: CheckAnswer::SomeNot,
+    },
+    Checked {
+        words: &["soft.mid", "boxed.mid", "songs"],
+        quiet: false,
+        is_lenient: true,
+        text: "soft.mid: ok, forgiven 1 running status 31\n\
+            boxed.mid: ok, forgiven 1 running status 37, forgiven 2 program change 22\n\
+            songs/a.mid: ok\nsongs/b.mid: 12 NoStatus 30\nok 3 damaged 1 unread 0\n",
+        answer: CheckAnswer::SomeNot,
+    },
+    Checked {
+        words: &["soft.mid", "boxed.mid"],
+        quiet: true,
+        is_lenient: true,
         text: "",
         answer: CheckAnswer::AllWhole,
     },
     Checked {
         words: &[],
         quiet: false,
+        is_lenient: false,
         text: "ok 0 damaged 0 unread 0\n",
         answer: CheckAnswer::AllWhole,
     },
@@ -207,7 +248,16 @@ fn sink(alloc: Global) -> Result<MemSink, OutOfMemory>
 fn check_one(rt: &impl Abort, alloc: Global, checked: &Checked) -> Result<(), Fail> {
     let store = MemStore { alloc };
     let mut out = sink(alloc)?;
-    let Ok(answer) = check_files(alloc, &store, checked.words, checked.quiet, &mut out) else {
+    let words = checked.words;
+    let outcome = check_files(
+        alloc,
+        &store,
+        words,
+        checked.quiet,
+        checked.is_lenient,
+        &mut out,
+    );
+    let Ok(answer) = outcome else {
         return Err("a check")?;
     };
     assert!(rt; out.bytes() == checked.text.as_bytes());
@@ -228,7 +278,7 @@ fn stops_where_a_write_fails(rt: HostRuntime) -> Result<(), Fail> {
     let store = MemStore { alloc: rt.alloc() };
     let mut out = sink(rt.alloc())?;
     out.fail_at(0);
-    let answer = check_files(rt.alloc(), &store, &["songs"], false, &mut out);
+    let answer = check_files(rt.alloc(), &store, &["songs"], false, false, &mut out);
     assert!(rt; answer == Err(ToolFault::Write));
     assert!(rt; out.bytes().is_empty());
     Ok(())

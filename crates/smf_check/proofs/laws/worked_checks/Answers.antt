@@ -13,5 +13,8 @@ returns c = record {
   escaped = refl;
   alone = refl;
   all_whole = refl;
+  forgiven = refl;
+  forgiven_quiet = refl;
+  forgiven_whole = refl;
   none = refl;
 }

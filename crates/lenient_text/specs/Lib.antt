@@ -1,0 +1,2 @@
+pub mod LenientDumped
+pub mod LenientlyRead
