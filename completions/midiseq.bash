@@ -54,7 +54,11 @@ _midiseq() {
             mapfile -t COMPREPLY < <(compgen -W 'text json csv' -- "$word")
             return
             ;;
-        --until | --for | --port | --ports | --ppq | --bpm | --owner | --from | --at | --message) return ;;
+        --at)
+            # A moment for why; for dump a flag.
+            [[ $sub == dump ]] || return
+            ;;
+        --until | --for | --port | --ports | --ppq | --bpm | --owner | --from | --message) return ;;
     esac
     case $sub in
         run | record | circle | why)
@@ -82,7 +86,7 @@ _midiseq() {
             ;;
         dump)
             if [[ $word == -?* ]]; then
-                mapfile -t COMPREPLY < <(compgen -W '--all --help' -- "$word")
+                mapfile -t COMPREPLY < <(compgen -W '--all --at --lenient --help' -- "$word")
             else
                 _midiseq_files "$word" .mid .MID .midi
             fi
@@ -96,7 +100,7 @@ _midiseq() {
             ;;
         check)
             if [[ $word == -* ]]; then
-                mapfile -t COMPREPLY < <(compgen -W '--quiet --help' -- "$word")
+                mapfile -t COMPREPLY < <(compgen -W '--quiet --lenient --help' -- "$word")
             else
                 _midiseq_files "$word" .mid .MID .midi
             fi

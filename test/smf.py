@@ -1,5 +1,5 @@
-"""Standard MIDI Files, read as the format has them, without the program: what `dump` prints of a file, and what `dump --all` does. And
-small files that have something of everything."""
+"""Standard MIDI Files, read as the format has them, without the program: what `dump` prints of a file, what `dump --all` does, with `--at`, and both
+with `--lenient`. And small files that have something of everything."""
 
 MOST_FILE = 16_777_216
 MOST_DATA = 65_536
@@ -70,10 +70,16 @@ def meta_text(kind, data):
 class Track:
     """One track's content, read as the format has it."""
 
-    def __init__(self, data, at, end, number, frames):
-        self.data, self.at, self.end, self.number, self.frames = data, at, end, number, frames
-        self.tick, self.running, self.skipped = 0, None, 0
+    def __init__(self, data, at, end, number, frames, lenient):
+        self.data, self.at, self.end, self.number, self.frames, self.lenient = data, at, end, number, frames, lenient
+        self.begun, self.tick, self.running, self.skipped = at - 8, 0, None, 0
+        # The running status of a strict reader; and what is forgiven, and where.
+        self.strict, self.forgiven = None, []
         self.events, self.tempos, self.said = [], [], []
+        self.say(f"track {number}")
+
+    def say(self, line):
+        self.said.append((self.begun, line))
 
     def byte(self):
         if self.at >= self.end:
@@ -106,11 +112,11 @@ class Track:
             if data[place] >= 128:
                 raise Fault(f"14 BadData {self.begun}")
         self.events.append((self.tick, bytes([status, *data])))
-        self.said.append(f"{self.tick}{spaced([status, *data])}")
+        self.say(f"{self.tick}{spaced([status, *data])}")
 
     def meta(self):
         kind, content = self.byte(), self.sized()
-        self.said.append(f"{self.tick} {meta_text(kind, content)}")
+        self.say(f"{self.tick} {meta_text(kind, content)}")
         if kind == 0x51 and not self.frames:
             tempo = int.from_bytes(content, "big") if len(content) == 3 else 0
             if tempo:
@@ -121,12 +127,17 @@ class Track:
 
     def exclusive(self, first):
         content = self.sized()
-        self.said.append(f"{self.tick}{spaced([first, *content])}")
+        self.say(f"{self.tick}{spaced([first, *content])}")
         data = content[:-1]
         if first == 0xF0 and content[-1:] == b"\xF7" and len(data) <= MOST_DATA and all(it < 128 for it in data):
             self.events.append((self.tick, b"\xF0" + content))
         else:
             self.skipped += 1
+
+    def cancel(self):
+        self.strict = None
+        if not self.lenient:
+            self.running = None
 
     def read(self):
         while True:
@@ -139,13 +150,18 @@ class Track:
                 if first < 0x80 and self.running is None:
                     raise Fault(f"12 NoStatus {self.begun}")
                 data = [first] if first < 0x80 else []
-                self.running = self.running if first < 0x80 else first
+                if data and self.strict is None:
+                    self.forgiven.append(("running status", self.begun))
+                if self.lenient and 0xC0 <= first < 0xD0 and self.at < self.end and self.data[self.at] >= 0x80:
+                    data = [self.byte() % 128]
+                    self.forgiven.append(("program change", self.begun))
+                self.running = self.strict = self.running if first < 0x80 else first
                 self.voice(data)
             elif first in (0xF0, 0xF7):
-                self.running = None
+                self.cancel()
                 self.exclusive(first)
             elif first == 0xFF:
-                self.running = None
+                self.cancel()
                 if self.meta():
                     return self
             else:
@@ -182,27 +198,64 @@ def header_of(data):
     return kind, tracks, division_of(data), 8 + length
 
 
+def content_of(data):
+    """The file in a RIFF container of type RMID; all else as it is."""
+    if data[:4] != b"RIFF" or data[8:12] != b"RMID":
+        return data
+    at = 12
+    while at + 8 <= len(data):
+        size = int.from_bytes(data[at + 4:at + 8], "little")
+        if at + 8 + size > len(data):
+            break
+        if data[at:at + 4] == b"data":
+            return data[at + 8:at + 8 + size]
+        at += 8 + size + size % 2
+    return data
+
+
+class Whole:
+    """A file that is whole, strictly or leniently."""
+
+    def __init__(self, data, lenient=False):
+        if lenient and len(data) <= MOST_FILE:
+            data = content_of(data)
+        self.kind, tracks, self.division, at = header_of(data)
+        self.tracks = []
+        while len(self.tracks) < tracks:
+            if len(data) - at < 8:
+                raise Fault("9 TrackMissing")
+            end = at + 8 + int.from_bytes(data[at + 4:at + 8], "big")
+            if end > len(data):
+                raise Fault(f"10 Truncated {at}")
+            if data[at:at + 4] == b"MTrk":
+                self.tracks.append(Track(data, at + 8, end, len(self.tracks), self.division >= 0x8000, lenient).read())
+            at = end
+        self.head = f"format {self.kind} tracks {tracks} division {self.division}"
+
+    def text(self):
+        # (stable: by tick, and within one by track and place)
+        events = sorted((it for track in self.tracks for it in track.events), key=lambda it: it[0])
+        tempos = dict(sorted((it for track in self.tracks for it in track.tempos), key=lambda it: it[0]))
+        if self.division < 0x8000:
+            tempos = {0: tempos.get(0, 500_000), **{tick: it for tick, it in tempos.items() if tick}}
+        lines = [self.head, *(f"tempo {tick} {tempo}" for tick, tempo in tempos.items())]
+        lines += [f"{tick}{spaced(message)}" for tick, message in events]
+        return "\n".join([*lines, f"skipped {sum(it.skipped for it in self.tracks)}", ""]).encode()
+
+    def every(self, placed=False):
+        lines = [(0, self.head), *(line for it in self.tracks for line in it.said)]
+        return "".join(f"{place} {line}\n" if placed else f"{line}\n" for place, line in lines).encode()
+
+    def forgiven(self):
+        """A line for each kind of what was forgiven."""
+        text = ""
+        for kind in ("running status", "program change"):
+            places = [at for track in self.tracks for which, at in track.forgiven if which == kind]
+            text += f"forgiven {len(places)} {kind} {places[0]}\n" if places else ""
+        return text.encode()
+
+
 def read_file(data):
     """What `dump` prints of a file, and what `dump --all` does."""
-    kind, tracks, division, at = header_of(data)
-    found = []
-    while len(found) < tracks:
-        if len(data) - at < 8:
-            raise Fault("9 TrackMissing")
-        end = at + 8 + int.from_bytes(data[at + 4:at + 8], "big")
-        if end > len(data):
-            raise Fault(f"10 Truncated {at}")
-        if data[at:at + 4] == b"MTrk":
-            found.append(Track(data, at + 8, end, len(found), division >= 0x8000).read())
-        at = end
-    # (stable: by tick, and within one by track and place)
-    events = sorted((it for track in found for it in track.events), key=lambda it: it[0])
-    tempos = dict(sorted((it for track in found for it in track.tempos), key=lambda it: it[0]))
-    if division < 0x8000:
-        tempos = {0: tempos.get(0, 500_000), **{tick: it for tick, it in tempos.items() if tick}}
-    head = f"format {kind} tracks {tracks} division {division}"
-    lines = [head, *(f"tempo {tick} {tempo}" for tick, tempo in tempos.items())]
-    lines += [f"{tick}{spaced(message)}" for tick, message in events]
-    lines.append(f"skipped {sum(it.skipped for it in found)}")
-    every = [head, *(line for it in found for line in (f"track {it.number}", *it.said))]
-    return "\n".join([*lines, ""]).encode(), "\n".join([*every, ""]).encode()
+    whole = Whole(data)
+    return whole.text(), whole.every()

@@ -36,6 +36,7 @@ use Rattle.program_tasks.specs.Subcommands.{IsRunPrinted, IsRunStreamed, IsRunEx
 use Rattle.program_tasks.specs.Tasks.{IsDone}
 use Rattle.program_tasks.specs.Times.{end_said}
 use Rattle.program_tasks.specs.declared.choice.Stream as choice
+use Rattle.program_tasks.specs.declared.choice.DumpFlags.{DumpFlags}
 use Rattle.program_tasks.specs.declared.choice.Task.{Task}
 use Rattle.program_tasks.specs.Program.{IsToolNamed, IsNamedBy}
 use Rattle.smf_check.specs.declared.answer.CheckAnswer.{CheckAnswer}
@@ -288,17 +289,23 @@ module _ {R W : Type 0} (IsOpened : List ℕ → R → Type 0) (HasLeft : R → 
     pub recorded : EndsRecorded IsBegun HasTaken IsStored HasTold found session recording
         before after ended
 
--- The tool of this name, with or without --all, has done its work on the stream that the word FILE
--- names, or without one on standard input.
+-- the flags --all, --at and --lenient as they are given
+pub record AreDumpFlags (found : Found) (flags : DumpFlags) : Type 0 where
+  pub all : IsFlag found (codes "all") flags.all
+  pub at : IsFlag found (codes "at") flags.at
+  pub lenient : IsFlag found (codes "lenient") flags.lenient
+
+-- The tool of this name and these flags has done its work on the stream that the word FILE names,
+-- or without one on standard input.
 pub record ToolDoesAsGiven {R I W : Type 0} (IsOpened : List ℕ → R → Type 0)
     (HasLeft : R → List ℕ → Type 0)
     (HasInput : I → List ℕ → Type 0) (HasTaken : W → List ℕ → Type 0) (name : List ℕ)
     (found : Found)
     (before after : I) (old new : W) : Type 0 where
   pub task : Task
-  pub all : Bool
-  pub all_flag : IsFlag found (codes "all") all
-  pub tool : IsToolNamed task.tool name all
+  pub flags : DumpFlags
+  pub given : AreDumpFlags found flags
+  pub tool : IsToolNamed task.tool name flags
   pub stream : IsNamedBy task.stream (unwrap_or (first_value found (codes "FILE")) (codes "-"))
   pub done : IsDone IsOpened HasLeft HasInput HasTaken task before after old new
 
@@ -314,18 +321,20 @@ pub record MakesAsGiven {R I W : Type 0} (IsOpened : List ℕ → R → Type 0)
   pub made : IsMade IsOpened HasLeft HasInput AreApart IsBegun HasTaken IsStored text
       (text_of found (codes "out")) before after
 
--- The files that the words FILE name were checked, with a line for each, or with --quiet for each
--- that is not whole.
+-- The files that the words FILE name were checked, with --lenient by the lenient grammar, with a
+-- line for each, or with --quiet for each that is not whole.
 pub record ChecksAsGiven {R W : Type 0} (IsOpened : List ℕ → R → Type 0)
     (HasLeft : R → List ℕ → Type 0) (CannotOpen CannotList : List ℕ → Type 0) (failed : R → Bool)
     (IsStanding : List ℕ → Standing → Type 0) (HasNames : List ℕ → List (List ℕ) → Type 0)
     (HasTaken : W → List ℕ → Type 0) (found : Found) (old new : W) (ended : Ended) : Type 0 where
   pub quiet : Bool
   pub quiet_flag : IsFlag found (codes "quiet") quiet
+  pub lenient : Bool
+  pub lenient_flag : IsFlag found (codes "lenient") lenient
   pub answer : CheckAnswer
   pub checked : AreFilesChecked IsOpened HasLeft CannotOpen CannotList failed IsStanding HasNames
       HasTaken (unwrap_or (option_map raw_values (matched_of found (codes "FILE"))) []) quiet
-      answer old new
+      lenient answer old new
   pub ends : ended ≡ Checked answer
 
 -- the name is that of no subcommand with words of its own for files

@@ -24,6 +24,7 @@ use Rattle.program_tasks.specs.Tasks.{IsToolFault}
 use Rattle.program_tasks.specs.Times.{end_said, IsNoEnd}
 use Rattle.program_tasks.specs.declared.end_word.EndWord.{EndWord}
 use Rattle.program_tasks.specs.declared.choice.Stream.{Stream}
+use Rattle.program_tasks.specs.declared.choice.DumpFlags.{DumpFlags}
 use Rattle.program_tasks.specs.declared.choice.Task.{Task}
 use Rattle.program_tasks.specs.declared.choice.Tool.{Tool}
 use Rattle.program_tasks.specs.declared.program_fault.ProgramFault.{ProgramFault}
@@ -201,7 +202,7 @@ pub record IsToldOf (IsStanding : List ℕ → Standing → Type 0) (found : Fou
   pub why : P fault
   pub is : IsToldAsAsked IsStanding found fault told
 
--- The tool of this name, with or without --all, stopped over the stream that FILE names.
+-- The tool of this name and these flags stopped over the stream that FILE names.
 pub record IsToolStopped {R I : Type 0} (IsOpened : List ℕ → R → Type 0)
     (CannotOpen : List ℕ → Type 0)
     (HasLeft : R → List ℕ → Type 0) (failed : R → Bool) (HasInput : I → List ℕ → Type 0)
@@ -209,9 +210,9 @@ pub record IsToolStopped {R I : Type 0} (IsOpened : List ℕ → R → Type 0)
     (stuck : Type 0) (name : List ℕ) (found : Found) (before after : I)
     (fault : ProgramFault) : Type 0 where
   pub task : Task
-  pub all : Bool
-  pub all_flag : IsFlag found (codes "all") all
-  pub tool : IsToolNamed task.tool name all
+  pub flags : DumpFlags
+  pub given : AreDumpFlags found flags
+  pub tool : IsToolNamed task.tool name flags
   pub stream : IsNamedBy task.stream (unwrap_or (first_value found (codes "FILE")) (codes "-"))
   pub told : IsToolFault IsOpened CannotOpen HasLeft failed HasInput input_failed stuck task before
       after

@@ -10,7 +10,7 @@ ghost use Rattle.program_tasks.specs.Faults.{IsStuck};
 use byte_io::{Sink, Source};
 use clap::ArgMatches;
 use file_store::FileStore;
-use program_tasks::{Ended, ProgramFault, STANDARD, Stream, Task};
+use program_tasks::{DumpFlags, Ended, ProgramFault, STANDARD, Stream, Task};
 use std::alloc::Global;
 
 /// Does what a subcommand says that takes files.
@@ -65,7 +65,8 @@ fn make<'a, S: FileStore, I: Source>(
     program_tasks::make(alloc, store, text, path, input)
 }
 
-/// Checks the files that the words FILE name, and tells with --quiet of those alone that are not whole.
+/// Checks the files that the words FILE name, with --lenient by the lenient grammar, and tells with --quiet of those
+/// alone that are not whole.
 fn check<'a, S: FileStore, W: Sink>(
     alloc: Global,
     store: &S,
@@ -81,12 +82,13 @@ fn check<'a, S: FileStore, W: Sink>(
 {
     let files = found.get_strs("FILE").unwrap_or(&[]);
     let quiet = found.get_flag("quiet");
-    let answer = program_tasks::check(alloc, store, files, quiet, out)?;
+    let is_lenient = found.get_flag("lenient");
+    let answer = program_tasks::check(alloc, store, files, quiet, is_lenient, out)?;
     Ok(Ended::Checked(answer))
 }
 
-/// Does what a tool's subcommand says, with --all or without it: on the stream that the word FILE names, and without
-/// one on standard input.
+/// Does what a tool's subcommand says with its flags: on the stream that the word FILE names, and without one on
+/// standard input.
 fn perform_tool<'a, S: FileStore, I: Source, W: Sink>(
     alloc: Global,
     store: &S,
@@ -105,7 +107,12 @@ fn perform_tool<'a, S: FileStore, I: Source, W: Sink>(
         input.old input.new e) }
 {
     let file = found.get_str("FILE").unwrap_or(STANDARD);
-    match Task::of_words(name, found.get_flag("all"), file) {
+    let flags = DumpFlags {
+        all: found.get_flag("all"),
+        at: found.get_flag("at"),
+        lenient: found.get_flag("lenient"),
+    };
+    match Task::of_words(name, flags, file) {
         Some(task) => program_tasks::perform(alloc, store, task, input, out),
         None => Err(ProgramFault::NoSubcommand),
     }

@@ -50,7 +50,8 @@ Status:
   0  done, or help or the version was asked for
   1  a fault, with one line on standard error: a file that cannot be read,
      output that cannot be written, out of memory, a damaged file, a text that
-     says no file, a recording that no file can hold
+     says no file, a recording that no file can hold; or midiseq check has found
+     a file that is not ok, and printed which
   2  words that midiseq cannot follow
   3  midiseq circle has found the circle open, or run or record by --strict a
      line that did nothing, a message that was lost or a file that was left out";
@@ -99,7 +100,15 @@ of its events: a message of a channel in hexadecimal; F0 or F7 and the bytes
 that its length counts; or a meta event by its name, its text between quotation
 marks and its numbers in decimal, as in `0 name \"Bass\"`, `0 time 4 2 24 8`,
 `0 key -3 0` or `960 end`. One that has no name, or not the length that its name
-asks for, is `meta TYPE` and its bytes in hexadecimal.
+asks for, is `meta TYPE` and its bytes in hexadecimal. With --at each line has
+first the byte of the file where it stands, counted from 0: that of an event is
+where its delta time begins.
+
+With --lenient a file is taken, too, that leaves out a status behind a meta or a
+system exclusive event, or in which bit 7 is set in the data byte of a program
+change; and one in a RIFF container (RMID, often .rmi). What was forgiven stands
+below the text, with how often and the byte of the first: `forgiven 3 running
+status 6977`, `forgiven 1 program change 22`.
 
 Examples:
   midiseq dump song.mid
@@ -138,7 +147,8 @@ fault, a number, a name and the byte or the track where it stands. Of a folder
 the files whose names end in .mid are checked, in byte order. A file that cannot
 be read has a line too, and the next is tried. The last line has the counts. With
 --quiet only the files that are not ok have a line, and there is no last line.
-The status is 1 where a file is not ok.
+The status is 1 where a file is not ok. With --lenient a file that dump --lenient
+takes is ok, as `old.mid: ok, forgiven 3 running status 6977`.
 
 Example, where songs has a file a.mid, and b.mid that ends too early:
   midiseq check songs c.mid
@@ -688,6 +698,24 @@ fn all<'a>(alloc: Global) -> Arg<'a> {
         .help("every event, track by track, with the meta events by name")
 }
 
+/// The place of each line in the file.
+// A file that is mended has other places than the one that was read.
+fn at_place<'a>(alloc: Global) -> Result<Arg<'a>, AllocError> {
+    Arg::new(alloc, "at")
+        .long("at")
+        .action(ArgAction::SetTrue)
+        .help("with --all: each line behind the byte where it stands")
+        .requires_arg("all")?
+        .conflicts_with("lenient")
+}
+
+fn lenient<'a>(alloc: Global) -> Arg<'a> {
+    Arg::new(alloc, "lenient")
+        .long("lenient")
+        .action(ArgAction::SetTrue)
+        .help("also take what most readers forgive, and say what it was")
+}
+
 fn dump<'a>(alloc: Global) -> Result<Command<'a>, AllocError> {
     let file = Arg::new(alloc, "FILE")
         .required(true)
@@ -696,6 +724,8 @@ fn dump<'a>(alloc: Global) -> Result<Command<'a>, AllocError> {
         .about("Reads a Standard MIDI File, and prints its tempos and its messages, or all of it")
         .after_help(DUMP_HELP)
         .arg(all(alloc))?
+        .arg(at_place(alloc)?)?
+        .arg(lenient(alloc))?
         .arg(file)
 }
 
@@ -729,5 +759,6 @@ fn check<'a>(alloc: Global) -> Result<Command<'a>, AllocError> {
         .about("Says of each Standard MIDI File whether it is damaged, and where")
         .after_help(CHECK_HELP)
         .arg(quiet_check(alloc))?
+        .arg(lenient(alloc))?
         .arg(files)
 }

@@ -5,7 +5,7 @@ use Rattle.std.specs.List.{AllByRecursion, list_any}
 use Rattle.std.proofs.lemmas.Bool.{false≢true}
 use Rattle.std.proofs.lemmas.List.{take_more}
 use Rattle.std.proofs.lemmas.List.Folds.{list_any-append}
-use Rattle.std.proofs.Math.Seq.{take-length}
+use Rattle.folder_files.proofs.Filtered.{take-all}
 use Rattle.seq_session.specs.declared.source.ScriptSource.{ScriptSource}
 use Rattle.seq_session.specs.Devices.{clients, IsAmong}
 use Rattle.program_tasks.specs.declared.words.ScriptWord.{ScriptWord}
@@ -19,9 +19,6 @@ all-more P (y ∷ ys) x h p = (h.0, all-more P ys x h.1 p)
 map-more : {X Y : Type 0} (f : X → Y) (xs : List X) (x : X) → map f (xs ++ x ∷ []) ≡ map f xs ++ f x ∷ []
 map-more f [] x = refl
 map-more f (y ∷ ys) x = ap (λ zs. f y ∷ zs) (map-more f ys x)
-
-pub take-all : {X : Type 0} (i : ℕ) (xs : List X) → i ≤ length xs → length xs ≤ i → take i xs ≡ xs
-take-all i xs l g = ap (λ n. take n xs) (let e : i ≡ length xs = omega arith in e) ∙ take-length xs
 
 module _ (scripts : List ScriptWord) (i : ℕ) (t : ScriptWord) (here : t ≡ slice_index_or scripts i t) (within : i < length scripts) where
   owners-next : owners (take (i + 1) scripts) ≡ owners (take i scripts) ++ t.client ∷ []

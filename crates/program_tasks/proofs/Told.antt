@@ -10,7 +10,7 @@ use Rattle.program_tasks.specs.declared.left_out.WhyLeftOut.TheVariants.{Beyond}
 use Rattle.program_tasks.specs.Explained.{lines_told}
 use Rattle.program_tasks.specs.FolderFiles.{LostFile}
 use Rattle.program_tasks.specs.LeftOut.{all_lost, lost_for, lost_line, lost_lines, lost_where}
-use Rattle.program_tasks.proofs.Opened.{take-all}
+use Rattle.folder_files.proofs.Filtered.{take-all}
 
 module _ {N X : Type 0} (HasTold : N → List ℕ → Type 0) (line : X → List ℕ) where
   -- one more line

@@ -16,10 +16,10 @@ use Rattle.tool_text.specs.Faults.{IsOutput}
 abbrev pub AreFilesChecked : {R W : Type 0} → (List ℕ → R → Type 0) → (R → List ℕ → Type 0)
     → (List ℕ → Type 0) → (List ℕ → Type 0) → (R → Bool) → (List ℕ → Standing → Type 0)
     → (List ℕ → List (List ℕ) → Type 0) → (W → List ℕ → Type 0) → List (List ℕ) → Bool
-    → CheckAnswer → W → W → Type 0
+    → Bool → CheckAnswer → W → W → Type 0
 AreFilesChecked IsOpened HasLeft CannotOpen CannotList failed IsStanding HasNames HasTaken words
-    quiet answer old new =
-    IsChecked (IsJudged IsOpened HasLeft CannotOpen failed IsStanding)
+    quiet lenient answer old new =
+    IsChecked (IsJudged lenient IsOpened HasLeft CannotOpen failed IsStanding)
     (ArePathsOf CannotList HasNames IsStanding words) HasTaken quiet answer old new
 
 -- Out of memory, or the sink is stuck, and the fault tells so.

@@ -1,5 +1,5 @@
 -- Definition: What the program is asked to do, and what it prints where it stops.
-use Rattle.std.specs.Prelude.{◌≡◌, ◌≢◌, ℕ, Bool, true, false, if◌then◌else◌, List, [], ◌∷◌, ◌++◌, Result, Ok, Err, codes}
+use Rattle.std.specs.Prelude.{◌≡◌, ◌≢◌, ◌⊎◌, ℕ, Bool, true, false, if◌then◌else◌, List, [], ◌∷◌, ◌++◌, Result, Ok, Err, codes}
 use Rattle.std.specs.Fmt.{decimal}
 use Rattle.memory.specs.Faults.{out_of_memory_text}
 use Rattle.smf_check.specs.declared.answer.CheckAnswer.{CheckAnswer}
@@ -13,8 +13,11 @@ use Rattle.folder_files.specs.Escaped.{escaped_text}
 use Rattle.folder_files.specs.Unread.{unread_text}
 use Rattle.program_tasks.specs.declared.answer.CircleAnswer.{CircleAnswer}
 use Rattle.program_tasks.specs.declared.answer.CircleAnswer.TheVariants as circle
+use Rattle.program_tasks.specs.declared.choice.DumpFlags.{DumpFlags}
+use Rattle.program_tasks.specs.declared.choice.Grammar.{Grammar}
+use Rattle.program_tasks.specs.declared.choice.Grammar.TheVariants.{Strict, Lenient}
 use Rattle.program_tasks.specs.declared.choice.Tool.{Tool}
-use Rattle.program_tasks.specs.declared.choice.Tool.TheVariants.{Thru, Wire, Dump, DumpAll}
+use Rattle.program_tasks.specs.declared.choice.Tool.TheVariants.{Thru, Wire, Dump, DumpAll, DumpPlaces}
 use Rattle.program_tasks.specs.declared.choice.Stream.{Stream}
 use Rattle.program_tasks.specs.declared.choice.Stream.TheVariants.{Standard, Path}
 use Rattle.program_tasks.specs.declared.ending.Ended.{Ended}
@@ -32,15 +35,27 @@ use Rattle.program_tasks.specs.declared.program_fault.ProgramFault.TheVariants.{
 abbrev pub tool_name : Tool → List ℕ
 tool_name Thru = codes "thru"
 tool_name Wire = codes "wire"
-tool_name Dump = codes "dump"
-tool_name DumpAll = codes "dump"
+tool_name (Dump grammar) = codes "dump"
+tool_name (DumpAll grammar) = codes "dump"
+tool_name DumpPlaces = codes "dump"
 
--- the word and the flag `all` name the tool; the flag says something to `dump` alone
-abbrev pub IsToolNamed : Tool → List ℕ → Bool → Type 0
-IsToolNamed Thru word all = word ≡ codes "thru"
-IsToolNamed Wire word all = word ≡ codes "wire"
-IsToolNamed Dump word all = (word ≡ codes "dump") × (all ≡ false)
-IsToolNamed DumpAll word all = (word ≡ codes "dump") × (all ≡ true)
+-- the grammar that the flag --lenient, or none, asks for
+abbrev pub grammar_of : Bool → Grammar
+grammar_of lenient = if lenient then Lenient else Strict
+
+-- what `dump` does with these flags; --at means all of the file, strictly
+abbrev pub dump_tool : DumpFlags → Tool
+dump_tool flags =
+    if flags.at then DumpPlaces
+    else (if flags.all then DumpAll (grammar_of flags.lenient)
+    else Dump (grammar_of flags.lenient))
+
+-- the word names the tool, and the flags do where the word is `dump`
+abbrev pub IsToolNamed : Tool → List ℕ → DumpFlags → Type 0
+IsToolNamed tool word flags =
+    ((word ≡ codes "thru") × (tool ≡ Thru))
+    ⊎ (((word ≡ codes "wire") × (tool ≡ Wire))
+    ⊎ ((word ≡ codes "dump") × (tool ≡ dump_tool flags)))
 
 -- the word that names a stream
 abbrev pub stream_name : Stream → List ℕ

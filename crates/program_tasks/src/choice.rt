@@ -6,18 +6,28 @@ ghost use Rattle.byte_io.specs.Moved.{GaveSome};
 ghost use Rattle.smf_grammar.specs.declared.fault.SmfFault.TheVariants as smf;
 ghost use Rattle.smf_grammar.specs.Chunks.{most_bytes};
 ghost use Rattle.program_tasks.specs.declared.choice.Tool.{Tool};
-ghost use Rattle.program_tasks.specs.Program.{tool_name, stream_name, IsNamedBy, IsToolNamed};
+ghost use Rattle.program_tasks.specs.Program.{dump_tool, tool_name, stream_name, IsNamedBy, IsToolNamed};
 ghost use Rattle.tool_text.specs.Faults.{blames_sink};
 ghost use Rattle.tool_text.specs.Stream.{GaveTooMany};
 ghost use Rattle.program_tasks.specs.Tools.{IsPrinted, IsPrintedInPart, MayTell};
 
 use byte_io::{Sink, Source};
-use smf_text::dump_all_text;
+use lenient_text::{dump_all_leniently, dump_leniently};
+use smf_text::{dump_all_text, dump_places_text};
 use std::alloc::Global;
 use tool_text::{ToolFault, dump_text, thru_text, wire_text};
 
 /// The name of a standard stream.
 pub const STANDARD: &str = "-";
+
+/// By which grammar a Standard MIDI File is read.
+#[derive(Clone, Copy, Debug, PartialEq, Eq)]
+pub enum Grammar {
+    /// That of the standard.
+    Strict,
+    /// One that takes more: what it forgives is told behind what is printed.
+    Lenient,
+}
 
 /// What is done with a stream of bytes.
 #[derive(Clone, Copy, Debug, PartialEq, Eq)]
@@ -27,9 +37,22 @@ pub enum Tool {
     /// MIDI bytes are read and written back.
     Wire,
     /// The tempos and the messages of a Standard MIDI File are printed.
-    Dump,
+    Dump(Grammar),
     /// All that a Standard MIDI File says is printed.
-    DumpAll,
+    DumpAll(Grammar),
+    /// All that a Standard MIDI File says is printed, each line behind its place in the file.
+    DumpPlaces,
+}
+
+/// The flags of `dump`. They say nothing to other tools.
+#[derive(Clone, Copy, Debug, PartialEq, Eq)]
+pub struct DumpFlags {
+    /// `--all`: every event, track by track.
+    pub all: bool,
+    /// `--at`: all of it, with places, and strictly.
+    pub at: bool,
+    /// `--lenient`: by the lenient grammar.
+    pub lenient: bool,
 }
 
 /// Where the bytes come from.
@@ -49,21 +72,21 @@ pub struct Task<'a> {
 }
 
 impl Tool {
-    /// The tool with this name. Where `is_all` is given, `dump` prints all that a file says.
-    pub fn named(command: &str, is_all: bool) -> Option<Tool>
-        ensures named { IfSome result (λ t. IsToolNamed t command.now is_all) }
+    /// The tool with this name, and with these flags where it is `dump`.
+    pub fn named(command: &str, flags: DumpFlags) -> Option<Tool>
+        ensures named { IfSome result (λ t. IsToolNamed t command.now flags) }
         ensures unknown { IfNone result ((t : Tool) → tool_name t ≢ command.now) }
     {
         match command {
             "thru" => Some(Tool::Thru),
             "wire" => Some(Tool::Wire),
-            "dump" => Some(if is_all { Tool::DumpAll } else { Tool::Dump }),
+            "dump" => Some(dump_tool(flags)),
             _ => None,
         }
     }
 
-    /// Prints what the tool makes of the bytes that `input` gives, as `thru_text`, `wire_text`, `dump_text` and
-    /// `dump_all_text` do.
+    /// Prints what the tool makes of the bytes that `input` gives, as `thru_text`, `wire_text`, `dump_text`,
+    /// `dump_all_text`, `dump_places_text`, `dump_leniently` and `dump_all_leniently` do.
     ///
     /// At a fault the sink has taken the first part of the text.
     pub fn print<R: Source, W: Sink>(
@@ -91,9 +114,30 @@ impl Tool {
         match self {
             Tool::Thru => thru_text(alloc, input, out),
             Tool::Wire => wire_text(alloc, input, out),
-            Tool::Dump => dump_text(alloc, input, out),
-            Tool::DumpAll => dump_all_text(alloc, input, out),
+            Tool::Dump(Grammar::Strict) => dump_text(alloc, input, out),
+            Tool::Dump(Grammar::Lenient) => dump_leniently(alloc, input, out),
+            Tool::DumpAll(Grammar::Strict) => dump_all_text(alloc, input, out),
+            Tool::DumpAll(Grammar::Lenient) => dump_all_leniently(alloc, input, out),
+            Tool::DumpPlaces => dump_places_text(alloc, input, out),
         }
+    }
+}
+
+/// What `dump` does with these flags.
+fn dump_tool(flags: DumpFlags) -> Tool
+    ensures { result ≡ dump_tool flags }
+{
+    let grammar = if flags.lenient {
+        Grammar::Lenient
+    } else {
+        Grammar::Strict
+    };
+    if flags.at {
+        Tool::DumpPlaces
+    } else if flags.all {
+        Tool::DumpAll(grammar)
+    } else {
+        Tool::Dump(grammar)
     }
 }
 
@@ -131,14 +175,13 @@ impl<'a> Task<'a> {
         }
     }
 
-    /// What a command says to do with a FILE, if there is such a command. Where `is_all` is given, `dump` prints all
-    /// that the file says.
-    pub fn of_words(command: &str, is_all: bool, file: &'a str) -> Option<Task<'a>>
-        ensures tool { IfSome result (λ c. IsToolNamed c.tool command.now is_all) }
+    /// What a command says to do with a FILE, if there is such a command, and with these flags where it is `dump`.
+    pub fn of_words(command: &str, flags: DumpFlags, file: &'a str) -> Option<Task<'a>>
+        ensures tool { IfSome result (λ c. IsToolNamed c.tool command.now flags) }
         ensures stream { IfSome result (λ c. IsNamedBy c.stream file.now) }
         ensures unknown { IfNone result ((t : Tool) → tool_name t ≢ command.now) }
     {
-        let tool = Tool::named(command, is_all)?;
+        let tool = Tool::named(command, flags)?;
         Some(Task {
             tool,
             stream: Stream::named(file),

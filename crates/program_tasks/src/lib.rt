@@ -56,7 +56,7 @@ mod writing;
 pub use answer::CircleAnswer;
 pub use answering::print_circle;
 pub use checking::check;
-pub use choice::{STANDARD, Stream, Task, Tool};
+pub use choice::{DumpFlags, Grammar, STANDARD, Stream, Task, Tool};
 pub use end_word::EndWord;
 pub use ending::{Ended, finish};
 pub use explaining::explain_session;

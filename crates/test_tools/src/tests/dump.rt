@@ -3,7 +3,7 @@
 use super::failing_devices::SMALL;
 use crate::printed;
 use byte_io::{MemSink, MemSource};
-use program_tasks::Tool;
+use program_tasks::{Grammar, Tool};
 use smf_files::SmfFault;
 use std::test::Fail;
 use tool_text::{ToolFault, dump_text};
@@ -82,13 +82,45 @@ const ALL_DUMPS: &[(&'static [u8], &'static [u8])] = &[
     ),
 ];
 
+/// A program change with bit 7, and a status that is left out behind a text.
+pub(super) const FORGIVEN: &[u8] = &[
+    0x4D, 0x54, 0x68, 0x64, 0x00, 0x00, 0x00, 0x06, 0x00, 0x00, 0x00, 0x01, 0x00, 0x60, 0x4D, 0x54,
+    0x72, 0x6B, 0x00, 0x00, 0x00, 0x13, 0x00, 0xC0, 0x85, 0x00, 0x90, 0x3C, 0x40, 0x00, 0xFF, 0x01,
+    0x01, 0x41, 0x60, 0x3C, 0x00, 0x00, 0xFF, 0x2F, 0x00,
+];
+
+/// What is printed with the flags that the tables above don't try.
+const FLAGGED: &[(Tool, &'static [u8], &'static [u8])] = &[
+    (
+        Tool::DumpPlaces,
+        &TWO_TRACKS,
+        b"0 format 1 tracks 2 division 96\n14 track 0\n22 0 tempo 250000\n29 96 90 01 40\n\
+            33 96 end\n37 track 1\n45 96 90 02 40\n49 96 tempo 500000\n56 96 90 03 40\n60 96 end\n",
+    ),
+    (
+        Tool::Dump(Grammar::Lenient),
+        FORGIVEN,
+        b"format 0 tracks 1 division 96\ntempo 0 500000\n0 C0 05\n0 90 3C 40\n96 90 3C 00\n\
+            skipped 0\nforgiven 1 running status 34\nforgiven 1 program change 22\n",
+    ),
+    (
+        Tool::DumpAll(Grammar::Lenient),
+        FORGIVEN,
+        b"format 0 tracks 1 division 96\ntrack 0\n0 C0 05\n0 90 3C 40\n0 text \"A\"\n96 90 3C 00\n\
+            96 end\nforgiven 1 running status 34\nforgiven 1 program change 22\n",
+    ),
+];
+
 #[test]
 fn dumps_files(rt: HostRuntime) -> Result<(), Fail> {
     for (file, text) in DUMPS {
-        assert!(rt; printed(rt.alloc(), Tool::Dump, file)?.as_slice() == *text);
+        assert!(rt; printed(rt.alloc(), Tool::Dump(Grammar::Strict), file)?.as_slice() == *text);
     }
     for (file, text) in ALL_DUMPS {
-        assert!(rt; printed(rt.alloc(), Tool::DumpAll, file)?.as_slice() == *text);
+        assert!(rt; printed(rt.alloc(), Tool::DumpAll(Grammar::Strict), file)?.as_slice() == *text);
+    }
+    for (tool, file, text) in FLAGGED {
+        assert!(rt; printed(rt.alloc(), *tool, file)?.as_slice() == *text);
     }
     Ok(())
 }

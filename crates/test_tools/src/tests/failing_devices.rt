@@ -3,7 +3,7 @@
 ghost use Rattle.std.specs.Prelude.{◌≡◌, IfOk, false};
 
 use byte_io::{MemSink, MemSource, OutOfMemory};
-use program_tasks::Tool;
+use program_tasks::{Grammar, Tool};
 use std::alloc::Global;
 use std::process::Abort;
 use std::test::Fail;
@@ -102,8 +102,14 @@ fn each_write_of_wire_fails(rt: HostRuntime) -> Result<(), Fail> {
 
 #[test]
 fn each_write_of_dump_fails(rt: HostRuntime) -> Result<(), Fail> {
-    assert_writes(&rt, rt.alloc(), Tool::Dump, SMALL, DUMPED)?;
-    assert_writes(&rt, rt.alloc(), Tool::DumpAll, SMALL, ALL_DUMPED)
+    assert_writes(&rt, rt.alloc(), Tool::Dump(Grammar::Strict), SMALL, DUMPED)?;
+    assert_writes(
+        &rt,
+        rt.alloc(),
+        Tool::DumpAll(Grammar::Strict),
+        SMALL,
+        ALL_DUMPED,
+    )
 }
 
 /// So many notes under one status. They are read in pieces of 4,096 bytes, of which the first ends within a note.
@@ -185,6 +191,20 @@ fn each_read_of_dump_fails(rt: HostRuntime) -> Result<(), Fail> {
     let alloc = rt.alloc();
     let mut file = Vec::from_slice(alloc, SMALL)?;
     file.resize(20_000, 0)?;
-    assert_reads(&rt, alloc, Tool::Dump, file.as_slice(), 4, DUMPED)?;
-    assert_reads(&rt, alloc, Tool::DumpAll, file.as_slice(), 4, ALL_DUMPED)
+    assert_reads(
+        &rt,
+        alloc,
+        Tool::Dump(Grammar::Strict),
+        file.as_slice(),
+        4,
+        DUMPED,
+    )?;
+    assert_reads(
+        &rt,
+        alloc,
+        Tool::DumpAll(Grammar::Strict),
+        file.as_slice(),
+        4,
+        ALL_DUMPED,
+    )
 }

@@ -2,8 +2,8 @@
 
 use node_table::{ClientId, PortAddr, PortNo};
 use program_tasks::{
-    AbsentLine, DiagnosticLine, FaultLine, LossLine, ProgramFault, STANDARD, SlipLine,
-    SoundingLine, Stream, Task, Tool,
+    AbsentLine, DiagnosticLine, DumpFlags, FaultLine, Grammar, LossLine, ProgramFault, STANDARD,
+    SlipLine, SoundingLine, Stream, Task, Tool,
 };
 use script_text::{LineFault, WordKind};
 use seq_engine::Loss;
@@ -132,26 +132,32 @@ fn keeps_a_path_in_one_line(rt: HostRuntime) -> Result<(), Fail> {
     check_faults(&rt, rt.alloc(), &told)
 }
 
+fn flags(all: bool, at: bool, lenient: bool) -> DumpFlags {
+    DumpFlags { all, at, lenient }
+}
+
 #[test]
 fn chooses_by_words(rt: HostRuntime) {
-    let thru = Task::of_words("thru", false, STANDARD);
-    assert!(rt; thru == Some(Task::without_words()));
-    let wire = Task {
-        tool: Tool::Wire,
-        stream: Stream::Path("keys.raw"),
-    };
-    assert!(rt; Task::of_words("wire", true, "keys.raw") == Some(wire));
-    let dump = Task {
-        tool: Tool::Dump,
-        stream: Stream::Standard,
-    };
-    assert!(rt; Task::of_words("dump", false, "-") == Some(dump));
-    let all = Task {
-        tool: Tool::DumpAll,
-        stream: Stream::Standard,
-    };
-    assert!(rt; Task::of_words("dump", true, "-") == Some(all));
-    assert!(rt; Task::of_words("play", true, "-") == None);
+    let none = flags(false, false, false);
+    let all = flags(true, false, false);
+    let at = flags(true, true, false);
+    let lenient = flags(false, false, true);
+    let all_leniently = flags(true, false, true);
+    assert!(rt; Task::of_words("thru", none, STANDARD) == Some(Task::without_words()));
+    for (command, flags, tool) in [
+        ("thru", all, Tool::Thru),
+        ("wire", lenient, Tool::Wire),
+        ("dump", none, Tool::Dump(Grammar::Strict)),
+        ("dump", lenient, Tool::Dump(Grammar::Lenient)),
+        ("dump", all, Tool::DumpAll(Grammar::Strict)),
+        ("dump", all_leniently, Tool::DumpAll(Grammar::Lenient)),
+        ("dump", at, Tool::DumpPlaces),
+    ] {
+        for (file, stream) in [("-", Stream::Standard), ("keys", Stream::Path("keys"))] {
+            assert!(rt; Task::of_words(command, flags, file) == Some(Task { tool, stream }));
+        }
+    }
+    assert!(rt; Task::of_words("play", all, "-") == None);
 }
 
 #[test]

@@ -6,7 +6,7 @@ use Rattle.script_text.specs.declared.script.TheConstants.{MOST_FILES}
 use Rattle.folder_files.specs.Contents.{bytes_read}
 use Rattle.folder_files.specs.Names.{AreInCapitals}
 use Rattle.program_tasks.specs.Opened.{AreContents, IsFolder}
-use Rattle.program_tasks.proofs.Opened.{take-all}
+use Rattle.folder_files.proofs.Filtered.{take-all}
 use Rattle.program_tasks.proofs.Files.{contents_next}
 use Rattle.program_tasks.proofs.folder.Folder.read.Goals as goal
 

@@ -5,7 +5,8 @@ use Rattle.std.specs.Prelude.{Contains}
 use Rattle.program_tasks.specs.Words.{scripts_seen}
 use Rattle.program_tasks.specs.Sessions.{owners}
 use Rattle.program_tasks.proofs.Files.{sources_next}
-use Rattle.program_tasks.proofs.Opened.{all-more, take-all, clients-next, script-at}
+use Rattle.folder_files.proofs.Filtered.{take-all}
+use Rattle.program_tasks.proofs.Opened.{all-more, clients-next, script-at}
 use Rattle.program_tasks.proofs.session.Session.open.Goals as goal
 
 pub loop-script-init : goal.loop-script-init
