@@ -116,56 +116,100 @@ fn makes_a_file_of_a_text_in_pieces(rt: HostRuntime) -> Result<(), Fail> {
     Ok(())
 }
 
+/// A text of one track, whose remark has so many bytes and which ends so, and why no file is made of it.
+struct Refused {
+    remark: usize,
+    last: &'static [u8],
+    /// The read that fails, if one does.
+    fail_at: Option<u64>,
+    fault: MakeFault,
+}
+
+/// Line 4 was to say the first event.
+const NO_EVENT: MakeFault = MakeFault::Line {
+    line: 4,
+    expected: Expected::Event { from: 0 },
+};
+
+const REFUSED: &[Refused] = &[
+    // In the second piece a message is cut, where a line end follows it and where none does.
+    Refused {
+        remark: PIECE,
+        last: b"\n0 C0\n0 end\n",
+        fail_at: None,
+        fault: NO_EVENT,
+    },
+    Refused {
+        remark: PIECE,
+        last: b"\n0 C0",
+        fail_at: None,
+        fault: NO_EVENT,
+    },
+    // The track has no end.
+    Refused {
+        remark: PIECE,
+        last: b"\n0 C0 05\n",
+        fail_at: None,
+        fault: MakeFault::Line {
+            line: 5,
+            expected: Expected::Event { from: 0 },
+        },
+    },
+    // A read fails: before the line that is wrong, at once, and where the text has ended.
+    Refused {
+        remark: PIECE,
+        last: b"\n0 C0\n",
+        fail_at: Some(1),
+        fault: MakeFault::Read,
+    },
+    Refused {
+        remark: 0,
+        last: b"\n0 end\n",
+        fail_at: Some(0),
+        fault: MakeFault::Read,
+    },
+    Refused {
+        remark: 0,
+        last: b"\n0 end\n",
+        fail_at: Some(1),
+        fault: MakeFault::Read,
+    },
+    // A line that is wrong is told before a later read fails.
+    Refused {
+        remark: 0,
+        last: b"\n0 C0\n",
+        fail_at: Some(1),
+        fault: NO_EVENT,
+    },
+];
+
 #[test]
 fn tells_the_fault_of_a_text_in_pieces(rt: HostRuntime) -> Result<(), Fail> {
-    let expected = Expected::Event { from: 0 };
-    for (remark, last, fail_at, fault) in [
-        (
-            PIECE,
-            b"\n0 C0\n0 end\n".as_slice(),
-            None,
-            MakeFault::Line { line: 4, expected },
-        ),
-        (
-            PIECE,
-            b"\n0 C0".as_slice(),
-            None,
-            MakeFault::Line { line: 4, expected },
-        ),
-        (
-            PIECE,
-            b"\n0 C0 05\n".as_slice(),
-            None,
-            MakeFault::Line { line: 5, expected },
-        ),
-        (PIECE, b"\n0 C0\n".as_slice(), Some(1), MakeFault::Read),
-        (0, b"\n0 end\n".as_slice(), Some(0), MakeFault::Read),
-        (0, b"\n0 end\n".as_slice(), Some(1), MakeFault::Read),
-        (
-            0,
-            b"\n0 C0\n".as_slice(),
-            Some(1),
-            MakeFault::Line { line: 4, expected },
-        ),
-    ] {
-        let mut input = one_track(rt.alloc(), remark, last)?;
-        if let Some(k) = fail_at {
+    for refused in REFUSED {
+        let mut input = one_track(rt.alloc(), refused.remark, refused.last)?;
+        if let Some(k) = refused.fail_at {
             input.fail_at(k);
         }
         match make_text(rt.alloc(), &mut input) {
             Ok(_) => return Err(Fail::new("a file")),
-            Err(told) => assert!(rt; told == fault, "told {told}"),
+            Err(told) => assert!(rt; told == refused.fault, "told {told}"),
         }
     }
-    let mut nothing = MemSource::new(Vec::new(rt.alloc()));
-    match make_text(rt.alloc(), &mut nothing) {
-        Ok(_) => return Err(Fail::new("a file")),
-        Err(told) => assert!(rt;
-            told == MakeFault::Line {
-                line: 1,
-                expected: Expected::Header
-            }
-        ),
-    }
     Ok(())
+}
+
+#[test]
+fn no_text_has_no_header(rt: HostRuntime) -> Result<(), Fail> {
+    let mut nothing = MemSource::new(Vec::new(rt.alloc()));
+    let fault = MakeFault::Line {
+        line: 1,
+        expected: Expected::Header,
+    };
+    match make_text(rt.alloc(), &mut nothing) {
+        Ok(_) => Err(Fail::new("a file")),
+        Err(told) => {
+            assert!(rt; told == fault, "told {told}");
+            Ok(())
+        }
+    }
 }
