@@ -30,7 +30,7 @@ use Rattle.program_tasks.specs.declared.choice.Tool.{Tool}
 use Rattle.program_tasks.specs.declared.program_fault.ProgramFault.{ProgramFault}
 use Rattle.program_tasks.specs.declared.program_fault.ProgramFault.TheVariants.{NoSubcommand, NotAClient, NotAForm, NotAPort}
 use Rattle.program_tasks.specs.Program.{tool_name, IsToolNamed, IsNamedBy, IsReasoned}
-use Rattle.midiseq.specs.Given.{text_of, IsFlag, IsAsked, IsEndGiven, IsGiven, IsQuestionGiven, IsLogFolderGiven, AreGridWords, IsRecordingGiven, IsOfFiles, IsOfPlainTool}
+use Rattle.midiseq.specs.Given.{text_of, IsFlag, AreDumpFlags, IsAsked, IsEndGiven, IsGiven, IsQuestionGiven, IsLogFolderGiven, AreGridWords, IsRecordingGiven, IsOfFiles, IsOfPlainTool}
 
 -- The word for the session's end says none.
 pub record IsOfEndWord (found : Found) (fault : ProgramFault) : Type 0 where
