@@ -29,10 +29,10 @@ const SLACK: usize = 64;
 /// An entry that is greater than the last of a list goes to its end, in constant time, and any other into a heap, in
 /// logarithmic time. So the list ascends, and the least entry is its first or the heap's top.
 ///
-/// An entry is stale once its cell went or got another key, and of equal entries all but one are. Where more than three
-/// entries for two cells and 32 stand, each call that may leave one looks at eight of them, one after another, and drops
-/// those that are stale. So two for each cell and 64 are hardly ever exceeded; a call after which they would be drops all
-/// that are stale, in linear time and in place.
+/// An entry is stale once its cell went or got another key, and of equal entries all but one are. Where more than
+/// three entries for two cells and 32 stand, each call that may leave one looks at five of them, one after another, and
+/// drops those that are stale. So two for each cell and 64 are hardly ever exceeded; a call after which they would be
+/// drops all that are stale, in linear time and in place.
 ///
 /// Beside the entries stands a table as long as the greatest number of a cell so far; it never shrinks.
 pub struct HeapAgenda {

@@ -12,7 +12,7 @@ use std::collections::VecDeque;
 
 /// How many entries a call looks at.
 // A call leaves one entry that is stale at most, and a third of those that it looks at are.
-const LOOKED_AT: usize = 8;
+const LOOKED_AT: usize = 5;
 
 /// Looks at some entries, and drops those that are stale: from the last place of the heap to the first, and then from
 /// the list's end on.
@@ -60,8 +60,8 @@ fn look_at(
     }
 }
 
-/// Takes the last entry out of the list, and puts it into the heap where it is not stale; answers how many places of the
-/// heap are to be looked at next: none, and all once the list is empty.
+/// Takes the last entry out of the list, and puts it into the heap where it is not stale; answers how many places of
+/// the heap are to be looked at next: none, and all once the list is empty.
 ///
 /// The last entries of the list come late, so that they rise little in the heap.
 fn look_at_last(

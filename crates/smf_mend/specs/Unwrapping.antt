@@ -1,5 +1,5 @@
--- Definition: What comes of what was read of a file by the lenient grammar, where that may stand in a
--- container.
+-- Definition: What comes of what was read of a file by the lenient grammar, where that may stand
+-- in a container.
 use Rattle.std.specs.Prelude.{◌≡◌, ◌≤◌, ◌<◌, ◌⊎◌, ℕ, List, length}
 use Rattle.smf_grammar.specs.Chunks.{most_bytes}
 use Rattle.smf_grammar.specs.declared.fault.SmfFault.{SmfFault}
