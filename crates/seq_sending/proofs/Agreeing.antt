@@ -26,7 +26,7 @@ use Rattle.seq_sending.specs.Table.{AreWaysThrough}
 use Rattle.seq_sending.specs.Ways.{copies_on, copies_along, IsWay, AreWays, AreWaysTo, PartsFrom}
 use Rattle.seq_sending.specs.declared.reach.Passed.{Passed}
 use Rattle.seq_sending.specs.declared.ways.Way.{Way}
-use Rattle.seq_sending.specs.declared.ways.Way.TheVariants.{Straight, Filtered, Parting, Nowhere}
+use Rattle.seq_sending.specs.declared.ways.Way.TheVariants.{Straight, Filtered, Parted, Parting, Nowhere}
 use Rattle.seq_sending.proofs.Onward.{of-same, ways-all}
 
 -- ---- agreement
@@ -287,6 +287,7 @@ module _ (P : ℕ → Type 0) (clients others : FinMap nat_cmp Client) (edges ot
         copies_on clients edges moment message way ≡ copies_on others other_edges moment message way
     way-agrees node message (Straight end) parts within = refl
     way-agrees node message (Filtered rule end) parts within = refl
+    way-agrees node message (Parted rule branches) parts within = refl
     way-agrees node message (Parting from) parts within = node-agrees from message (subst (LeadsWithin P edges (hops - 1)) (sym parts) within)
     way-agrees node message Nowhere parts within = refl
 

@@ -25,9 +25,9 @@ use Rattle.seq_sending.specs.Counts.{ways_for}
 use Rattle.seq_sending.specs.Rooms.{copies_for}
 use Rattle.seq_sending.specs.Ways.{copies_on, copies_along, spread_all}
 use Rattle.seq_sending.specs.declared.ways.Way.{Way}
-use Rattle.seq_sending.specs.declared.ways.Way.TheVariants.{Straight, Filtered, Parting, Nowhere}
+use Rattle.seq_sending.specs.declared.ways.Way.TheVariants.{Straight, Filtered, Parted, Parting, Nowhere}
 use Rattle.seq_sending.proofs.CopyCounts.{count_law}
-use Rattle.seq_sending.proofs.Sent.{spread-none, to-filter, to-only, by-port}
+use Rattle.seq_sending.proofs.Sent.{spread-none, spread-hops, to-filter, to-only, by-port}
 
 -- ---- of what may have been stopped
 
@@ -42,6 +42,11 @@ of-both g h (Some m) = refl
 pub of-none : (f : List ℕ → List Delivery) → ((m : List ℕ) → f m ≡ []) → (o : Option (List ℕ)) → of_some f o ≡ []
 of-none f none None = refl
 of-none f none (Some m) = none m
+
+-- what is nothing where all is stopped needs to be asked no further then
+pub of-gated : (ds : List Delivery) (f : List ℕ → List Delivery) (o : Option (List ℕ)) → ds ≡ of_some f o → of_some (λ _. ds) o ≡ of_some f o
+of-gated ds f None e = refl
+of-gated ds f (Some m) e = e
 
 -- ---- from node to node
 
@@ -84,6 +89,16 @@ module _ (clients : FinMap nat_cmp Client) (edges : List Edge) (moment : ℕ) wh
 
   pub ends-by : (n : ℕ) (targets : List Addr) → n ≡ 0 → (o : Option (List ℕ)) → of_some (λ m. copies_onward clients edges moment n targets m) o ≡ []
   ends-by n targets e o = of-none (λ m. copies_onward clients edges moment n targets m) (λ m. spread-none clients edges moment n targets m e) o
+
+  -- to each of the nodes behind it
+  pub to-each-one : (n : ℕ) (targets : List Addr) → (n ≡ 0 → ⊥) → (o : Option (List ℕ)) →
+      flat_map (λ node. of_some (λ m. copies_to clients edges moment (n - 1) node m) o) targets ≡ of_some (λ m. copies_onward clients edges moment n targets m) o
+  to-each-one n targets h None = flat_map-none targets
+    where
+      flat_map-none : (ts : List Addr) → flat_map (λ node. of_some (λ m. copies_to clients edges moment (n - 1) node m) None) ts ≡ []
+      flat_map-none [] = refl
+      flat_map-none (t ∷ ts) = flat_map-none ts
+  to-each-one n targets h (Some m) = sym (spread-hops clients edges moment n targets m h)
 
   -- the ways to some of the nodes, and to one more
   pub ways-more : (targets : List Addr) (i : ℕ) (t : Addr) (ways : List Way) (way : Way) (message : List ℕ) → i < length targets → t ≡ slice_index_or targets i t →
@@ -132,6 +147,7 @@ module _ (a b : FinMap nat_cmp Client) (same : SameFilters a b) where
     on-same : (message : List ℕ) (way : Way) → copies_on a edges moment message way ≡ copies_on b edges moment message way
     on-same message (Straight end) = refl
     on-same message (Filtered rule end) = refl
+    on-same message (Parted rule branches) = refl
     on-same message (Parting node) = to-same (λ ts m. copies_onward a edges moment (hops - 1) ts m) (λ ts m. copies_onward b edges moment (hops - 1) ts m) (λ ts m. spread-same (hops - 1) ts m) message node
     on-same message Nowhere = refl
 

@@ -114,7 +114,7 @@ sent-one f targets i t now l e same pools pools' all out out' whole o s p q =
 -- ---- message by message
 
 module _ {X : Type 0} (f : X → List Delivery) (xs : List X) (i : ℕ) (x : X) (within : i < length xs) (is : x ≡ get_or xs i x) where
-  one-more : flat_map f (take (i + 1) xs) ≡ flat_map f (take i xs) ++ f x
+  pub one-more : flat_map f (take (i + 1) xs) ≡ flat_map f (take i xs) ++ f x
   one-more =
       ap (flat_map f) (take_more xs i x within ∙ ap (λ y. take i xs ++ y ∷ []) (sym is))
       ∙ flat_map-append f (take i xs) (x ∷ []) ∙ ap (λ ys. flat_map f (take i xs) ++ ys) (append-nil (f x))

@@ -13,9 +13,19 @@ use Rattle.route_filter.specs.Passing.{rule_output}
 use Rattle.seq_state.specs.Copies.{copy}
 use Rattle.seq_state.specs.State.{Client}
 use Rattle.seq_state.specs.declared.log.Delivery.{Delivery}
-use Rattle.seq_sending.specs.Carrying.{copies_to, copies_onward}
+use Rattle.seq_sending.specs.Carrying.{let_through, of_some, copies_to, copies_onward}
+use Rattle.seq_sending.specs.declared.ways.Branch.{Branch}
 use Rattle.seq_sending.specs.declared.ways.Way.{Way}
-use Rattle.seq_sending.specs.declared.ways.Way.TheVariants.{Straight, Filtered, Parting, Nowhere}
+use Rattle.seq_sending.specs.declared.ways.Way.TheVariants.{Straight, Filtered, Parted, Parting, Nowhere}
+
+-- the copy of a message that goes a branch, if there is one
+abbrev pub copies_by_branch : ℕ → List ℕ → Branch → List Delivery
+copies_by_branch moment message branch =
+    option_to_list (copy moment (at_port branch.end) (let_through branch.rule message))
+
+-- the copies of a message that goes all these branches
+abbrev pub copies_by_branches : ℕ → List ℕ → List Branch → List Delivery
+copies_by_branches moment message branches = flat_map (copies_by_branch moment message) branches
 
 -- the copies of a message that goes a way
 abbrev pub copies_on : FinMap nat_cmp Client → List Edge → ℕ → List ℕ → Way → List Delivery
@@ -23,6 +33,8 @@ copies_on clients edges moment message (Straight end) =
     option_to_list (copy moment (at_port end) (Some message))
 copies_on clients edges moment message (Filtered rule end) =
     option_to_list (copy moment (at_port end) (rule_output rule message))
+copies_on clients edges moment message (Parted rule branches) =
+    of_some (λ _. copies_by_branches moment message branches.items) (let_through rule message)
 copies_on clients edges moment message (Parting node) =
     copies_to clients edges moment (hops - 1) node message
 copies_on clients edges moment message Nowhere = []

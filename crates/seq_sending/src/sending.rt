@@ -11,13 +11,13 @@ ghost use Rattle.seq_state.specs.Copies.{copy};
 ghost use Rattle.seq_state.specs.Step.{pools_after, copies_with_room};
 ghost use Rattle.seq_sending.specs.Carrying.{copies_to, copies_onward};
 ghost use Rattle.seq_sending.specs.KeptCounts.{AreCountsKept};
-ghost use Rattle.seq_sending.specs.Ways.{copies_on, copies_along, spread_all, AreWays};
+ghost use Rattle.seq_sending.specs.Ways.{copies_by_branch, copies_by_branches, copies_on, copies_along, spread_all, AreWays};
 
 use crate::carried::Carried;
 use crate::counted::send_all_counted;
 use crate::kept_counts::CountTable;
 use crate::reach::Extent;
-use crate::ways::{Way, Ways};
+use crate::ways::{Branch, Way, Ways};
 use memory::OutOfMemory;
 use midi_wire::Message;
 use node_table::{Addr, Node, PortAddr};
@@ -197,8 +197,61 @@ fn send_by<M: Carried + Drop>(
             Some(passed) => deliver(clients, moment, *end, passed, out),
             None => Ok(()),
         },
+        Way::Parted(rule, branches) => {
+            if message.once_more()?.through(rule.as_ref()).is_none() {
+                return Ok(());
+            }
+            send_parted(clients, moment, branches, message, out)
+        }
         Way::Parting(node) => send_to(clients, graph, moment, HOPS - 1, node, message, out),
         Way::Nowhere => Ok(()),
+    }
+}
+
+/// Sends a message along branches, one after another.
+fn send_parted<M: Carried + Drop>(
+    clients: &mut Clients,
+    moment: u64,
+    branches: &[Branch],
+    message: M,
+    out: &mut Vec<Delivery>,
+) -> Result<(), OutOfMemory>
+    ensures clients { clients.new.clients ≡ clients.old.clients }
+    ensures pools { let ds = copies_by_branches moment (M.bytes message) branches.now in
+        OnOk result (clients.new.pools ≡ pools_after clients.old.pools ds) }
+    ensures sent { let ds = copies_by_branches moment (M.bytes message) branches.now in
+        OnOk result (out.new.items ≡ out.old.items ++ copies_with_room clients.old.pools ds) }
+{
+    // At most one copy comes by each branch.
+    out.reserve(branches.len())?;
+    for branch in branches {
+        let message = message.once_more()?;
+        send_by_branch(clients, moment, branch, message, out)?;
+    }
+    Ok(())
+}
+
+/// Sends a message along a branch, where there is room for one delivery more.
+#[inline(always)]
+fn send_by_branch<M: Carried + Drop>(
+    clients: &mut Clients,
+    moment: u64,
+    branch: &Branch,
+    message: M,
+    out: &mut Vec<Delivery>,
+) -> Result<(), OutOfMemory>
+    requires room { vec_len out.old < vec_capacity out.old }
+    ensures clients { clients.new.clients ≡ clients.old.clients }
+    ensures pools { let ds = copies_by_branch moment (M.bytes message) branch.now in
+        OnOk result (clients.new.pools ≡ pools_after clients.old.pools ds) }
+    ensures sent { let ds = copies_by_branch moment (M.bytes message) branch.now in
+        OnOk result (out.new.items ≡ out.old.items ++ copies_with_room clients.old.pools ds) }
+    ensures one { vec_len out.new ≤ vec_len out.old + 1 }
+    ensures capacity { vec_capacity out.new ≡ vec_capacity out.old }
+{
+    match message.through(branch.rule.as_ref()) {
+        Some(passed) => deliver_reserved(clients, moment, branch.end, passed, out),
+        None => Ok(()),
     }
 }
 

@@ -10,8 +10,8 @@ ghost use Rattle.patch_graph.specs.declared.edge.Edge.{Edge};
 ghost use Rattle.patch_graph.specs.Cursor.{at_port};
 ghost use Rattle.seq_state.specs.Copies.{copy};
 ghost use Rattle.seq_state.specs.State.{Client};
-ghost use Rattle.seq_sending.specs.Carrying.{let_through};
-ghost use Rattle.seq_sending.specs.Ways.{copies_on, IsWay, AreWaysTo, PartsFrom};
+ghost use Rattle.seq_sending.specs.Carrying.{let_through, of_some, copies_onward, copies_to};
+ghost use Rattle.seq_sending.specs.Ways.{copies_on, copies_by_branches, IsWay, AreWaysTo, PartsFrom};
 
 use crate::reach::{Extent, MOST_UNCOUNTED};
 use memory::OutOfMemory;
@@ -19,16 +19,28 @@ use node_table::{Addr, Node, PortAddr};
 use patch_graph::{HOPS, PatchGraph};
 use route_filter::Rule;
 use seq_clients::Clients;
+use std::alloc::Global;
 use std::marker::Model;
 
-/// What comes of the messages that go to a node which a port is joined to.
+/// A way to a port, with the rule of all filters on it.
 #[derive(Clone, Copy, Debug)]
+pub(crate) struct Branch {
+    pub(crate) rule: Option<Rule>,
+    pub(crate) end: PortAddr,
+}
+
+/// What comes of the messages that go to a node which a port is joined to.
+#[derive(Debug, Drop)]
 pub(crate) enum Way {
     /// They come to a port as they are.
     Straight(PortAddr),
     /// They come to a port as a rule lets them through.
     Filtered(Rule, PortAddr),
-    /// They go on to this node, since more than one way leads on from it or from a filter behind it.
+    /// They come to ports along these branches, one after another, since more than one way leads on from the node or
+    /// from a filter behind it. What does not pass this rule, that of the filters before the branches part, passes none
+    /// of theirs: it stands here so that it is asked once.
+    Parted(Option<Rule>, Vec<Branch>),
+    /// They go on to this node, since so many ways lead on from it that they are not listed.
     Parting(Addr),
     /// They come to no port.
     Nowhere,
@@ -105,7 +117,8 @@ impl Ways {
             AreWaysTo cs graph.now nodes self.old →
             AreWaysTo cs graph.now (nodes ++ target.now ∷ []) self.new) }
     {
-        push_copy(&mut self.ways, &way_to(clients, graph, target))?;
+        let way = way_to(*self.ways.allocator(), clients, graph, target, Extent::Few)?;
+        self.ways.push(way)?;
         self.nodes = MOST_UNCOUNTED.saturating_sub(room);
         Ok(())
     }
@@ -145,37 +158,37 @@ fn chained(first: Option<Rule>, next: Option<&Rule>) -> Option<Rule>
     }
 }
 
-/// Adds an item at the end.
-// Generic, since the borrow checker does not cover the call where an address goes in.
-fn push_copy<T: Copy>(items: &mut Vec<T>, item: &T) -> Result<(), OutOfMemory>
-    ensures { OnOk result (items.new.items ≡ items.old.items ++ item.now ∷ []) }
-{
-    items.push(*item)?;
-    Ok(())
-}
-
-/// The way to a node which a port is joined to.
-fn way_to<'g>(clients: &Clients, graph: &'g PatchGraph, target: &'g Addr) -> Way
-    ensures way { IsWay clients.now.clients graph.now target.now result }
-    ensures parts { PartsFrom target.now result }
+/// The way to a node which a port is joined to, where the ways come to so many nodes.
+fn way_to<'g>(
+    alloc: Global,
+    clients: &Clients,
+    graph: &'g PatchGraph,
+    target: &'g Addr,
+    extent: Extent,
+) -> Result<Way, OutOfMemory>
+    ensures way { IfOk result (λ way. IsWay clients.now.clients graph.now target.now way) }
+    ensures parts { IfOk result (λ way. PartsFrom target.now way) }
 {
     let (mut hops, mut node, mut rule) = (HOPS - 1, target, None);
     loop {
         let client = node.client;
         match node.node {
-            Node::Port(port) => return way_by(rule, PortAddr { client, port }),
+            Node::Port(port) => return Ok(way_by(rule, PortAddr { client, port })),
             Node::Filter(filter) => rule = chained(rule, clients.rule(client, filter)),
         }
         if hops == 0 {
-            return Way::Nowhere;
+            return Ok(Way::Nowhere);
         }
         match graph.targets(node) {
             [next] => {
                 node = next;
                 hops -= 1;
             }
-            [] => return Way::Nowhere,
-            _ => return Way::Parting(*target),
+            [] => return Ok(Way::Nowhere),
+            behind if extent == Extent::Few => {
+                return parted(alloc, clients, graph, hops, behind, rule);
+            }
+            _ => return Ok(Way::Parting(*target)),
         }
     }
 }
@@ -193,6 +206,71 @@ fn way_by(rule: Option<Rule>, end: PortAddr) -> Way
     }
 }
 
+/// The way to ports by the branches behind a filter, which leads to these nodes, along at most `hops` edges. The rule is
+/// that of all filters up to it.
+fn parted(
+    alloc: Global,
+    clients: &Clients,
+    graph: &PatchGraph,
+    hops: usize,
+    targets: &[Addr],
+    rule: Option<Rule>,
+) -> Result<Way, OutOfMemory>
+    requires { hops ≢ 0 }
+    ensures copies { IfOk result (λ way. (edges : List Edge) (moment : ℕ) (m : List ℕ) → IsMessage m →
+        copies_on clients.now.clients edges moment m way
+        ≡ of_some (λ x. copies_onward clients.now.clients graph.now moment hops targets.now x)
+        (let_through rule m)) }
+    ensures parts { IfOk result (λ way. (node : Addr) → PartsFrom node way) }
+{
+    let mut branches = Vec::new(alloc);
+    for target in targets {
+        add_branches(
+            clients,
+            graph,
+            hops - 1,
+            target,
+            rule.as_ref(),
+            &mut branches,
+        )?;
+    }
+    Ok(Way::Parted(rule, branches))
+}
+
+/// Adds the branches by which a node leads to ports, along at most `hops` edges, behind filters with this rule.
+fn add_branches(
+    clients: &Clients,
+    graph: &PatchGraph,
+    hops: usize,
+    node: &Addr,
+    rule: Option<&Rule>,
+    branches: &mut Vec<Branch>,
+) -> Result<(), OutOfMemory>
+    ensures { (moment : ℕ) (m : List ℕ) → IsMessage m → OnOk result (
+        copies_by_branches moment m branches.new.items
+        ≡ copies_by_branches moment m branches.old.items
+        ++ of_some (λ x. copies_to clients.now.clients graph.now moment hops node.now x)
+        (let_through (option_copied rule.entry) m)) }
+{
+    let client = node.client;
+    let filter = match node.node {
+        Node::Port(port) => {
+            let (rule, end) = (rule.copied(), PortAddr { client, port });
+            branches.push(Branch { rule, end })?;
+            return Ok(());
+        }
+        Node::Filter(filter) => filter,
+    };
+    if hops == 0 {
+        return Ok(());
+    }
+    let chain = chained(rule.copied(), clients.rule(client, filter));
+    for target in graph.targets(node) {
+        add_branches(clients, graph, hops - 1, target, chain.as_ref(), branches)?;
+    }
+    Ok(())
+}
+
 /// The ways to the nodes which a port is joined to, in their order, put into the room that is given. They come to so
 /// many nodes.
 pub(crate) fn ways_to(
@@ -206,9 +284,11 @@ pub(crate) fn ways_to(
     ensures { IfOk result (λ ways. AreWaysTo clients.now.clients graph.now targets.now ways) }
 {
     let mut ways = room;
+    let (alloc, extent) = (*ways.allocator(), Extent::of(nodes));
     ways.reserve(targets.len())?;
     for target in targets {
-        ways.push(way_to(clients, graph, target))?;
+        let way = way_to(alloc, clients, graph, target, extent)?;
+        ways.push(way)?;
     }
     Ok(Ways { ways, nodes })
 }

@@ -2,6 +2,7 @@
 
 mod circles;
 mod clients;
+mod filter_trees;
 mod going;
 mod kept_ways;
 mod lines;

@@ -1,4 +1,5 @@
 use Rattle.std.proofs.Common.{List, ℕ, Option, ap, refl, sym, ◌∙◌, arith}
+use Rattle.std.proofs.lemmas.Result.{IfOk-weaker}
 use Rattle.patch_graph.specs.Paths.{hops}
 use Rattle.seq_sending.specs.Carrying.{let_through, of_some, copies_onward}
 use Rattle.seq_sending.proofs.Onward.{at-end, past-filter, on-to, ends-at, ends-by}
@@ -29,6 +30,19 @@ returns-in-empty-clause-way c moment m is =
     sym (past-filter a.clients.now.clients a.graph.now moment l.hops l.node.now c.in-Filter.filter _ c.in-Filter.is c.rule.ensures (let_through l.rule m) _ (c.chained-rule.ensures m is)
     ∙ ap (λ ts. of_some (λ x. copies_onward a.clients.now.clients a.graph.now moment l.hops ts x) (let_through c.chained-rule.result m)) (sym c.targets.ensures)
     ∙ ends-at a.clients.now.clients a.graph.now moment l.hops c.targets.result.now c.in-empty.len_below (let_through c.chained-rule.result m)) ∙ l.invariant moment m is
+
+pub returns-in_default-clause-way : goal.returns-in_default-clause-way
+returns-in_default-clause-way c =
+    let l = c.loop-node in
+    let a = c.args in
+    IfOk-weaker c.parted.result _ _
+    (λ way copies moment m is.
+    let passed : Option (List ℕ) = let_through c.chained-rule.result m in
+    copies a.graph.now moment m is
+    ∙ sym (past-filter a.clients.now.clients a.graph.now moment l.hops l.node.now c.in-Filter.filter _ c.in-Filter.is c.rule.ensures (let_through l.rule m) passed (c.chained-rule.ensures m is)
+    ∙ ap (λ ts. of_some (λ x. copies_onward a.clients.now.clients a.graph.now moment l.hops ts x) passed) (sym c.targets.ensures))
+    ∙ l.invariant moment m is)
+    c.parted.ensures.copies
 
 pub loop-node-preserved : goal.loop-node-preserved
 loop-node-preserved c moment m is =

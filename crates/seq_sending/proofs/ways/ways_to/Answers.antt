@@ -14,9 +14,9 @@ loop-target-preserved c =
     let cs = a.clients.now.clients in
     let node = c.target-item.result in
     subst (AreWaysTo cs a.graph.now (take (l.target-index + 1) a.targets.now)) (sym c.in_ok-push.ensures.items)
-    (subst (λ ts. AreWaysTo cs a.graph.now ts (l.ways.items ++ c.way_to.result ∷ []))
+    (subst (λ ts. AreWaysTo cs a.graph.now ts (l.ways.items ++ c.in_ok-way.way ∷ []))
     (sym (take_more a.targets.now l.target-index node c.loop-target-test.true ∙ ap (λ x. take l.target-index a.targets.now ++ x ∷ []) (sym c.target-item.is)))
-    (ways-one-more cs a.graph.now (take l.target-index a.targets.now) l.ways.items node c.way_to.result l.invariant c.way_to.ensures.way c.way_to.ensures.parts))
+    (ways-one-more cs a.graph.now (take l.target-index a.targets.now) l.ways.items node c.in_ok-way.way l.invariant c.in_ok-way.ensures.way c.in_ok-way.ensures.parts))
 
 pub returns : goal.returns
 returns c =

@@ -7,5 +7,5 @@ pub returns : goal.returns
 returns c nodes each =
     let a = c.args in
     let t = a.target.now in
-    subst (AreWaysTo a.clients.now.clients a.graph.now (nodes ++ t ∷ [])) (sym c.in_ok-push_copy.ensures)
-    (ways-one-more a.clients.now.clients a.graph.now nodes c.self.inside.ways.items t c.way_to.result (subst (AreWaysTo a.clients.now.clients a.graph.now nodes) (sym c.self.view_is) each) c.way_to.ensures.way c.way_to.ensures.parts)
+    subst (AreWaysTo a.clients.now.clients a.graph.now (nodes ++ t ∷ [])) (sym c.in_ok-push.ensures.items)
+    (ways-one-more a.clients.now.clients a.graph.now nodes c.self.inside.ways.items t c.in_ok-way.way (subst (AreWaysTo a.clients.now.clients a.graph.now nodes) (sym c.self.view_is) each) c.in_ok-way.ensures.way c.in_ok-way.ensures.parts)
