@@ -1,6 +1,7 @@
 pub mod FirstWords
 pub mod FileLines
 pub mod VoiceEvents
+pub mod VoiceWords
 pub mod TextLines
 pub mod Taken
 pub mod Streaming

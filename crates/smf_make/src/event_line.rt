@@ -8,12 +8,12 @@ ghost use Rattle.smf_make.specs.SaidEvents.{behind_word, event_by, plain_meta_sa
 ghost use Rattle.smf_make.specs.Events.{said_event, of_bytes};
 
 use crate::meta_types::{shaped, type_named};
-use crate::numbers::hex_bytes;
-use crate::said_event::{SaidEvent, has_bytes, voice_event};
+use crate::numbers::{byte_said, hex_bytes, number_said};
+use crate::said_event::{SaidEvent, has_bytes, voice_said};
 use crate::unsaid::Unsaid;
 use crate::words::split_word;
 use midi_wire::{END_OF_EXCLUSIVE, EXCLUSIVE};
-use script_text::{hex_byte, number_of};
+use script_text::hex_byte;
 use std::alloc::Global;
 
 /// An event at a tick from the start of its track.
@@ -30,12 +30,17 @@ fn event_of_bytes(alloc: Global, first: u8, text: &[u8]) -> Result<SaidEvent, Un
     ensures err { IsErrOf result Unsaid.Nothing →
         of_bytes first (hex_bytes (words text.now)) ≡ None }
 {
-    let bytes = hex_bytes(alloc, text)?;
     match first {
-        EXCLUSIVE => Ok(SaidEvent::Exclusive(bytes)),
-        END_OF_EXCLUSIVE => Ok(SaidEvent::Escape(bytes)),
+        EXCLUSIVE => {
+            let payload = hex_bytes(alloc, text)?;
+            Ok(SaidEvent::Exclusive(payload))
+        }
+        END_OF_EXCLUSIVE => {
+            let payload = hex_bytes(alloc, text)?;
+            Ok(SaidEvent::Escape(payload))
+        }
         _ => {
-            let event = voice_event(first, bytes.as_slice()).ok_or(Unsaid::Nothing)?;
+            let event = voice_said(first, text).ok_or(Unsaid::Nothing)?;
             Ok(event)
         }
     }
@@ -59,10 +64,10 @@ fn event_by(alloc: Global, text: &[u8]) -> Result<SaidEvent, Unsaid>
     ensures err { IsErrOf result Unsaid.Nothing →
         event_by (words text.now) (behind_word text.now) ≡ None }
 {
-    let (word, rest) = split_word(text).ok_or(Unsaid::Nothing)?;
-    if let Some(first) = hex_byte(word) {
+    if let Some((first, rest)) = byte_said(text) {
         return event_of_bytes(alloc, first, rest);
     }
+    let (word, rest) = split_word(text).ok_or(Unsaid::Nothing)?;
     if word == b"meta".as_slice() {
         return plain_meta_said(alloc, rest);
     }
@@ -81,8 +86,9 @@ pub(crate) fn timed_event(alloc: Global, line: &[u8]) -> Result<TimedEvent, Unsa
     ensures sound { IfOk result (λ t. IsTrue (has_bytes (said_event t.event))) }
     ensures err { IsErrOf result Unsaid.Nothing → timed_event line.now ≡ None }
 {
-    let (word, rest) = split_word(line).ok_or(Unsaid::Nothing)?;
-    let tick = number_of(word).ok_or(Unsaid::Nothing)?;
+    let Some((tick, rest)) = number_said(line) else {
+        return Err(Unsaid::Nothing);
+    };
     let event = event_by(alloc, rest)?;
     if !has_bytes(&event) {
         return Err(Unsaid::Nothing);

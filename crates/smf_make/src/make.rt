@@ -1,6 +1,6 @@
 //! A file that is made of the lines of a text.
 
-ghost use Rattle.std.specs.Prelude.{◌≡◌, ◌≢◌, ◌≤◌, ◌<◌, ◌^◌, ◌∷◌, [], length, Ok, Err, IfSome, IfNone, IfOk, IfErr};
+ghost use Rattle.std.specs.Prelude.{◌≡◌, ◌≢◌, ◌≤◌, ◌<◌, ◌^◌, ◌∷◌, [], length, Ok, Err, IfSome, IfNone, IfOk, IfErr, OnOk};
 ghost use Rattle.script_text.specs.Words.{lines};
 ghost use Rattle.smf_make.specs.SaidFiles.{Unheaded, without_empty_last, said_file};
 ghost use Rattle.smf_make.specs.Making.{IsMaking, IsLineTaken, IsLineRefused, IsFinished, IsUnfinished, IsFileMade};
@@ -31,20 +31,27 @@ impl Maker {
         ensures taken { IfOk result (IsLineTaken self line.now) }
         ensures refused { IfErr result (IsLineRefused self line.now) }
     {
-        let Maker {
-            alloc,
-            mut bytes,
-            lines,
-            part,
-        } = self;
-        let lines = lines.saturating_add(1);
-        match take_line(alloc, part, without_return(line), &mut bytes) {
-            Ok(part) => Ok(Maker {
-                alloc,
-                bytes,
-                lines,
-                part,
-            }),
+        let mut maker = self;
+        maker.take(line)?;
+        Ok(maker)
+    }
+
+    /// The same where the maker stands. After a fault it is of no use.
+    // Moving a maker in and out would cost as much as a word of the line.
+    pub(crate) fn take(&mut self, line: &[u8]) -> Result<(), MakeFault>
+        ensures taken { OnOk result (IsLineTaken self.old line.now self.new) }
+        ensures refused { IfErr result (IsLineRefused self.old line.now) }
+    {
+        let lines = self.lines.saturating_add(1);
+        self.lines = lines;
+        let part = self.part;
+        // Nothing is known of the bytes until the line is taken.
+        self.part = WrittenPart::Unheaded;
+        match take_line(self.alloc, part, without_return(line), &mut self.bytes) {
+            Ok(next) => {
+                self.part = next;
+                Ok(())
+            }
             Err(LineStop::Unexpected) => Err(MakeFault::Line {
                 line: lines,
                 expected: part.expected(),
@@ -112,7 +119,7 @@ pub fn make_file(alloc: Global, text: &[u8]) -> Result<Vec<u8>, MakeFault>
     let mut maker = Maker::new(alloc);
     let mut left = text;
     while let Some((line, rest)) = first_line(left) {
-        maker = maker.line(line)?;
+        maker.take(line)?;
         left = rest;
     }
     maker.finish()

@@ -1,15 +1,18 @@
 //! Numbers and bytes that words say.
 
-ghost use Rattle.std.specs.Prelude.{◌≡◌, ◌∷◌, [], replicate, Some, None, IfOk, IsErrOf};
+ghost use Rattle.std.specs.Prelude.{◌≡◌, ◌≤◌, ◌∷◌, [], length, take, replicate, true, Some, None, IfSome, IfOk, IsErrOf};
+ghost use Rattle.std.specs.List.{list_all, position_or_len};
+ghost use Rattle.std.specs.Option.{option_map};
 ghost use Rattle.script_text.specs.Numbers as says;
-ghost use Rattle.script_text.specs.Words.{words};
-ghost use Rattle.smf_make.specs.SaidEvents.{numbers_said, signed_said, key_said};
+ghost use Rattle.script_text.specs.Table.{word_as};
+ghost use Rattle.script_text.specs.Words.{is_blank, words};
+ghost use Rattle.smf_make.specs.SaidEvents.{behind_word, numbers_said, signed_said, key_said};
 ghost use Rattle.smf_make.specs.Words.{only_number};
 
 use crate::unsaid::Unsaid;
 use crate::words::split_word;
 use byteorder::{BigEndian, ByteOrder};
-use script_text::{hex_byte, up_to};
+use script_text::{hex_byte, is_blank, number_of, up_to};
 use std::alloc::Global;
 
 /// The number that the only word says, where it is not greater.
@@ -21,6 +24,93 @@ fn only_number(text: &[u8], most: u64) -> Option<u64>
         return None;
     }
     up_to(word, most)
+}
+
+/// The number at the front and how many digits it has, where a word of 1 to 19 digits stands there. So many fit.
+// Looking for the word's end first would take two passes over the digits.
+#[inline]
+fn front_number(line: &[u8]) -> Option<(u64, usize)>
+    ensures value { IfSome result (λ n. says.u64 (take n.1 line.now) ≡ Some n.0) }
+    ensures digits { IfSome result (λ n. list_all says.is_digit (take n.1 line.now) ≡ true) }
+    ensures whole { IfSome result (λ n. n.1 ≡ position_or_len is_blank line.now) }
+    ensures within { IfSome result (λ n. n.1 ≤ length line.now) }
+    ensures some { IfSome result (λ n. 1 ≤ n.1) }
+{
+    let most = line.len().min(19);
+    let mut value = 0;
+    let mut n = 0;
+    while n < most && line[n] >= b'0' && line[n] <= b'9' {
+        value = value * 10 + u64::from(line[n] - b'0');
+        n += 1;
+    }
+    if n == 0 || (n < line.len() && !is_blank(line[n])) {
+        return None;
+    }
+    Some((value, n))
+}
+
+/// The number that the first word says, and what stands behind it.
+#[inline]
+pub(crate) fn number_said(line: &[u8]) -> Option<(u64, &[u8])>
+    ensures said { option_map (λ n. (n.0, words n.1.now)) result
+        ≡ word_as says.u64 (words line.now) }
+    ensures behind { IfSome result (λ n. n.1.now ≡ behind_word line.now) }
+{
+    match front_number(line) {
+        Some((value, len)) => Some((value, &line[len..])),
+        None => parted_number(line),
+    }
+}
+
+/// The same, wherever the word stands: most lines begin with it.
+#[inline(never)]
+fn parted_number(line: &[u8]) -> Option<(u64, &[u8])>
+    ensures said { option_map (λ n. (n.0, words n.1.now)) result
+        ≡ word_as says.u64 (words line.now) }
+    ensures behind { IfSome result (λ n. n.1.now ≡ behind_word line.now) }
+{
+    let (word, rest) = split_word(line)?;
+    let number = number_of(word)?;
+    Some((number, rest))
+}
+
+/// The byte that the first word says, and what stands behind it, where one space stands before the word and one or
+/// nothing behind it.
+#[inline]
+fn spaced_byte(text: &[u8]) -> Option<(u8, &[u8])>
+    ensures { IfSome result (λ b.
+        word_as says.hex_byte (words text.now) ≡ Some (b.0, words b.1.now)) }
+{
+    if let [b' ', high, low, rest @ ..] = text {
+        if let [] | [b' ', ..] = rest {
+            let byte = hex_byte(&[*high, *low])?;
+            return Some((byte, rest));
+        }
+    }
+    None
+}
+
+/// The byte that the first word says, and what stands behind it.
+#[inline]
+pub(crate) fn byte_said(text: &[u8]) -> Option<(u8, &[u8])>
+    ensures { option_map (λ b. (b.0, words b.1.now)) result
+        ≡ word_as says.hex_byte (words text.now) }
+{
+    match spaced_byte(text) {
+        Some(said) => Some(said),
+        None => parted_byte(text),
+    }
+}
+
+/// The same, whatever blanks part the words: those of most lines are parted by single spaces.
+#[inline(never)]
+fn parted_byte(text: &[u8]) -> Option<(u8, &[u8])>
+    ensures { option_map (λ b. (b.0, words b.1.now)) result
+        ≡ word_as says.hex_byte (words text.now) }
+{
+    let (word, rest) = split_word(text)?;
+    let byte = hex_byte(word)?;
+    Some((byte, rest))
 }
 
 /// The bytes that all words say.

@@ -1,13 +1,16 @@
 //! Events that lines say.
 
 ghost use Rattle.std.specs.Prelude.{◌≡◌, ◌∷◌, [], Some};
-ghost use Rattle.std.specs.Option.{option_map};
-ghost use Rattle.script_text.specs.Numbers.{only_if};
+ghost use Rattle.std.specs.Option.{option_map, option_and_then};
+ghost use Rattle.script_text.specs.Numbers.{hex_bytes, only_if};
+ghost use Rattle.script_text.specs.Words.{words};
 ghost use Rattle.smf_grammar.specs.Pairs.{Voice};
 ghost use Rattle.smf_grammar.specs.Seen.{event_seen, is_event_sound};
 ghost use Rattle.smf_grammar.specs.Written.{are_bytes, has_bytes};
 ghost use Rattle.smf_make.specs.Events.{said_event};
 
+use crate::numbers::byte_said;
+use crate::words::is_wordless;
 use midi_wire::{EXCLUSIVE, NOTE_OFF, PITCH_BEND, PROGRAM_CHANGE};
 use smf_grammar::EventBytes;
 
@@ -74,31 +77,48 @@ fn is_voice_of_two(status: u8, first: u8, second: u8) -> bool
     of_two && first < 0x80 && second < 0x80
 }
 
-/// The message of a channel that these bytes are.
-pub(crate) fn voice_event(status: u8, data_bytes: &[u8]) -> Option<SaidEvent>
+/// The message of a channel with these bytes.
+fn voice_of_one(status: u8, first: u8) -> Option<SaidEvent>
     ensures { option_map said_event result
-        ≡ only_if is_event_sound (Some (Voice status data_bytes.now)) }
+        ≡ only_if is_event_sound (Some (Voice status (first ∷ []))) }
 {
-    if data_bytes.len() == 1 {
-        if !is_voice_of_one(status, data_bytes[0]) {
-            return None;
-        }
-        return Some(SaidEvent::VoiceOfOne {
-            status,
-            first: data_bytes[0],
-        });
+    if !is_voice_of_one(status, first) {
+        return None;
     }
-    if data_bytes.len() == 2 {
-        if !is_voice_of_two(status, data_bytes[0], data_bytes[1]) {
-            return None;
-        }
-        return Some(SaidEvent::VoiceOfTwo {
-            status,
-            first: data_bytes[0],
-            second: data_bytes[1],
-        });
+    Some(SaidEvent::VoiceOfOne { status, first })
+}
+
+/// The message of a channel with these bytes.
+fn voice_of_two(status: u8, first: u8, second: u8) -> Option<SaidEvent>
+    ensures { option_map said_event result
+        ≡ only_if is_event_sound (Some (Voice status (first ∷ second ∷ []))) }
+{
+    if !is_voice_of_two(status, first, second) {
+        return None;
     }
-    None
+    Some(SaidEvent::VoiceOfTwo {
+        status,
+        first,
+        second,
+    })
+}
+
+/// The message of a channel with this status and the data bytes that all words say.
+// Most lines say one: no vector is made of its bytes.
+pub(crate) fn voice_said(status: u8, text: &[u8]) -> Option<SaidEvent>
+    ensures { option_map said_event result
+        ≡ option_and_then (λ bytes. only_if is_event_sound (Some (Voice status bytes)))
+        (hex_bytes (words text.now)) }
+{
+    let (first, rest) = byte_said(text)?;
+    if is_wordless(rest) {
+        return voice_of_one(status, first);
+    }
+    let (second, rest) = byte_said(rest)?;
+    if !is_wordless(rest) {
+        return None;
+    }
+    voice_of_two(status, first, second)
 }
 
 /// Whether a length can count the bytes.

@@ -46,22 +46,23 @@ pub fn make_text<R: Source>(alloc: Global, input: &mut R) -> Result<Vec<u8>, Mak
             return Err(MakeFault::TooLong);
         }
         room -= n;
-        maker = take_piece(maker, &mut kept, &piece[..n])?;
+        take_piece(&mut maker, &mut kept, &piece[..n])?;
     }
 }
 
 /// Takes each line that a piece ends, and keeps what it begins.
-fn take_piece(mut maker: Maker, kept: &mut Vec<u8>, piece: &[u8]) -> Result<Maker, MakeFault>
-    ensures taken { IfOk result (IsPieceTaken maker kept.old.items piece.now kept.new.items) }
-    ensures refused { IfErr result (IsPieceRefused maker kept.old.items piece.now) }
+fn take_piece(maker: &mut Maker, kept: &mut Vec<u8>, piece: &[u8]) -> Result<(), MakeFault>
+    ensures taken { OnOk result
+        (IsPieceTaken maker.old kept.old.items piece.now kept.new.items maker.new) }
+    ensures refused { IfErr result (IsPieceRefused maker.old kept.old.items piece.now) }
 {
     let mut left = piece;
     while let Some((part, rest)) = ended_part(left) {
-        maker = end_line(maker, kept, part)?;
+        end_line(maker, kept, part)?;
         left = rest;
     }
     kept.extend_from_slice(left)?;
-    Ok(maker)
+    Ok(())
 }
 
 /// What stands before the first line end, and what stands behind it.
@@ -76,19 +77,19 @@ fn ended_part(text: &[u8]) -> Option<(&[u8], &[u8])>
 }
 
 /// Takes the line whose first part is kept, and which has ended with this one.
-fn end_line(maker: Maker, kept: &mut Vec<u8>, part: &[u8]) -> Result<Maker, MakeFault>
-    ensures taken { IfOk result (IsLineTaken maker (kept.old.items ++ part.now)) }
+fn end_line(maker: &mut Maker, kept: &mut Vec<u8>, part: &[u8]) -> Result<(), MakeFault>
+    ensures taken { OnOk result (IsLineTaken maker.old (kept.old.items ++ part.now) maker.new) }
     ensures empty { OnOk result (kept.new.items ≡ []) }
-    ensures refused { IfErr result (IsLineRefused maker (kept.old.items ++ part.now)) }
+    ensures refused { IfErr result (IsLineRefused maker.old (kept.old.items ++ part.now)) }
 {
     // A line that stands whole in a piece is taken from where it stands.
     if kept.is_empty() {
-        return maker.line(part);
+        return maker.take(part);
     }
     kept.extend_from_slice(part)?;
-    let maker = maker.line(kept.as_slice())?;
+    maker.take(kept.as_slice())?;
     kept.clear();
-    Ok(maker)
+    Ok(())
 }
 
 /// Takes what stands behind the last line end, which is a line where there is something.

@@ -213,3 +213,144 @@ fn no_text_has_no_header(rt: HostRuntime) -> Result<(), Fail> {
         }
     }
 }
+
+/// Lines that say the message 90 3C 40 at tick 0.
+const SAME_MESSAGE: &[&[u8]] = &[
+    b"0 90 3C 40",
+    b"0 90 3c 40",
+    b"0 90 3C 40\r",
+    b"00000000000000000000 90 3C 40",
+    // blanks at the ends
+    b" 0 90 3C 40",
+    b"\t 0 90 3C 40",
+    b"0 90 3C 40 ",
+    b"0 90 3C 40 \t",
+    // more than one blank, or another, before each word
+    b"0  90 3C 40",
+    b"0\t90 3C 40",
+    b"0 90  3C 40",
+    b"0 90\t3C 40",
+    b"0 90 3C  40",
+    b"0 90 3C\t40",
+    b"\t0\t 90 \t3c\t\t40\t",
+];
+
+/// Lines that say no event.
+const NO_EVENTS: &[&[u8]] = &[
+    b"0",
+    b"0 ",
+    b"90 3C 40",
+    b"0x 90 3C 40",
+    b"000000000000000000000 90 3C 40",
+    b"18446744073709551616 90 3C 40",
+    // a data byte too few
+    b"0 90 3C",
+    b"0 90 3C ",
+    b"0 90\t3C",
+    b"0 90",
+    b"0 C5",
+    b"0 C5 ",
+    // one too many
+    b"0 90 3C 40 00",
+    b"0 90 3C 40\t00",
+    b"0\t90 3C 40  00",
+    b"0 C5 07 00",
+    b"0 C5 07\t00",
+    // a word that is no byte, also behind a message
+    b"0 090 3C 40",
+    b"0 9 3C 40",
+    b"0 90 03C 40",
+    b"0 90 3C 400",
+    b"0 90 3C 4",
+    b"0 90 3C 4G",
+    b"0 90 3C-40",
+    b"0 90 3C 40-",
+    b"0 90 3C 40 0",
+    b"0 90 3C 40 x",
+    b"0 90\t3C\t400",
+    b"0 C5 07 0",
+    // bit 7 in a data byte
+    b"0 90 3C 80",
+    b"0 90 80 40",
+    b"0 90\t3C\tff",
+    b"0 C5 80",
+    b"0 C5\tff",
+    // no status of a channel
+    b"0 3C 40",
+    b"0 7F 00 00",
+    b"0 F1 00",
+    b"0 F2 00 00",
+    b"0 F8",
+    b"0 F8 00",
+    b"0 f8 00 00",
+    b"0 FF 2F 00",
+];
+
+/// A text of one track with this line.
+fn with_line(alloc: Global, line: &[u8]) -> Result<Vec<u8>, OutOfMemory> {
+    let mut text = Vec::from_slice(alloc, b"format 0 tracks 1 division 96\ntrack 0\n")?;
+    text.extend_from_slice(line)?;
+    text.extend_from_slice(b"\n0 end\n")?;
+    Ok(text)
+}
+
+#[test]
+fn takes_a_message_however_blanks_part_it(rt: HostRuntime) -> Result<(), Fail> {
+    for line in SAME_MESSAGE {
+        let text = with_line(rt.alloc(), line)?;
+        let Ok(bytes) = make_file(rt.alloc(), text.as_slice()) else {
+            return Err(Fail::new("no file"));
+        };
+        assert!(rt;
+            bytes.as_slice()
+                == b"MThd\x00\x00\x00\x06\x00\x00\x00\x01\x00\x60MTrk\x00\x00\x00\x08\
+                    \x00\x90\x3C\x40\x00\xFF\x2F\x00"
+                    .as_slice()
+        );
+    }
+    Ok(())
+}
+
+#[test]
+fn refuses_what_is_no_event(rt: HostRuntime) -> Result<(), Fail> {
+    let fault = MakeFault::Line {
+        line: 3,
+        expected: Expected::Event { from: 0 },
+    };
+    for line in NO_EVENTS {
+        let text = with_line(rt.alloc(), line)?;
+        match make_file(rt.alloc(), text.as_slice()) {
+            Ok(_) => return Err(Fail::new("a file")),
+            Err(told) => assert!(rt; told == fault, "told {told}"),
+        }
+    }
+    Ok(())
+}
+
+/// Each kind of messages, in a line whose bytes single spaces part and in one with tabs, and the file of each.
+#[test]
+fn takes_each_kind_of_messages(rt: HostRuntime) -> Result<(), Fail> {
+    for text in [
+        b"format 0 tracks 1 division 96\ntrack 0\n\
+            0 80 00 7F\n1 9f 7F 00\n2 A0 01 02\n3 Bf 7b 00\n4 C0 7F\n5 df 00\n6 E0 00 40\n7 EF 7f 7F\n8 F0 7E f7\n9 F7 F8\n\
+            9 f0\n268435464 end\n"
+            .as_slice(),
+        b"format 0 tracks 1 division 96\ntrack 0\n\
+            0\t80 00\t7F\n1 9f\t7F 00\n2 A0 01 02 \n3  Bf 7b 00\n4 C0\t7F\n5\tdf 00\t\n6 E0 00  40\n7 EF\t7f 7F\n8 F0  7E f7\n\
+            9 F7 F8 \n9\tf0\n268435464 end\n"
+            .as_slice(),
+    ] {
+        let Ok(bytes) = make_file(rt.alloc(), text) else {
+            return Err(Fail::new("no file"));
+        };
+        assert!(rt;
+            bytes.as_slice()
+                == b"MThd\x00\x00\x00\x06\x00\x00\x00\x01\x00\x60MTrk\x00\x00\x00\x31\
+                    \x00\x80\x00\x7F\x01\x9F\x7F\x00\x01\xA0\x01\x02\x01\xBF\x7B\x00\x01\xC0\x7F\x01\xDF\x00\
+                    \x01\xE0\x00\x40\x01\xEF\x7F\x7F\x01\xF0\x02\x7E\xF7\x01\xF7\x01\xF8\x00\xF0\x00\
+                    \xFF\xFF\xFF\x7F\xFF\x2F\x00"
+                    .as_slice()
+        );
+    }
+    Ok(())
+}

@@ -1,6 +1,7 @@
 //! The words of a line, one after another.
 
 ghost use Rattle.std.specs.Prelude.{◌≡◌, ◌≤◌, ◌<◌, ◌∷◌, [], length, IfSome, IfNone};
+ghost use Rattle.script_text.specs.Table.{no_more};
 ghost use Rattle.script_text.specs.Words.{words};
 ghost use Rattle.smf_make.specs.SaidEvents.{unindented, behind_word, is_passed_over};
 
@@ -32,10 +33,21 @@ pub(crate) fn split_word(line: &[u8]) -> Option<(&[u8], &[u8])>
     Some(text.split_at(word_len(text)))
 }
 
+/// Whether there is no word.
+pub(crate) fn is_wordless(text: &[u8]) -> bool
+    ensures { result ≡ no_more (words text.now) }
+{
+    unindented(text).is_empty()
+}
+
 /// Whether a line has no words, or is a remark.
 pub(crate) fn is_passed_over(line: &[u8]) -> bool
     ensures { result ≡ is_passed_over line.now }
 {
+    // Most lines begin with a tick.
+    if let [b'0'..=b'9', ..] = line {
+        return false;
+    }
     match split_word(line) {
         Some(([b'#', ..], _)) | None => true,
         Some(_) => false,

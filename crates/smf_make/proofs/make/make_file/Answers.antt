@@ -11,13 +11,13 @@ loop-line-init c = record { coming = all-to-come c.new-maker.result c.args.text.
 
 pub loop-line-preserved : goal.loop-line-preserved
 loop-line-preserved c = record {
-  coming = next-to-come c.loop-line.maker c.loop-line.left.now c.args.text.now c.in-Some.line.now c.in-Some.rest.now c.loop-line.invariant.coming c.in-Some.ensures.some c.in-Some.ensures.shorter c.are_few.ensures c.in_ok-maker.maker c.in_ok-maker.ensures.taken;
+  coming = next-to-come c.loop-line.maker c.loop-line.left.now c.args.text.now c.in-Some.line.now c.in-Some.rest.now c.loop-line.invariant.coming c.in-Some.ensures.some c.in-Some.ensures.shorter c.are_few.ensures c.take.new.self c.in_ok-take.ensures.taken;
 }
 
-pub returns-in_err-maker-clause-err : goal.returns-in_err-maker-clause-err
-returns-in_err-maker-clause-err c =
-    let only : IfErr c.from_residual.result (λ x. x ≡ c.in_err-maker.field-0.0) = search rules in
-    IfErr-weaker c.from_residual.result _ _ (λ fault is known. subst (λ (x : MakeFault). said_file c.args.text.now ≡ Err x) (sym is) (line-refused c.loop-line.maker c.loop-line.left.now c.args.text.now c.in-Some.line.now c.in-Some.rest.now c.loop-line.invariant.coming c.in-Some.ensures.some c.in-Some.ensures.shorter c.are_few.ensures c.in_err-maker.field-0.0 c.in_err-maker.ensures.refused (λ e. known (is ∙ e)))) only
+pub returns-in_err-take-clause-err : goal.returns-in_err-take-clause-err
+returns-in_err-take-clause-err c =
+    let only : IfErr c.from_residual.result (λ x. x ≡ c.in_err-take.field-0.0) = search rules in
+    IfErr-weaker c.from_residual.result _ _ (λ fault is known. subst (λ (x : MakeFault). said_file c.args.text.now ≡ Err x) (sym is) (line-refused c.loop-line.maker c.loop-line.left.now c.args.text.now c.in-Some.line.now c.in-Some.rest.now c.loop-line.invariant.coming c.in-Some.ensures.some c.in-Some.ensures.shorter c.are_few.ensures c.in_err-take.field-0.0 c.in_err-take.ensures.refused (λ e. known (is ∙ e)))) only
 
 pub returns-clause-ok : goal.returns-clause-ok
 returns-clause-ok c =

@@ -39,18 +39,18 @@ pub returns-then-n-room-clause-bounded : goal.returns-then-n-room-clause-bounded
 returns-then-n-room-clause-bounded g c =
     gave-few g.R.Source.HasLeft _ _ _ _ _ _ c.pieces.invariant.taken _ _ c.in-Ok.ensures.gave (omega (arith, length-take c.min-window.result c.pieces.piece, c.in-Ok.ensures.within))
 
-pub returns-in_err-maker-clause-refused : goal.returns-in_err-maker-clause-refused
-returns-in_err-maker-clause-refused g c =
-    let only : IfErr c.from_residual.result (λ x. x ≡ c.in_err-maker.field-0.0) = search rules in
+pub returns-in_err-take_piece-clause-refused : goal.returns-in_err-take_piece-clause-refused
+returns-in_err-take_piece-clause-refused g c =
+    let only : IfErr c.from_residual.result (λ x. x ≡ c.in_err-take_piece.field-0.0) = search rules in
     IfErr-weaker c.from_residual.result _ _ (λ fault is. subst (IsTextRefused g.R.Source.HasLeft g.R.Source.failed c.args.input.now c.read.new.self) (sym is)
-    (piece-refused g.R.Source.HasLeft _ _ _ _ _ _ c.pieces.invariant.taken _ _ _ (omega (arith, c.in-Ok.ensures.within)) (omega arith) c.in-Ok.ensures.gave g.R.Source.failed _ (c.in-Ok.ensures.unmarked ∙ c.pieces.invariant.sound) c.in_err-maker.ensures.refused)) only
+    (piece-refused g.R.Source.HasLeft _ _ _ _ _ _ c.pieces.invariant.taken _ _ _ (omega (arith, c.in-Ok.ensures.within)) (omega arith) c.in-Ok.ensures.gave g.R.Source.failed _ (c.in-Ok.ensures.unmarked ∙ c.pieces.invariant.sound) c.in_err-take_piece.ensures.refused)) only
 
-pub returns-in_err-maker-clause-bounded : goal.returns-in_err-maker-clause-bounded
-returns-in_err-maker-clause-bounded g c = gave-few g.R.Source.HasLeft _ _ _ _ _ _ c.pieces.invariant.taken _ _ c.in-Ok.ensures.gave (omega arith)
+pub returns-in_err-take_piece-clause-bounded : goal.returns-in_err-take_piece-clause-bounded
+returns-in_err-take_piece-clause-bounded g c = gave-few g.R.Source.HasLeft _ _ _ _ _ _ c.pieces.invariant.taken _ _ c.in-Ok.ensures.gave (omega arith)
 
 pub pieces-preserved : goal.pieces-preserved
 pieces-preserved g c = record {
   sound = search rules;
   space = search rules;
-  taken = read-more g.R.Source.HasLeft _ _ _ _ _ _ c.pieces.invariant.taken _ _ _ (omega (arith, c.in-Ok.ensures.within)) (omega arith) c.in-Ok.ensures.gave _ _ c.in_ok-maker.ensures.taken;
+  taken = read-more g.R.Source.HasLeft _ _ _ _ _ _ c.pieces.invariant.taken _ _ _ (omega (arith, c.in-Ok.ensures.within)) (omega arith) c.in-Ok.ensures.gave _ _ c.in_ok-take_piece.ensures.taken;
 }
