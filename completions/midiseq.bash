@@ -63,10 +63,10 @@ _midiseq() {
     case $sub in
         run | record | circle | why)
             if [[ $word == -* ]]; then
-                local options='--until --for --to-end --dir --list --explain --strict --format --logs --append --quiet --help'
-                [[ $sub == record ]] && options='--until --for --to-end --dir --explain --strict --raw --port --ports --ppq --bpm --like --out --help'
-                [[ $sub == circle ]] && options='--until --for --to-end --dir --owner --session --help'
-                [[ $sub == why ]] && options='--from --at --message --log --dir --help'
+                local options='--until --for --to-end --dir --lenient --list --explain --strict --format --logs --append --quiet --help'
+                [[ $sub == record ]] && options='--until --for --to-end --dir --lenient --explain --strict --raw --port --ports --ppq --bpm --like --out --help'
+                [[ $sub == circle ]] && options='--until --for --to-end --dir --lenient --owner --session --help'
+                [[ $sub == why ]] && options='--from --at --message --log --dir --lenient --help'
                 mapfile -t COMPREPLY < <(compgen -W "$options" -- "$word")
             elif [[ $word == *=* ]]; then
                 _midiseq_files "${word#*=}"
@@ -75,7 +75,7 @@ _midiseq() {
             fi
             ;;
         live)
-            mapfile -t COMPREPLY < <(compgen -W '--dir --help' -- "$word")
+            mapfile -t COMPREPLY < <(compgen -W '--dir --lenient --help' -- "$word")
             ;;
         thru | wire)
             if [[ $word == -?* ]]; then

@@ -62,21 +62,22 @@ pub record IsEndGiven (found : Found) (end : EndWord) : Type 0 where
   pub said : one_text found (codes "to-end") ≡ None → MatchOption (first_value found (codes "for"))
       (IsUntil (text_of found (codes "until")) end) (IsFor end)
 
--- the session ends when the words say so, and has the folder of --dir and the scripts of the
--- other words
+-- whether a flag is given
+pub record IsFlag (found : Found) (id : List ℕ) (given : Bool) : Type 0 where
+  pub absent : one_text found id ≡ None → given ≡ false
+  pub present : one_text found id ≡ Some (codes "true") → given ≡ true
+
+-- the session ends when the words say so, and has the folder of --dir, with --lenient read by the
+-- lenient grammar, and the scripts of the other words
 pub record IsGiven (found : Found) (session : Session) : Type 0 where
   pub end : EndWord
   pub given : IsEndGiven found end
   pub until : Some session.until ≡ end_said end
   pub dir : option_map (λ d. d.now) session.dir ≡ first_value found (codes "dir")
+  pub lenient : IsFlag found (codes "lenient") session.is_lenient
   pub scripts : Some (scripts_seen session.scripts.items)
       ≡ scripts_named (unwrap_or
       (option_map raw_values (matched_of found (codes "CLIENT=PATH"))) [])
-
--- whether a flag is given
-pub record IsFlag (found : Found) (id : List ℕ) (given : Bool) : Type 0 where
-  pub absent : one_text found id ≡ None → given ≡ false
-  pub present : one_text found id ≡ Some (codes "true") → given ≡ true
 
 -- what a run did not do is told, with all reasons: where --strict or --explain is given
 pub record IsAsked (found : Found) (asked : Bool) : Type 0 where
@@ -289,6 +290,20 @@ module _ {R W : Type 0} (IsOpened : List ℕ → R → Type 0) (HasLeft : R → 
     pub recorded : EndsRecorded IsBegun HasTaken IsStored HasTold found session recording
         before after ended
 
+-- The lines were answered, of clients that may play the files of the folder of --dir, with --lenient
+-- read by the lenient grammar.
+pub record AnswersLinesAsGiven {R I W N : Type 0} (IsOpened : List ℕ → R → Type 0)
+    (HasLeft : R → List ℕ → Type 0)
+    (CannotOpen : List ℕ → Type 0) (failed : R → Bool) (IsStanding : List ℕ → Standing → Type 0)
+    (HasNames : List ℕ → List (List ℕ) → Type 0)
+    (HasInput : I → List ℕ → Type 0) (HasTaken : W → List ℕ → Type 0)
+    (HasTold : N → List ℕ → Type 0) (found : Found)
+    (asked left : I) (old new : W) (before after : N) : Type 0 where
+  pub lenient : Bool
+  pub lenient_flag : IsFlag found (codes "lenient") lenient
+  pub answered : AreLinesAnswered IsOpened HasLeft CannotOpen failed IsStanding HasNames HasInput
+      HasTaken HasTold lenient (first_value found (codes "dir")) asked left old new before after
+
 -- the flags --all, --at and --lenient as they are given
 pub record AreDumpFlags (found : Found) (flags : DumpFlags) : Type 0 where
   pub all : IsFlag found (codes "all") flags.all
@@ -398,8 +413,8 @@ pub record DoesAsGiven {R V I W N : Type 0} (IsOpened : List ℕ → R → Type 
       RecordsAsGiven IsOpened HasLeft CannotOpen failed IsStanding HasNames IsBegun HasWritten
       IsStored HasTold found before after ended
   pub answered_lines : name ≡ codes "live" →
-      AreLinesAnswered IsOpened HasLeft CannotOpen failed IsStanding HasNames HasInput HasTaken
-      HasTold (first_value found (codes "dir")) asked left old new before after × (ended ≡ Done)
+      AnswersLinesAsGiven IsOpened HasLeft CannotOpen failed IsStanding HasNames HasInput HasTaken
+      HasTold found asked left old new before after × (ended ≡ Done)
   pub of_files : IsOfFiles name →
       FilesDoAsGiven IsOpened HasLeft CannotOpen CannotList failed IsStanding HasNames AreApart
       IsBegun HasWritten IsStored HasInput HasTaken name found asked left old new ended

@@ -254,6 +254,21 @@ pub record AreFilesStopped {R I V : Type 0} (IsOpened : List ℕ → R → Type 
       ⊎ IsToolStopped IsOpened CannotOpen HasLeft failed HasInput input_failed stuck name found
       before after fault
 
+-- The answers to the lines stopped for a reason, once the folder of --dir was read, with --lenient
+-- by the lenient grammar.
+pub record AreLinesStopped {R I W N : Type 0} (IsOpened : List ℕ → R → Type 0)
+    (HasLeft : R → List ℕ → Type 0)
+    (CannotOpen : List ℕ → Type 0) (failed : R → Bool) (IsStanding : List ℕ → Standing → Type 0)
+    (HasNames : List ℕ → List (List ℕ) → Type 0) (HasInput : I → List ℕ → Type 0)
+    (input_failed : I → Bool) (HasTaken : W → List ℕ → Type 0)
+    (stuck : Type 0) (HasTold : N → List ℕ → Type 0) (found : Found)
+    (asked left : I) (old new : W) (before after : N) (fault : ProgramFault) : Type 0 where
+  pub lenient : Bool
+  pub lenient_flag : IsFlag found (codes "lenient") lenient
+  pub why : IsAnsweringStopped IsOpened HasLeft CannotOpen failed IsStanding HasNames HasInput
+      input_failed HasTaken stuck HasTold lenient (first_value found (codes "dir")) asked left
+      old new before after fault
+
 -- Why each subcommand stops.
 pub record IsStoppedAsGiven {R V I W N : Type 0} (IsOpened : List ℕ → R → Type 0)
     (HasLeft : R → List ℕ → Type 0)
@@ -286,9 +301,8 @@ pub record IsStoppedAsGiven {R V I W N : Type 0} (IsOpened : List ℕ → R → 
       CannotBegin CannotStore HasTold found before after e)) fault
   pub answered_lines : name ≡ codes "live" →
       IsOfListing CannotList (first_value found (codes "dir")) fault
-      ⊎ IsAnsweringStopped IsOpened HasLeft CannotOpen failed IsStanding HasNames HasInput
-      input_failed HasTaken stuck HasTold (first_value found (codes "dir")) asked left old new
-      before after fault
+      ⊎ AreLinesStopped IsOpened HasLeft CannotOpen failed IsStanding HasNames HasInput
+      input_failed HasTaken stuck HasTold found asked left old new before after fault
   pub of_files : IsOfFiles name →
       AreFilesStopped IsOpened CannotOpen HasLeft failed AreOne IsBegun writer_failed takes_some
       CannotBegin CannotStore HasInput input_failed stuck name found asked left fault

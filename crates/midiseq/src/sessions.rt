@@ -41,7 +41,9 @@ fn session_of<'a>(alloc: Global, found: &ArgMatches<'a>) -> Result<Session<'a>, 
     ensures fault { IfErr result (IsOfSessionWords (found_of found.now)) }
 {
     let scripts = found.get_strs("CLIENT=PATH").unwrap_or(&[]);
-    Session::of_words(alloc, end_of(found), found.get_str("dir"), scripts)
+    let dir = found.get_str("dir");
+    let is_lenient = found.get_flag("lenient");
+    Session::of_words(alloc, end_of(found), dir, is_lenient, scripts)
 }
 
 /// Runs the scripts. Without --logs it prints each client's log, and with it writes each to a file of that folder while

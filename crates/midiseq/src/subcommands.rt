@@ -2,10 +2,9 @@
 
 ghost use Rattle.std.specs.Prelude.{◌≡◌, ◌⊎◌, false, codes, IfErr, IfOk, OnOk};
 ghost use Rattle.clap.specs.Matches.{first_value, found_of};
-ghost use Rattle.midiseq.specs.Given.{DoesAsGiven};
-ghost use Rattle.midiseq.specs.Refused.{IsStoppedAsGiven};
+ghost use Rattle.midiseq.specs.Given.{DoesAsGiven, AnswersLinesAsGiven};
+ghost use Rattle.midiseq.specs.Refused.{AreLinesStopped, IsStoppedAsGiven};
 ghost use Rattle.program_tasks.specs.Faults.{IsOfListing, IsStuck};
-ghost use Rattle.program_tasks.specs.Live.{AreLinesAnswered, IsAnsweringStopped};
 
 use crate::{files, reasons, sessions};
 use byte_io::{Sink, Source};
@@ -58,7 +57,8 @@ pub(crate) fn perform<'a, S: FileStore, I: Source, W: Sink, N: Notes, R: Eprint>
     }
 }
 
-/// Answers the lines of standard input as they come. Clients may play the files of the folder of --dir.
+/// Answers the lines of standard input as they come. Clients may play the files of the folder of --dir, with --lenient
+/// read by the lenient grammar.
 fn answer_lines<'a, S: FileStore, I: Source, W: Sink, N: Notes>(
     alloc: Global,
     store: &S,
@@ -69,16 +69,16 @@ fn answer_lines<'a, S: FileStore, I: Source, W: Sink, N: Notes>(
 ) -> Result<(), ProgramFault<'a>>
     requires input_sound { I.failed input.old ≡ false }
     requires out_sound { W.failed out.old ≡ false }
-    ensures answered { OnOk result (AreLinesAnswered S.IsOpened S.Reader.HasLeft S.CannotOpen
+    ensures answered { OnOk result (AnswersLinesAsGiven S.IsOpened S.Reader.HasLeft S.CannotOpen
         S.Reader.failed S.IsStanding S.HasNames I.HasLeft W.HasTaken N.HasTold
-        (first_value (found_of found.now) (codes "dir")) input.old input.new out.old out.new
-        notes.old notes.new) }
+        (found_of found.now) input.old input.new out.old out.new notes.old notes.new) }
     ensures fault { IfErr result (λ e.
         IsOfListing S.CannotList (first_value (found_of found.now) (codes "dir")) e
-        ⊎ IsAnsweringStopped S.IsOpened S.Reader.HasLeft S.CannotOpen S.Reader.failed S.IsStanding
+        ⊎ AreLinesStopped S.IsOpened S.Reader.HasLeft S.CannotOpen S.Reader.failed S.IsStanding
         S.HasNames I.HasLeft I.failed W.HasTaken (IsStuck W.failed W.takes_some out.old out.new)
-        N.HasTold (first_value (found_of found.now) (codes "dir")) input.old input.new
-        out.old out.new notes.old notes.new e) }
+        N.HasTold (found_of found.now) input.old input.new out.old out.new notes.old notes.new e) }
 {
-    program_tasks::live(alloc, store, found.get_str("dir"), input, out, notes)
+    let dir = found.get_str("dir");
+    let is_lenient = found.get_flag("lenient");
+    program_tasks::live(alloc, store, dir, is_lenient, input, out, notes)
 }

@@ -148,7 +148,8 @@ the files whose names end in .mid are checked, in byte order. A file that cannot
 be read has a line too, and the next is tried. The last line has the counts. With
 --quiet only the files that are not ok have a line, and there is no last line.
 The status is 1 where a file is not ok. With --lenient a file that dump --lenient
-takes is ok, as `old.mid: ok, forgiven 3 running status 6977`.
+takes is ok, as `old.mid: ok, forgiven 3 running status 6977`, and a folder's
+files may end in .midi or .rmi, or in capitals, too.
 
 Example, where songs has a file a.mid, and b.mid that ends too early:
   midiseq check songs c.mid
@@ -191,7 +192,10 @@ nothing, a message was lost or a file was left out, the status is 3.
 The files in D whose names end in .mid can be played by these names; the first
 256 in byte order are taken. One that cannot be read, or is no regular file or
 no Standard MIDI File, is left out, and standard error has a line
-`midiseq: left out NAME`.
+`midiseq: left out NAME`. With --lenient more are taken: by what stands in them,
+as by `midiseq dump --lenient`, and by names that end in .midi or .rmi, or in
+capitals. Standard error has a line for what was forgiven in each, as `midiseq:
+old.mid: forgiven 3 running status 6977`.
 
 Example, with these lines in keys.txt and synth.txt:
   0 open keys 100 100             0 open synth 100 100
@@ -333,7 +337,7 @@ The answer to each is a few lines, in this order:
 A line has at most 262,144 bytes. What stands behind the last line feed is no
 line. The end of the input ends the program.
 
-The files in D are those that `midiseq run --dir D` takes.
+The files in D are those that `midiseq run --dir D` takes, with --lenient too.
 
 Example, with these lines in hello.txt:
   0 128 open a 9 9
@@ -380,6 +384,7 @@ fn run<'a>(alloc: Global) -> Result<Command<'a>, AllocError> {
         .arg(time(alloc)?)?
         .arg(to_end(alloc)?)?
         .arg(dir(alloc))?
+        .arg(lenient_files(alloc)?)?
         .arg(list(alloc))?
         .arg(format(alloc))?
         .arg(logs(alloc)?)?
@@ -398,6 +403,7 @@ fn record<'a>(alloc: Global) -> Result<Command<'a>, AllocError> {
         .arg(time(alloc)?)?
         .arg(to_end(alloc)?)?
         .arg(dir(alloc))?
+        .arg(lenient_files(alloc)?)?
         .arg(explain(alloc))?
         .arg(strict(alloc))?
         .arg(raw(alloc)?)?
@@ -418,6 +424,7 @@ fn circle<'a>(alloc: Global) -> Result<Command<'a>, AllocError> {
         .arg(time(alloc)?)?
         .arg(to_end(alloc)?)?
         .arg(dir(alloc))?
+        .arg(lenient_files(alloc)?)?
         .arg(owner(alloc))?
         .arg(session(alloc)?)?
         .arg(scripts(alloc))
@@ -432,6 +439,7 @@ fn why<'a>(alloc: Global) -> Result<Command<'a>, AllocError> {
         .arg(message(alloc)?)?
         .arg(log(alloc)?)?
         .arg(dir(alloc))?
+        .arg(lenient_files(alloc)?)?
         .arg(scripts(alloc))
 }
 
@@ -439,7 +447,8 @@ fn live<'a>(alloc: Global) -> Result<Command<'a>, AllocError> {
     Command::new(alloc, "live")
         .about("Answers what clients say while it runs, line by line")
         .after_help(LIVE_HELP)
-        .arg(dir(alloc))
+        .arg(dir(alloc))?
+        .arg(lenient_files(alloc)?)
 }
 
 fn until<'a>(alloc: Global) -> Result<Arg<'a>, AllocError> {
@@ -486,6 +495,14 @@ fn dir<'a>(alloc: Global) -> Arg<'a> {
         .long("dir")
         .value_name("D")
         .help("the folder whose MIDI files (.mid) may be played")
+}
+
+fn lenient_files<'a>(alloc: Global) -> Result<Arg<'a>, AllocError> {
+    Arg::new(alloc, "lenient")
+        .long("lenient")
+        .action(ArgAction::SetTrue)
+        .help("also take files that most readers forgive, and say what it was")
+        .requires_arg("dir")
 }
 
 fn list<'a>(alloc: Global) -> Arg<'a> {

@@ -10,9 +10,11 @@ use Rattle.seq_session.specs.Sessions.{script_clients}
 use Rattle.program_tasks.specs.Sessions.{owners}
 use Rattle.program_tasks.specs.declared.words.ScriptWord.{ScriptWord}
 use Rattle.program_tasks.specs.Apart.{AreFilesApart, IsOneFile}
-use Rattle.folder_files.specs.Contents.{IsOfFile, IsContent}
+use Rattle.folder_files.specs.Contents.{IsOfFile}
+use Rattle.smf_mend.specs.declared.forgiven.Mended.{Mended}
+use Rattle.program_tasks.specs.declared.left_out.WhyLeftOut.{WhyLeftOut}
 use Rattle.folder_files.specs.Paths.{path_in}
-use Rattle.program_tasks.specs.Opened.{AreOfFiles, ReadsScripts, AreSourcesOf, AreContents}
+use Rattle.program_tasks.specs.Opened.{AreOfFiles, ReadsScripts, AreSourcesOf, AreContents, IsTakenAt}
 
 -- ---- scripts
 
@@ -67,29 +69,24 @@ sources_next IsOpened words i w sources news x lt here e o c h =
 
 -- ---- the files of a folder
 
-module _ {R : Type 0} (IsOpened : List ℕ → R → Type 0) (HasLeft : R → List ℕ → Type 0) (CannotOpen : List ℕ → Type 0) (failed : R → Bool) (IsStanding : List ℕ → Standing → Type 0) (folder : List ℕ) where
+module _ {R : Type 0} (IsOpened : List ℕ → R → Type 0) (HasLeft : R → List ℕ → Type 0) (CannotOpen : List ℕ → Type 0) (failed : R → Bool) (IsStanding : List ℕ → Standing → Type 0) (is_lenient : Bool) (folder : List ℕ) where
   -- one more file
-  contents_more : (names : List (List ℕ)) (contents : List (Result (List ℕ) Standing)) (name : List ℕ) (content : Result (List ℕ) Standing) →
-      AreContents IsOpened HasLeft CannotOpen failed IsStanding folder names contents → IsContent IsOpened HasLeft CannotOpen failed IsStanding (path_in folder name) content →
-      AreContents IsOpened HasLeft CannotOpen failed IsStanding folder (names ++ name ∷ []) (contents ++ content ∷ [])
+  contents_more : (names : List (List ℕ)) (contents : List (Result Mended WhyLeftOut)) (name : List ℕ) (content : Result Mended WhyLeftOut) →
+      AreContents IsOpened HasLeft CannotOpen failed IsStanding is_lenient folder names contents → IsTakenAt IsOpened HasLeft CannotOpen failed IsStanding is_lenient (path_in folder name) content →
+      AreContents IsOpened HasLeft CannotOpen failed IsStanding is_lenient folder (names ++ name ∷ []) (contents ++ content ∷ [])
   contents_more [] [] name content a h = (h, tt)
   contents_more [] (c ∷ contents) name content a h = absurd a
   contents_more (n ∷ names) [] name content a h = absurd a
   contents_more (n ∷ names) (c ∷ contents) name content a h = (a.0, contents_more names contents name content a.1 h)
 
-  map-last : {X Y : Type 0} (f : X → Y) (xs : List X) (x : X) → map f (xs ++ x ∷ []) ≡ map f xs ++ f x ∷ []
-  map-last f [] x = refl
-  map-last f (y ∷ ys) x = ap (λ zs. f y ∷ zs) (map-last f ys x)
-
-  pub contents_next : {N C : Type 0} (name_of : N → List ℕ) (content_of : C → Result (List ℕ) Standing) (names : List N) (i : ℕ) (name : N) (contents news : List C) (content : C) →
-      i < length names → name ≡ get_or names i name → news ≡ contents ++ content ∷ [] → IsContent IsOpened HasLeft CannotOpen failed IsStanding (path_in folder (name_of name)) (content_of content) →
-      AreContents IsOpened HasLeft CannotOpen failed IsStanding folder (map name_of (take i names)) (map content_of contents) →
-      AreContents IsOpened HasLeft CannotOpen failed IsStanding folder (map name_of (take (i + 1) names)) (map content_of news)
-  contents_next name_of content_of names i name contents news content lt here e h a =
+  pub contents_next : {N : Type 0} (name_of : N → List ℕ) (names : List N) (i : ℕ) (name : N) (contents news : List (Result Mended WhyLeftOut)) (content : Result Mended WhyLeftOut) →
+      i < length names → name ≡ get_or names i name → news ≡ contents ++ content ∷ [] → IsTakenAt IsOpened HasLeft CannotOpen failed IsStanding is_lenient (path_in folder (name_of name)) content →
+      AreContents IsOpened HasLeft CannotOpen failed IsStanding is_lenient folder (map name_of (take i names)) contents →
+      AreContents IsOpened HasLeft CannotOpen failed IsStanding is_lenient folder (map name_of (take (i + 1) names)) news
+  contents_next name_of names i name contents news content lt here e h a =
       let first : map name_of (take (i + 1) names) ≡ map name_of (take i names) ++ name_of name ∷ [] =
       map_more name_of names i name lt ∙ ap (λ n. map name_of (take i names) ++ name_of n ∷ []) (sym here) in
-      let second : map content_of news ≡ map content_of contents ++ content_of content ∷ [] = ap (map content_of) e ∙ map-last content_of contents content in
-      rw (first, second) (contents_more (map name_of (take i names)) (map content_of contents) (name_of name) (content_of content) a h)
+      rw (first, e) (contents_more (map name_of (take i names)) contents (name_of name) content a h)
 
 -- a path that is apart from the first file and from the others
 pub files_apart : {N : Type 0} (AreApart : List ℕ → List ℕ → Type 0) (path folder : List ℕ) (name_of : N → List ℕ) (names more : List N) (first : N) → names ≡ first ∷ more →

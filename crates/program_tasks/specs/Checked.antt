@@ -20,7 +20,7 @@ abbrev pub AreFilesChecked : {R W : Type 0} → (List ℕ → R → Type 0) → 
 AreFilesChecked IsOpened HasLeft CannotOpen CannotList failed IsStanding HasNames HasTaken words
     quiet lenient answer old new =
     IsChecked (IsJudged lenient IsOpened HasLeft CannotOpen failed IsStanding)
-    (ArePathsOf CannotList HasNames IsStanding words) HasTaken quiet answer old new
+    (ArePathsOf lenient CannotList HasNames IsStanding words) HasTaken quiet answer old new
 
 -- Out of memory, or the sink is stuck, and the fault tells so.
 pub record IsCheckingStopped (stuck : Type 0) (fault : ProgramFault) : Type 0 where

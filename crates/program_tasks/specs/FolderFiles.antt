@@ -1,11 +1,11 @@
 -- Definition: The files of a folder that a run takes.
 use Rattle.std.specs.Prelude.{◌≡◌, ℕ, List, [], ◌∷◌, ◌++◌, Result, Ok, Err, map}
 use Rattle.std.specs.List.{flat_map}
-use Rattle.file_store.specs.declared.standing.Standing.{Standing}
+use Rattle.smf_mend.specs.declared.forgiven.Mended.{Mended}
 use Rattle.smf_grammar.specs.Files.{MidiFile, IsFile, Fault}
 use Rattle.program_tasks.specs.declared.left_out.LeftOutFile.{LeftOutFile}
 use Rattle.program_tasks.specs.declared.left_out.WhyLeftOut.{WhyLeftOut}
-use Rattle.program_tasks.specs.declared.left_out.WhyLeftOut.TheVariants.{Damaged, Unread}
+use Rattle.program_tasks.specs.declared.left_out.WhyLeftOut.TheVariants.{Damaged}
 use Rattle.program_tasks.specs.declared.opening.FolderFiles.{FolderFiles}
 
 -- a file that is left out, by its name, and why it is
@@ -29,16 +29,16 @@ seen_files o = record {
   left_out = map seen_lost o.left_out.items;
 }
 
--- A file is found where it could be read and is a Standard MIDI File, and else it is left out: for
--- a fault that its bytes have, or for what stands at its path.
-abbrev pub IsOpenedAs : Result (List ℕ) Standing → Result MidiFile WhyLeftOut → Type 0
-IsOpenedAs (Ok bytes) (Ok file) = IsFile bytes file
-IsOpenedAs (Ok bytes) (Err (Damaged fault)) = Fault bytes fault
-IsOpenedAs (Err there) (Err (Unread standing)) = standing ≡ there
+-- A file is found where what is taken of it is a Standard MIDI File, and else it is left out: for a
+-- fault that these bytes have, or for why nothing was taken.
+abbrev pub IsOpenedAs : Result Mended WhyLeftOut → Result MidiFile WhyLeftOut → Type 0
+IsOpenedAs (Ok taken) (Ok file) = IsFile taken.bytes.items file
+IsOpenedAs (Ok taken) (Err (Damaged fault)) = Fault taken.bytes.items fault
+IsOpenedAs (Err why) (Err lost) = lost ≡ why
 IsOpenedAs _ _ = ⊥
 
--- the same of each, from what it holds
-abbrev pub AreFound : List (Result (List ℕ) Standing) → List (Result MidiFile WhyLeftOut) → Type 0
+-- the same of each, from what is taken of it
+abbrev pub AreFound : List (Result Mended WhyLeftOut) → List (Result MidiFile WhyLeftOut) → Type 0
 AreFound [] [] = Unit {0}
 AreFound (content ∷ contents) (file ∷ found) = IsOpenedAs content file × AreFound contents found
 AreFound _ _ = ⊥
@@ -62,8 +62,8 @@ abbrev pub by_name : {X : Type 0} → (List ℕ → Result MidiFile WhyLeftOut �
 by_name f (name ∷ names) (file ∷ found) = f name file ++ by_name f names found
 by_name f _ _ = []
 
--- the files with these names, of which each holds these bytes if it could be read
-pub record AreOpened (names : List (List ℕ)) (contents : List (Result (List ℕ) Standing))
+-- the files with these names, of each of which this is taken
+pub record AreOpened (names : List (List ℕ)) (contents : List (Result Mended WhyLeftOut))
     (o : FoundFiles) : Type 0 where
   pub found : List (Result MidiFile WhyLeftOut)
   pub are : AreFound contents found
@@ -72,7 +72,7 @@ pub record AreOpened (names : List (List ℕ)) (contents : List (Result (List �
   pub left_out_are : o.left_out ≡ by_name lost_file names found
 
 -- one more file is found or left out
-pub record GainsFile (name : List ℕ) (content : Result (List ℕ) Standing)
+pub record GainsFile (name : List ℕ) (content : Result Mended WhyLeftOut)
     (old new : FoundFiles) : Type 0 where
   pub file : Result MidiFile WhyLeftOut
   pub is : IsOpenedAs content file

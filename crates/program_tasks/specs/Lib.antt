@@ -14,6 +14,7 @@ pub mod Sessions
 pub mod Printed
 pub mod Explained
 pub mod LeftOut
+pub mod ForgivenFiles
 pub mod Circles
 pub mod Recorded
 pub mod Faults

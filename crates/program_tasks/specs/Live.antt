@@ -19,22 +19,22 @@ module _ {R I W N : Type 0} (IsOpened : List ℕ → R → Type 0) (HasLeft : R 
   -- The source was read to its end, and the sink took the answers to its lines, of clients that may
   -- play the files of the folder.
   pub record AreLinesAnswered (HasInput : I → List ℕ → Type 0) (HasTaken : W → List ℕ → Type 0)
-      (HasTold : N → List ℕ → Type 0) (folder : Option (List ℕ)) (asked left : I) (old new : W)
-      (before after : N) : Type 0 where
+      (HasTold : N → List ℕ → Type 0) (is_lenient : Bool) (folder : Option (List ℕ))
+      (asked left : I) (old new : W) (before after : N) : Type 0 where
     pub files : FolderContents
-    pub are : AreFilesOf IsOpened HasLeft CannotOpen failed IsStanding HasNames HasTold false folder
-        before after files
+    pub are : AreFilesOf IsOpened HasLeft CannotOpen failed IsStanding HasNames HasTold is_lenient false
+        folder before after files
     pub answered : IsRenderedUpTo most_text HasInput HasTaken (live_text files) asked left old new
 
   -- The answers stopped for a reason, once the folder was read: the sink took the first part of
   -- them, and where a read failed the answers to all lines that came before it.
   pub record IsAnsweringStopped (HasInput : I → List ℕ → Type 0) (input_failed : I → Bool)
       (HasTaken : W → List ℕ → Type 0) (stuck : Type 0) (HasTold : N → List ℕ → Type 0)
-      (folder : Option (List ℕ)) (asked left : I) (old new : W) (before after : N)
+      (is_lenient : Bool) (folder : Option (List ℕ)) (asked left : I) (old new : W) (before after : N)
       (fault : ProgramFault) : Type 0 where
     pub files : FolderContents
-    pub are : AreFilesOf IsOpened HasLeft CannotOpen failed IsStanding HasNames HasTold false folder
-        before after files
+    pub are : AreFilesOf IsOpened HasLeft CannotOpen failed IsStanding HasNames HasTold is_lenient false
+        folder before after files
     pub short : IsRenderedInPart HasInput HasTaken (live_text files) asked left old new
     pub of_stream : ToolFault
     pub text : program_fault_text fault ≡ told_text Standard of_stream

@@ -1,5 +1,5 @@
 -- Definition: What the subcommands that run scripts do with a session.
-use Rattle.std.specs.Prelude.{◌≡◌, ◌⊎◌, ℕ, Bool, true, false, List, Option, Result, take, map}
+use Rattle.std.specs.Prelude.{◌≡◌, ◌⊎◌, ◌++◌, ℕ, Bool, true, false, List, Option, Result, take, map}
 use Rattle.std.specs.Option.{option_map}
 use Rattle.byte_io.specs.Moved.{Took}
 use Rattle.file_store.specs.declared.standing.Standing.{Standing}
@@ -7,6 +7,9 @@ use Rattle.script_text.specs.declared.script.TheConstants.{MOST_FILES}
 use Rattle.seq_session.specs.Sessions.{FolderContents}
 use Rattle.program_tasks.specs.FolderFiles.{FoundFiles, LostFile, AreOpened}
 use Rattle.smf_grammar.specs.Played.{as_played}
+use Rattle.smf_mend.specs.declared.forgiven.Mended.{Mended}
+use Rattle.program_tasks.specs.declared.left_out.WhyLeftOut.{WhyLeftOut}
+use Rattle.program_tasks.specs.ForgivenFiles.{all_forgiven}
 use Rattle.program_tasks.specs.declared.program_fault.ProgramFault.{ProgramFault}
 use Rattle.program_tasks.specs.LeftOut.{all_lost, lost_lines}
 use Rattle.program_tasks.specs.declared.recording.Recording.{Recording}
@@ -31,29 +34,31 @@ module _ {R : Type 0} (IsOpened : List ℕ → R → Type 0) (HasLeft : R → Li
     (CannotOpen : List ℕ → Type 0)
     (failed : R → Bool) (IsStanding : List ℕ → Standing → Type 0)
     (HasNames : List ℕ → List (List ℕ) → Type 0) where
-  -- These are the files of the folder that can be played, from what was read of each. Of each of
-  -- the others a line was told, where it is asked for with why it is left out.
-  pub record AreFilesOf {N : Type 0} (HasTold : N → List ℕ → Type 0) (explains : Bool)
+  -- These are the files of the folder that can be played, from what was taken of each. What was
+  -- forgiven of them was told, and then of each of the others a line, where it is asked for with
+  -- why it is left out.
+  pub record AreFilesOf {N : Type 0} (HasTold : N → List ℕ → Type 0) (is_lenient explains : Bool)
       (folder : Option (List ℕ)) (before after : N) (files : FolderContents) : Type 0 where
     pub names : List (List ℕ)
-    pub contents : List (Result (List ℕ) Standing)
+    pub contents : List (Result Mended WhyLeftOut)
     pub capitals : List (List ℕ)
-    pub read : IsFolder IsOpened HasLeft CannotOpen failed IsStanding HasNames folder names contents
-        capitals
+    pub read : IsFolder IsOpened HasLeft CannotOpen failed IsStanding is_lenient HasNames folder
+        names contents capitals
     pub found : FoundFiles
     pub opened : AreOpened (take MOST_FILES names) contents found
     pub names_are : files.names ≡ found.names
     pub files_are : files.files ≡ map as_played found.files
     pub lost : List LostFile
     pub lost_are : lost ≡ all_lost explains found.left_out names capitals
-    pub told : Took HasTold before (lost_lines explains lost) after
+    pub told : Took HasTold before
+        (all_forgiven (take MOST_FILES names) contents ++ lost_lines explains lost) after
 
   -- The session was run, and the sink took its logs and, where it is asked for, the listing.
   pub record IsRunPrinted {W N : Type 0} (HasTaken : W → List ℕ → Type 0)
       (HasTold : N → List ℕ → Type 0)
       (session : Session) (printing : Printing) (old new : W) (before after : N) : Type 0 where
     pub files : FolderContents
-    pub are : AreFilesOf HasTold false (option_map (λ d. d.now) session.dir) before after files
+    pub are : AreFilesOf HasTold session.is_lenient false (option_map (λ d. d.now) session.dir) before after files
     pub printed :
         IsSessionPrinted IsOpened HasLeft HasTaken files session.until printing
         session.scripts.items old new
@@ -66,7 +71,7 @@ module _ {R : Type 0} (IsOpened : List ℕ → R → Type 0) (HasLeft : R → Li
       (session : Session) (logs : LogFolder) (listed : Bool) (old new : W)
       (before after : N) : Type 0 where
     pub files : FolderContents
-    pub are : AreFilesOf HasTold false (option_map (λ d. d.now) session.dir) before after files
+    pub are : AreFilesOf HasTold session.is_lenient false (option_map (λ d. d.now) session.dir) before after files
     pub streamed :
         IsSessionStreamed IsOpened HasLeft IsPlaced HasWritten HasTaken files session.until logs
         listed session.scripts.items old new
@@ -78,7 +83,7 @@ module _ {R : Type 0} (IsOpened : List ℕ → R → Type 0) (HasLeft : R → Li
       (CannotPlace : List ℕ → Type 0) (HasTold : N → List ℕ → Type 0) (session : Session)
       (logs : LogFolder) (before after : N) (fault : ProgramFault) : Type 0 where
     pub files : FolderContents
-    pub are : AreFilesOf HasTold false (option_map (λ d. d.now) session.dir) before after files
+    pub are : AreFilesOf HasTold session.is_lenient false (option_map (λ d. d.now) session.dir) before after files
     pub why : IsOfLogs IsOpened HasLeft IsPlaced HasWritten writer_failed takes_some CannotPlace
         files session.until logs session.scripts.items fault
 
@@ -90,7 +95,7 @@ module _ {R : Type 0} (IsOpened : List ℕ → R → Type 0) (HasLeft : R → Li
       (before after : N) : Type 0 where
     pub between : N
     pub files : FolderContents
-    pub are : AreFilesOf HasTold true (option_map (λ d. d.now) session.dir) before between files
+    pub are : AreFilesOf HasTold session.is_lenient true (option_map (λ d. d.now) session.dir) before between files
     pub explanation : Explanation
     pub explained :
         IsSessionExplained IsOpened HasLeft HasTaken files session.until printing
@@ -104,7 +109,7 @@ module _ {R : Type 0} (IsOpened : List ℕ → R → Type 0) (HasLeft : R → Li
       (session : Session) (question : CircleQuestion) (answer : CircleAnswer) (old new : W)
       (before after : N) : Type 0 where
     pub files : FolderContents
-    pub are : AreFilesOf HasTold false (option_map (λ d. d.now) session.dir) before after files
+    pub are : AreFilesOf HasTold session.is_lenient false (option_map (λ d. d.now) session.dir) before after files
     pub printed :
         IsCirclePrinted IsOpened HasLeft HasTaken files session.until session.scripts.items question
         answer old new
@@ -114,7 +119,7 @@ module _ {R : Type 0} (IsOpened : List ℕ → R → Type 0) (HasLeft : R → Li
       (HasTold : N → List ℕ → Type 0)
       (session : Session) (question : WhyQuestion) (old new : W) (before after : N) : Type 0 where
     pub files : FolderContents
-    pub are : AreFilesOf HasTold false (option_map (λ d. d.now) session.dir) before after files
+    pub are : AreFilesOf HasTold session.is_lenient false (option_map (λ d. d.now) session.dir) before after files
     pub printed :
         IsWhyPrinted IsOpened HasLeft HasTaken files session.until session.scripts.items question
         old new
@@ -123,7 +128,7 @@ module _ {R : Type 0} (IsOpened : List ℕ → R → Type 0) (HasLeft : R → Li
   pub record IsTimeless {N : Type 0} (HasTold : N → List ℕ → Type 0) (session : Session)
       (before after : N) (fault : ProgramFault) : Type 0 where
     pub files : FolderContents
-    pub are : AreFilesOf HasTold false (option_map (λ d. d.now) session.dir) before after files
+    pub are : AreFilesOf HasTold session.is_lenient false (option_map (λ d. d.now) session.dir) before after files
     pub why : IsOfTime IsOpened HasLeft files session.until session.scripts.items fault
 
   -- The session was run, and what is recorded of it was written to a path, or withheld; where it is
@@ -136,7 +141,7 @@ module _ {R : Type 0} (IsOpened : List ℕ → R → Type 0) (HasLeft : R → Li
       (before after : N) : Type 0 where
     pub between : N
     pub files : FolderContents
-    pub are : AreFilesOf HasTold explains (option_map (λ d. d.now) session.dir) before between files
+    pub are : AreFilesOf HasTold session.is_lenient explains (option_map (λ d. d.now) session.dir) before between files
     pub explanation : Explanation
     pub recorded : IsSessionRecorded IsOpened HasLeft IsBegun HasTaken IsStored files session.until
         session.scripts.items recording explanation
@@ -151,7 +156,7 @@ module _ {R : Type 0} (IsOpened : List ℕ → R → Type 0) (HasLeft : R → Li
       (session : Session) (recording : Recording) (explains : Bool) (before after : N)
       (fault : ProgramFault) : Type 0 where
     pub files : FolderContents
-    pub are : AreFilesOf HasTold explains (option_map (λ d. d.now) session.dir) before after files
+    pub are : AreFilesOf HasTold session.is_lenient explains (option_map (λ d. d.now) session.dir) before after files
     pub why :
         IsOfSharing AreOne recording.path.now session.scripts.items
         (option_map (λ d. d.now) session.dir)

@@ -1,53 +1,58 @@
 //! The files of a folder, for a run to play.
 
-ghost use Rattle.std.specs.Prelude.{◌≡◌, ◌≤◌, ◌+◌, ◌++◌, ◌∷◌, [], Some, length, take, map, string_bytes, IfOk, IfErr, OnErr};
+ghost use Rattle.std.specs.Prelude.{◌≡◌, ◌≤◌, ◌+◌, ◌++◌, ◌∷◌, true, [], Some, length, take, map, string_bytes, IfOk, IfErr, OnErr};
 ghost use Rattle.std.specs.Option.{option_map};
 ghost use Rattle.byte_io.specs.Moved.{Took};
 ghost use Rattle.script_text.specs.declared.script.TheConstants.{MOST_FILES};
 ghost use Rattle.program_tasks.specs.Explained.{are_none};
-ghost use Rattle.folder_files.specs.Contents.{bytes_read, IsContent};
 ghost use Rattle.folder_files.specs.Paths.{path_in};
 ghost use Rattle.program_tasks.specs.FolderFiles.{seen_files, seen_lost, AreOpened};
 ghost use Rattle.program_tasks.specs.Faults.{IsOfMemory, IsOfListing};
-ghost use Rattle.program_tasks.specs.Opened.{IsFolder};
+ghost use Rattle.program_tasks.specs.ForgivenFiles.{all_forgiven};
+ghost use Rattle.program_tasks.specs.Opened.{IsFolder, IsTakenAs, IsTakenAt};
 ghost use Rattle.smf_grammar.specs.Played.{as_played};
 ghost use Rattle.program_tasks.specs.LeftOut.{all_lost, lost_for, lost_line, lost_lines, lost_where};
 
+use crate::forgiven::tell_forgiven;
 use crate::left_out::{LeftOutFile, LeftOutSince, WhyLeftOut};
 use crate::names::taken_files;
 use crate::notes::Notes;
 use crate::opening::{FolderFiles, open_files};
 use crate::program_fault::{LeftOut, ProgramFault};
 use byte_io::DeviceFault;
-use file_store::{FileStore, Standing};
+use file_store::FileStore;
 use folder_files::{capital_files, content_of, midi_files, path_in};
 use memory::OutOfMemory;
 use seq_session::NamedFiles;
+use smf_files::SmfFault;
+use smf_mend::{Mended, mend_unwrapped};
 use std::alloc::Global;
 
 /// The files of a folder, as they were read.
 #[derive(Drop)]
 pub struct Folder {
-    /// The names that end in `.mid`, in byte order.
+    /// The names of its files, in byte order.
     pub names: Vec<String>,
-    /// What each of the files that a run takes holds, and of one that is no regular file or cannot be read what stands
-    /// at its path.
-    pub contents: Vec<Result<Vec<u8>, Standing>>,
-    /// The names that end in `.mid` but for capitals, in byte order.
+    /// What is taken of each of the files that a run takes, or why it cannot be.
+    pub contents: Vec<Result<Mended, WhyLeftOut>>,
+    /// The names that are none of its files for their capitals alone, in byte order.
     pub capitals: Vec<String>,
     ghost as_many: { length contents.items ≡ length (take MOST_FILES names.items) },
 }
 
 impl Folder {
-    /// Reads the files of a folder; where none is named there are no files.
+    /// Reads the files of a folder, those whose names end in `.mid`; where none is named there are no files. Where it
+    /// is lenient it takes more names, as `midi_files` says, and reads each file by the lenient grammar, as
+    /// `mend_unwrapped` does.
     pub fn read<'a, S: FileStore>(
         alloc: Global,
         store: &S,
         dir: Option<&'a str>,
+        is_lenient: bool,
     ) -> Result<Folder, ProgramFault<'a>>
         ensures read { IfOk result (λ f. IsFolder S.IsOpened S.Reader.HasLeft S.CannotOpen
-            S.Reader.failed S.IsStanding S.HasNames (option_map (λ d. d.now) dir.entry)
-            (map string_bytes f.names.items) (map bytes_read f.contents.items)
+            S.Reader.failed S.IsStanding is_lenient S.HasNames (option_map (λ d. d.now) dir.entry)
+            (map string_bytes f.names.items) f.contents.items
             (map string_bytes f.capitals.items)) }
         ensures fault { IfErr result (IsOfListing S.CannotList
             (option_map (λ d. d.now) dir.entry)) }
@@ -61,11 +66,11 @@ impl Folder {
             });
         };
         let entries = names_in(alloc, store, dir)?;
-        let capitals = capital_files(alloc, entries.as_slice())?;
-        let names = midi_files(entries)?;
+        let capitals = capital_files(alloc, entries.as_slice(), is_lenient)?;
+        let names = midi_files(entries, is_lenient)?;
         let (taken, _) = taken_files(names.as_slice());
         for name in taken {
-            contents.push(content_in(alloc, store, dir, name.as_str())?)?;
+            contents.push(taken_in(alloc, store, dir, name.as_str(), is_lenient)?)?;
         }
         Ok(Folder {
             names,
@@ -74,8 +79,9 @@ impl Folder {
         })
     }
 
-    /// Opens the files, and tells of each one that is left out: first of those that cannot be played, then of those
-    /// beyond the first 256. Where `explains` says so it tells why, and then of those whose names have capitals.
+    /// Opens the files. It tells what was forgiven of them, and then of each one that is left out: first of those that
+    /// cannot be played, then of those beyond the first 256. Where `explains` says so it tells why, and then of those
+    /// whose names have capitals.
     pub fn open<'f, N: Notes>(
         &'f self,
         alloc: Global,
@@ -84,11 +90,13 @@ impl Folder {
     ) -> Result<FolderFiles<'f>, ProgramFault<'static>>
         ensures opened { IfOk result (λ o. AreOpened
             (map string_bytes (take MOST_FILES self.now.names.items))
-            (map bytes_read self.now.contents.items) (seen_files o)) }
+            self.now.contents.items (seen_files o)) }
         ensures as_many { IfOk result (λ o. length o.names.items ≡ length o.files.items) }
         ensures few { IfOk result (λ o. length o.names.items ≤ MOST_FILES) }
         ensures told { IfOk result (λ o. Took N.HasTold notes.old
-            (lost_lines explains (all_lost explains (seen_files o).left_out
+            (all_forgiven (map string_bytes (take MOST_FILES self.now.names.items))
+            self.now.contents.items
+            ++ lost_lines explains (all_lost explains (seen_files o).left_out
             (map string_bytes self.now.names.items) (map string_bytes self.now.capitals.items)))
             notes.new) }
         ensures untold { OnErr result (notes.new ≡ notes.old) }
@@ -96,6 +104,7 @@ impl Folder {
     {
         let (taken, rest) = taken_files(self.names.as_slice());
         let opened = open_files(alloc, taken, self.contents.as_slice())?;
+        tell_forgiven(notes, taken, self.contents.as_slice());
         tell_unplayable(notes, explains, opened.left_out.as_slice());
         tell_others(notes, explains, rest, WhyLeftOut::Beyond);
         tell_capitals(notes, explains, self.capitals.as_slice());
@@ -179,18 +188,51 @@ fn names_in<'a, S: FileStore>(
     }
 }
 
-/// What the regular file with a name in a folder holds, as `content_of` says.
-fn content_in<S: FileStore>(
+/// What is taken of the regular file with a name in a folder, or why it cannot be read.
+fn taken_in<S: FileStore>(
     alloc: Global,
     store: &S,
     dir: &str,
     name: &str,
-) -> Result<Result<Vec<u8>, Standing>, OutOfMemory>
-    ensures { IfOk result (λ content. IsContent S.IsOpened S.Reader.HasLeft S.CannotOpen
-        S.Reader.failed S.IsStanding (path_in dir.now name.now) (bytes_read content)) }
+    is_lenient: bool,
+) -> Result<Result<Mended, WhyLeftOut>, OutOfMemory>
+    ensures { IfOk result (IsTakenAt S.IsOpened S.Reader.HasLeft S.CannotOpen
+        S.Reader.failed S.IsStanding is_lenient (path_in dir.now name.now)) }
 {
     let path = path_in(alloc, dir, name)?;
-    content_of(alloc, store, path.as_str())
+    match content_of(alloc, store, path.as_str())? {
+        Ok(bytes) => taken_of(alloc, bytes, is_lenient),
+        Err(there) => Ok(Err(WhyLeftOut::Unread(there))),
+    }
+}
+
+/// What is taken of these bytes: all as they are, or the strict file that is made of them by the lenient grammar.
+fn taken_of(
+    alloc: Global,
+    bytes: Vec<u8>,
+    is_lenient: bool,
+) -> Result<Result<Mended, WhyLeftOut>, OutOfMemory>
+    ensures { IfOk result (IsTakenAs is_lenient bytes.items) }
+{
+    if is_lenient {
+        return mended_of(alloc, bytes.as_slice());
+    }
+    Ok(Ok(Mended {
+        bytes,
+        running_status: None,
+        high_data: None,
+    }))
+}
+
+/// The strict file that is made of these bytes by the lenient grammar, or why there is none.
+fn mended_of(alloc: Global, bytes: &[u8]) -> Result<Result<Mended, WhyLeftOut>, OutOfMemory>
+    ensures { IfOk result (IsTakenAs true bytes.now) }
+{
+    match mend_unwrapped(alloc, bytes) {
+        Ok(mended) => Ok(Ok(mended)),
+        Err(SmfFault::OutOfMemory) => Err(OutOfMemory),
+        Err(fault) => Ok(Err(WhyLeftOut::Damaged(fault))),
+    }
 }
 
 /// The files that a run may play, with their names.

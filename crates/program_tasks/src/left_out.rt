@@ -12,7 +12,7 @@ use std::fmt;
 /// Why a run leaves out a file of its folder.
 #[derive(Clone, Copy, Debug, PartialEq, Eq)]
 pub enum WhyLeftOut {
-    /// It is no Standard MIDI File.
+    /// It is no Standard MIDI File, by the grammar that was asked for.
     Damaged(SmfFault),
     /// It could not be read, and this stands at its path.
     Unread(Standing),

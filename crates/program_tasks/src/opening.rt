@@ -1,13 +1,12 @@
 //! The files of a folder that a run can play.
 
 ghost use Rattle.std.specs.Prelude.{◌≡◌, ◌≤◌, [], length, map, string_bytes, IfOk, OnOk};
-ghost use Rattle.folder_files.specs.Contents.{bytes_read};
 ghost use Rattle.program_tasks.specs.FolderFiles.{seen_files, IsOpenedAs, AreOpened, GainsFile};
 
 use crate::left_out::{LeftOutFile, WhyLeftOut};
-use file_store::Standing;
 use memory::OutOfMemory;
 use smf_files::{SmfFault, SmfFile};
+use smf_mend::Mended;
 use std::alloc::Global;
 
 /// What a run takes of the files of a folder, and what it leaves out.
@@ -21,16 +20,16 @@ pub struct FolderFiles<'f> {
     pub left_out: Vec<LeftOutFile<'f>>,
 }
 
-/// Opens the files with these names, from what each holds, and of one that could not be read from what stands at its
-/// path. That one, and one that is no Standard MIDI File, is left out.
+/// Opens the files with these names, from what is taken of each. One of which nothing is, and one that is no Standard
+/// MIDI File, is left out.
 pub fn open_files<'f>(
     alloc: Global,
     names: &'f [String],
-    contents: &'f [Result<Vec<u8>, Standing>],
+    contents: &'f [Result<Mended, WhyLeftOut>],
 ) -> Result<FolderFiles<'f>, OutOfMemory>
     requires { length names.now ≡ length contents.now }
     ensures opened { IfOk result (λ o.
-        AreOpened (map string_bytes names.now) (map bytes_read contents.now) (seen_files o)) }
+        AreOpened (map string_bytes names.now) contents.now (seen_files o)) }
     ensures as_many { IfOk result (λ o. length o.names.items ≡ length o.files.items) }
     ensures few { IfOk result (λ o. length o.names.items ≤ length names.now) }
 {
@@ -59,9 +58,9 @@ impl<'f> FolderFiles<'f> {
         &mut self,
         alloc: Global,
         name: &'f str,
-        content: &'f Result<Vec<u8>, Standing>,
+        content: &'f Result<Mended, WhyLeftOut>,
     ) -> Result<(), OutOfMemory>
-        ensures { OnOk result (GainsFile name.now (bytes_read content.now)
+        ensures { OnOk result (GainsFile name.now content.now
             (seen_files self.old) (seen_files self.new)) }
     {
         match file_of(alloc, content)? {
@@ -75,18 +74,18 @@ impl<'f> FolderFiles<'f> {
     }
 }
 
-/// The file that bytes are, or why there is none.
+/// The file that is taken, or why there is none.
 fn file_of<'f>(
     alloc: Global,
-    content: &'f Result<Vec<u8>, Standing>,
+    content: &'f Result<Mended, WhyLeftOut>,
 ) -> Result<Result<SmfFile<'f>, WhyLeftOut>, OutOfMemory>
-    ensures { IfOk result (IsOpenedAs (bytes_read content.now)) }
+    ensures { IfOk result (IsOpenedAs content.now) }
 {
-    let bytes = match content {
-        Ok(bytes) => bytes,
-        Err(there) => return Ok(Err(WhyLeftOut::Unread(*there))),
+    let taken = match content {
+        Ok(taken) => taken,
+        Err(why) => return Ok(Err(*why)),
     };
-    match SmfFile::read(alloc, bytes.as_slice()) {
+    match SmfFile::read(alloc, taken.bytes.as_slice()) {
         Ok(file) => Ok(Ok(file)),
         Err(SmfFault::OutOfMemory) => Err(OutOfMemory),
         Err(fault) => Ok(Err(WhyLeftOut::Damaged(fault))),

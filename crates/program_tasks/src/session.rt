@@ -25,20 +25,25 @@ pub struct Session<'a> {
     pub until: u64,
     /// The folder whose Standard MIDI Files scripts may play, if one is named.
     pub dir: Option<&'a str>,
+    /// Whether these are read by the lenient grammar.
+    pub is_lenient: bool,
     /// The scripts, by client.
     pub scripts: Vec<ScriptWord<'a>>,
 }
 
 impl<'a> Session<'a> {
-    /// The session that words name: its end, its folder, and a word `CLIENT=PATH` for each script.
+    /// The session that words name: its end, its folder and how its files are read, and a word `CLIENT=PATH` for each
+    /// script.
     pub fn of_words(
         alloc: Global,
         end: EndWord<'a>,
         dir: Option<&'a str>,
+        is_lenient: bool,
         scripts: &[&'a str],
     ) -> Result<Session<'a>, ProgramFault<'a>>
         ensures until { IfOk result (λ s. Some s.until ≡ end_said end.entry) }
         ensures dir { IfOk result (λ s. s.dir ≡ dir.entry) }
+        ensures lenient { IfOk result (λ s. s.is_lenient ≡ is_lenient) }
         ensures scripts { IfOk result (λ s.
             Some (scripts_seen s.scripts.items) ≡ scripts_named (map (λ w. w.now) scripts.now)) }
         ensures rising { IfOk result (λ s. AreRising (owners s.scripts.items)) }
@@ -51,6 +56,7 @@ impl<'a> Session<'a> {
         Ok(Session {
             until,
             dir,
+            is_lenient,
             scripts,
         })
     }

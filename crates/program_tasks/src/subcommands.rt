@@ -40,7 +40,7 @@ use std::alloc::Global;
 /// Runs the scripts of a session, and prints each client's log in a form and, where asked for, the listing at the
 /// end. `progress` is told how far the run has come.
 ///
-/// Tells which files of the folder are left out.
+/// Tells what was forgiven of the files of the folder, and which are left out.
 pub fn run<'a, S: FileStore, W: Sink, N: Notes, P: Progress>(
     alloc: Global,
     store: &S,
@@ -61,7 +61,7 @@ pub fn run<'a, S: FileStore, W: Sink, N: Notes, P: Progress>(
         session.now.scripts.items e
         ⊎ IsOfOutput (IsStuck W.failed W.takes_some out.old out.new) e)) }
 {
-    let folder = Folder::read(alloc, store, session.dir)?;
+    let folder = Folder::read(alloc, store, session.dir, session.is_lenient)?;
     let opened = folder.open(alloc, false, notes)?;
     let files = named(&opened);
     print_session(alloc, store, session, &files, printing, out, progress)
@@ -70,7 +70,7 @@ pub fn run<'a, S: FileStore, W: Sink, N: Notes, P: Progress>(
 /// Runs the scripts of a session, and writes each client's log to a file while it runs, as `stream_session` does. Where
 /// `listed` says so it prints the listing at the end.
 ///
-/// Tells which files of the session's folder are left out.
+/// Tells what was forgiven of the files of the session's folder, and which are left out.
 pub fn stream<'a, S: FileStore, W: Sink, N: Notes, P: Progress>(
     alloc: Global,
     store: &S,
@@ -96,7 +96,7 @@ pub fn stream<'a, S: FileStore, W: Sink, N: Notes, P: Progress>(
         N.HasTold session.now logs.now notes.old notes.new e
         ⊎ IsOfOutput (IsStuck W.failed W.takes_some out.old out.new) e)))) }
 {
-    let folder = Folder::read(alloc, store, session.dir)?;
+    let folder = Folder::read(alloc, store, session.dir, session.is_lenient)?;
     let opened = folder.open(alloc, false, notes)?;
     let files = named(&opened);
     stream_session(alloc, store, session, &files, logs, listed, out, progress)
@@ -105,7 +105,7 @@ pub fn stream<'a, S: FileStore, W: Sink, N: Notes, P: Progress>(
 /// Runs the scripts of a session and prints its logs, as `run` does, and tells which lines did nothing, and why, which
 /// did most likely not what was meant, and which clients lost messages. It gives whether the run was complete.
 ///
-/// Tells first which files of the folder are left out, and why.
+/// Tells first what was forgiven of the files of the folder, and which are left out, and why.
 pub fn explain<'a, S: FileStore, W: Sink, N: Notes>(
     alloc: Global,
     store: &S,
@@ -125,7 +125,7 @@ pub fn explain<'a, S: FileStore, W: Sink, N: Notes>(
         session.now.scripts.items e
         ⊎ IsOfOutput (IsStuck W.failed W.takes_some out.old out.new) e)) }
 {
-    let folder = Folder::read(alloc, store, session.dir)?;
+    let folder = Folder::read(alloc, store, session.dir, session.is_lenient)?;
     let opened = folder.open(alloc, true, notes)?;
     let explanation = explain_session(alloc, store, session, &named(&opened), printing, out)?;
     explanation.tell(session, notes);
@@ -135,7 +135,7 @@ pub fn explain<'a, S: FileStore, W: Sink, N: Notes>(
 /// Prints the circles that are asked for of a session, and tells whether each is shut. Nothing is run, but where a
 /// circle is asked for in its session.
 ///
-/// Tells which files of the folder are left out.
+/// Tells what was forgiven of the files of the folder, and which are left out.
 pub fn circle<'a, S: FileStore, W: Sink, N: Notes>(
     alloc: Global,
     store: &S,
@@ -157,14 +157,14 @@ pub fn circle<'a, S: FileStore, W: Sink, N: Notes>(
         S.HasNames N.HasTold session.now notes.old notes.new e
         ⊎ IsOfOutput (IsStuck W.failed W.takes_some out.old out.new) e))) }
 {
-    let folder = Folder::read(alloc, store, session.dir)?;
+    let folder = Folder::read(alloc, store, session.dir, session.is_lenient)?;
     let opened = folder.open(alloc, false, notes)?;
     print_circle(alloc, store, session, &named(&opened), question, out)
 }
 
 /// Prints what is asked of a message that did not come, or of a line that did nothing.
 ///
-/// Tells which files of the folder are left out.
+/// Tells what was forgiven of the files of the folder, and which are left out.
 pub fn why<'a, S: FileStore, W: Sink, N: Notes>(
     alloc: Global,
     store: &S,
@@ -185,7 +185,7 @@ pub fn why<'a, S: FileStore, W: Sink, N: Notes>(
         session.now.scripts.items e
         ⊎ IsOfOutput (IsStuck W.failed W.takes_some out.old out.new) e))) }
 {
-    let folder = Folder::read(alloc, store, session.dir)?;
+    let folder = Folder::read(alloc, store, session.dir, session.is_lenient)?;
     let opened = folder.open(alloc, false, notes)?;
     print_why(alloc, store, session, &named(&opened), question, out)
 }
@@ -193,11 +193,12 @@ pub fn why<'a, S: FileStore, W: Sink, N: Notes>(
 /// Answers the lines that `input` gives, each as soon as it was read, as `live_text` does. Clients may play the files
 /// of the folder.
 ///
-/// Tells first which files of the folder are left out.
+/// Tells first what was forgiven of these, and which are left out.
 pub fn live<'a, S: FileStore, I: Source, W: Sink, N: Notes>(
     alloc: Global,
     store: &S,
     dir: Option<&'a str>,
+    is_lenient: bool,
     input: &mut I,
     out: &mut W,
     notes: &mut N,
@@ -205,17 +206,17 @@ pub fn live<'a, S: FileStore, I: Source, W: Sink, N: Notes>(
     requires input_sound { I.failed input.old ≡ false }
     requires out_sound { W.failed out.old ≡ false }
     ensures answered { OnOk result (AreLinesAnswered S.IsOpened S.Reader.HasLeft S.CannotOpen
-        S.Reader.failed S.IsStanding S.HasNames I.HasLeft W.HasTaken N.HasTold
+        S.Reader.failed S.IsStanding S.HasNames I.HasLeft W.HasTaken N.HasTold is_lenient
         (option_map (λ d. d.now) dir.entry) input.old input.new out.old out.new
         notes.old notes.new) }
     ensures fault { IfErr result (λ e.
         IsOfListing S.CannotList (option_map (λ d. d.now) dir.entry) e
         ⊎ IsAnsweringStopped S.IsOpened S.Reader.HasLeft S.CannotOpen S.Reader.failed S.IsStanding
         S.HasNames I.HasLeft I.failed W.HasTaken (IsStuck W.failed W.takes_some out.old out.new)
-        N.HasTold (option_map (λ d. d.now) dir.entry) input.old input.new out.old out.new
-        notes.old notes.new e) }
+        N.HasTold is_lenient (option_map (λ d. d.now) dir.entry) input.old input.new
+        out.old out.new notes.old notes.new e) }
 {
-    let folder = Folder::read(alloc, store, dir)?;
+    let folder = Folder::read(alloc, store, dir, is_lenient)?;
     let opened = folder.open(alloc, false, notes)?;
     match live_text(alloc, named(&opened), input, out) {
         Ok(()) => Ok(()),
@@ -227,7 +228,7 @@ pub fn live<'a, S: FileStore, I: Source, W: Sink, N: Notes>(
 /// `record_session` does. It gives whether the run was complete, and where `explains` says so it tells, as `explain`
 /// does, what it did not do, and which ports were never there.
 ///
-/// Tells first which files of the folder are left out, and where `explains` says so why.
+/// Tells first what was forgiven of the files of the folder, and which are left out, and where `explains` says so why.
 pub fn record<'a, S: FileStore, N: Notes>(
     alloc: Global,
     store: &S,
@@ -246,7 +247,7 @@ pub fn record<'a, S: FileStore, N: Notes>(
         S.HasNames S.AreOne S.IsBegun S.Writer.failed S.Writer.takes_some S.CannotBegin S.CannotStore
         N.HasTold session.now recording.now explains notes.old notes.new e) }
 {
-    let folder = Folder::read(alloc, store, session.dir)?;
+    let folder = Folder::read(alloc, store, session.dir, session.is_lenient)?;
     let opened = folder.open(alloc, explains, notes)?;
     let files = named(&opened);
     let explanation = record_session(alloc, store, session, &folder, &files, recording)?;

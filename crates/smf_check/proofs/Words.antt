@@ -1,5 +1,5 @@
 -- The paths that words name, one word after another.
-use Rattle.std.proofs.Common.{◌≡◌, ◌≢◌, ℕ, zero, suc, ◌+◌, ◌<◌, ◌≤◌, List, [], ◌∷◌, ◌++◌, ◌∙◌, map, take, drop, length, get_or, refl, ap, sym, append_assoc, append-nil, inl, inr, arith}
+use Rattle.std.proofs.Common.{◌≡◌, ◌≢◌, ℕ, Bool, zero, suc, ◌+◌, ◌<◌, ◌≤◌, List, [], ◌∷◌, ◌++◌, ◌∙◌, map, take, drop, length, get_or, refl, ap, sym, append_assoc, append-nil, inl, inr, arith}
 use Rattle.std.proofs.lemmas.List.{map_more}
 use Rattle.file_store.specs.declared.standing.Standing.{Standing}
 use Rattle.file_store.specs.declared.standing.Standing.TheVariants.{Folder}
@@ -57,33 +57,33 @@ pub first-as : (ArePaths AreToo : List (List ℕ) → Type 0) → ((paths : List
 first-as ArePaths AreToo f paths (inl none) = inl none
 first-as ArePaths AreToo f paths (inr h) = inr (h.0, f (paths ++ h.0) h.1)
 
-module _ (CannotList : List ℕ → Type 0) (HasNames : List ℕ → List (List ℕ) → Type 0) where
+module _ (is_lenient : Bool) (CannotList : List ℕ → Type 0) (HasNames : List ℕ → List (List ℕ) → Type 0) where
   -- the files of a folder that was listed
-  pub in-folder : {X : Type 0} (name_of : X → List ℕ) (folder : List ℕ) (entries : List (List ℕ)) (names : List X) → HasNames folder entries → AreMidiFiles entries (map name_of names) → (paths : List (List ℕ)) →
-      AreThese (map (λ name. path_in folder (name_of name)) names) paths → ArePathsIn CannotList HasNames folder paths
+  pub in-folder : {X : Type 0} (name_of : X → List ℕ) (folder : List ℕ) (entries : List (List ℕ)) (names : List X) → HasNames folder entries → AreMidiFiles is_lenient entries (map name_of names) → (paths : List (List ℕ)) →
+      AreThese (map (λ name. path_in folder (name_of name)) names) paths → ArePathsIn is_lenient CannotList HasNames folder paths
   in-folder name_of folder entries names listed files paths h =
       inl (record { entries = entries; listed = listed; names = map name_of names; files = files; are = h ∙ sym (map-twice (path_in folder) name_of names) })
 
-module _ (CannotList : List ℕ → Type 0) (HasNames : List ℕ → List (List ℕ) → Type 0) (IsStanding : List ℕ → Standing → Type 0) where
+module _ (is_lenient : Bool) (CannotList : List ℕ → Type 0) (HasNames : List ℕ → List (List ℕ) → Type 0) (IsStanding : List ℕ → Standing → Type 0) where
   -- what stands at a word was seen
   module _ (word : List ℕ) where
-    pub of-folder : IsStanding word Folder → (paths : List (List ℕ)) → ArePathsIn CannotList HasNames word paths → ArePathsAt CannotList HasNames IsStanding word paths
+    pub of-folder : IsStanding word Folder → (paths : List (List ℕ)) → ArePathsIn is_lenient CannotList HasNames word paths → ArePathsAt is_lenient CannotList HasNames IsStanding word paths
     of-folder seen paths h = inr (seen, h)
 
-    pub of-file : (there : Standing) → IsStanding word there → there ≢ Folder → (paths : List (List ℕ)) → AreThese (word ∷ []) paths → ArePathsAt CannotList HasNames IsStanding word paths
+    pub of-file : (there : Standing) → IsStanding word there → there ≢ Folder → (paths : List (List ℕ)) → AreThese (word ∷ []) paths → ArePathsAt is_lenient CannotList HasNames IsStanding word paths
     of-file there seen other paths h = inl (record { there = there; seen = seen; other = other }, h)
 
-  paths-more : (words : List (List ℕ)) (word : List ℕ) (xs ys : List (List ℕ)) → ArePathsOf CannotList HasNames IsStanding words xs → ArePathsAt CannotList HasNames IsStanding word ys → ArePathsOf CannotList HasNames IsStanding (words ++ word ∷ []) (xs ++ ys)
+  paths-more : (words : List (List ℕ)) (word : List ℕ) (xs ys : List (List ℕ)) → ArePathsOf is_lenient CannotList HasNames IsStanding words xs → ArePathsAt is_lenient CannotList HasNames IsStanding word ys → ArePathsOf is_lenient CannotList HasNames IsStanding (words ++ word ∷ []) (xs ++ ys)
   paths-more [] word xs ys h k = (ys, [], k, refl, ap (λ zs. zs ++ ys) h ∙ sym (append-nil ys))
   paths-more (w ∷ words) word xs ys h k = (h.0, h.1 ++ ys, h.2, paths-more words word h.1 ys h.3 k, ap (λ zs. zs ++ ys) h.4 ∙ append_assoc h.0 h.1 ys)
 
   module _ {X : Type 0} (word_of : X → List ℕ) (words : List X) (i : ℕ) (word : X) (l : i < length words) (here : word ≡ get_or words i word) where
-    pub paths-next : (xs ys : List (List ℕ)) → ArePathsOf CannotList HasNames IsStanding (map word_of (take i words)) xs → ArePathsAt CannotList HasNames IsStanding (word_of word) ys →
-        ArePathsOf CannotList HasNames IsStanding (map word_of (take (i + 1) words)) (xs ++ ys)
+    pub paths-next : (xs ys : List (List ℕ)) → ArePathsOf is_lenient CannotList HasNames IsStanding (map word_of (take i words)) xs → ArePathsAt is_lenient CannotList HasNames IsStanding (word_of word) ys →
+        ArePathsOf is_lenient CannotList HasNames IsStanding (map word_of (take (i + 1) words)) (xs ++ ys)
     paths-next xs ys h k = rw (next-at word_of words i word l here) (paths-more (map word_of (take i words)) (word_of word) xs ys h k)
 
-    pub paths-first : (xs ys : List (List ℕ)) → ArePathsOf CannotList HasNames IsStanding (map word_of (take i words)) xs → AreFirst (ArePathsAt CannotList HasNames IsStanding (word_of word)) ys →
-        AreFirstPathsOf CannotList HasNames IsStanding (map word_of words) (xs ++ ys)
+    pub paths-first : (xs ys : List (List ℕ)) → ArePathsOf is_lenient CannotList HasNames IsStanding (map word_of (take i words)) xs → AreFirst (ArePathsAt is_lenient CannotList HasNames IsStanding (word_of word)) ys →
+        AreFirstPathsOf is_lenient CannotList HasNames IsStanding (map word_of words) (xs ++ ys)
     paths-first xs ys h k = record {
       done = map word_of (take i words);
       left = word_of word ∷ map word_of (drop (i + 1) words);

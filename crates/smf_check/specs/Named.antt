@@ -1,5 +1,5 @@
 -- Definition: The files that words name.
-use Rattle.std.specs.Prelude.{◌≡◌, ◌≢◌, ◌⊎◌, ℕ, List, [], ◌∷◌, ◌++◌, map}
+use Rattle.std.specs.Prelude.{◌≡◌, ◌≢◌, ◌⊎◌, ℕ, Bool, List, [], ◌∷◌, ◌++◌, map}
 use Rattle.file_store.specs.declared.standing.Standing.{Standing}
 use Rattle.file_store.specs.declared.standing.Standing.TheVariants.{Folder}
 use Rattle.folder_files.specs.Names.{AreMidiFiles}
@@ -19,13 +19,14 @@ pub record IsNoFolder (IsStanding : List ℕ → Standing → Type 0) (word : Li
   pub seen : IsStanding word there
   pub other : there ≢ Folder
 
-module _ (CannotList : List ℕ → Type 0) (HasNames : List ℕ → List (List ℕ) → Type 0) where
-  -- The folder was listed, and these are the paths of its files that end in `.mid`, in byte order.
+module _ (is_lenient : Bool) (CannotList : List ℕ → Type 0)
+    (HasNames : List ℕ → List (List ℕ) → Type 0) where
+  -- The folder was listed, and these are the paths of its files, in byte order.
   pub record AreListed (folder : List ℕ) (paths : List (List ℕ)) : Type 0 where
     pub entries : List (List ℕ)
     pub listed : HasNames folder entries
     pub names : List (List ℕ)
-    pub files : AreMidiFiles entries names
+    pub files : AreMidiFiles is_lenient entries names
     pub are : AreThese (map (path_in folder) names) paths
 
   -- the files in a folder, or its own path where it can't be listed

@@ -21,7 +21,7 @@ use tool_text::ToolFault;
 /// Prints the verdict on each file that words name, and then how many files have which. A word that names a folder is
 /// for the files in it that end in `.mid`, in byte order. With `quiet` only those that are not whole have a line, and
 /// there is no other. Where it is lenient, each file is judged by the lenient grammar, and may stand in a RIFF
-/// container; one of which something is forgiven is whole.
+/// container; one of which something is forgiven is whole. A folder then has more files, as `midi_files` says.
 ///
 /// A file that is damaged or can't be read stops nothing. What is held in memory is the names of one folder, the bytes
 /// of one file, leniently those of the strict file made of it too, and a piece of the text.
@@ -37,13 +37,13 @@ pub fn check_files<S: FileStore, W: Sink>(
     ensures checked { IfOk result (λ answer. IsChecked
         (IsJudged is_lenient S.IsOpened S.Reader.HasLeft S.CannotOpen S.Reader.failed
         S.IsStanding)
-        (ArePathsOf S.CannotList S.HasNames S.IsStanding (map (λ w. w.now) words.now))
+        (ArePathsOf is_lenient S.CannotList S.HasNames S.IsStanding (map (λ w. w.now) words.now))
         W.HasTaken quiet answer out.old out.new) }
     ensures short { OnErr result (IsCheckedInPart
         (IsJudged is_lenient S.IsOpened S.Reader.HasLeft S.CannotOpen S.Reader.failed
         S.IsStanding)
-        (ArePathsOf S.CannotList S.HasNames S.IsStanding (map (λ w. w.now) words.now))
-        (AreFirstPathsOf S.CannotList S.HasNames S.IsStanding (map (λ w. w.now) words.now))
+        (ArePathsOf is_lenient S.CannotList S.HasNames S.IsStanding (map (λ w. w.now) words.now))
+        (AreFirstPathsOf is_lenient S.CannotList S.HasNames S.IsStanding (map (λ w. w.now) words.now))
         W.HasTaken quiet out.old out.new) }
     ensures marks { SinkMarks W.failed W.takes_some out.old out.new (blames_sink result) }
     ensures only { IfErr result IsOutput }
@@ -66,12 +66,12 @@ fn check_words<S: FileStore, W: Sink>(
     ensures checked { OnOk result (HasChecked
         (IsJudged is_lenient S.IsOpened S.Reader.HasLeft S.CannotOpen S.Reader.failed
         S.IsStanding)
-        (ArePathsOf S.CannotList S.HasNames S.IsStanding (map (λ w. w.now) words.now))
+        (ArePathsOf is_lenient S.CannotList S.HasNames S.IsStanding (map (λ w. w.now) words.now))
         W.HasTaken out.old out.new report.old report.new) }
     ensures short { OnErr result (StopsChecking
         (IsJudged is_lenient S.IsOpened S.Reader.HasLeft S.CannotOpen S.Reader.failed
         S.IsStanding)
-        (AreFirstPathsOf S.CannotList S.HasNames S.IsStanding (map (λ w. w.now) words.now))
+        (AreFirstPathsOf is_lenient S.CannotList S.HasNames S.IsStanding (map (λ w. w.now) words.now))
         W.HasTaken out.old out.new report.old) }
     ensures marks { SinkMarks W.failed W.takes_some out.old out.new (blames_sink result) }
     ensures only { IfErr result IsOutput }
@@ -95,12 +95,12 @@ fn check_word<S: FileStore, W: Sink>(
     ensures checked { OnOk result (HasChecked
         (IsJudged is_lenient S.IsOpened S.Reader.HasLeft S.CannotOpen S.Reader.failed
         S.IsStanding)
-        (ArePathsAt S.CannotList S.HasNames S.IsStanding word.now)
+        (ArePathsAt is_lenient S.CannotList S.HasNames S.IsStanding word.now)
         W.HasTaken out.old out.new report.old report.new) }
     ensures short { OnErr result (StopsChecking
         (IsJudged is_lenient S.IsOpened S.Reader.HasLeft S.CannotOpen S.Reader.failed
         S.IsStanding)
-        (AreFirst (ArePathsAt S.CannotList S.HasNames S.IsStanding word.now))
+        (AreFirst (ArePathsAt is_lenient S.CannotList S.HasNames S.IsStanding word.now))
         W.HasTaken out.old out.new report.old) }
     ensures marks { SinkMarks W.failed W.takes_some out.old out.new (blames_sink result) }
     ensures only { IfErr result IsOutput }
@@ -124,19 +124,19 @@ fn check_folder<S: FileStore, W: Sink>(
     ensures checked { OnOk result (HasChecked
         (IsJudged is_lenient S.IsOpened S.Reader.HasLeft S.CannotOpen S.Reader.failed
         S.IsStanding)
-        (ArePathsIn S.CannotList S.HasNames folder.now)
+        (ArePathsIn is_lenient S.CannotList S.HasNames folder.now)
         W.HasTaken out.old out.new report.old report.new) }
     ensures short { OnErr result (StopsChecking
         (IsJudged is_lenient S.IsOpened S.Reader.HasLeft S.CannotOpen S.Reader.failed
         S.IsStanding)
-        (AreFirst (ArePathsIn S.CannotList S.HasNames folder.now))
+        (AreFirst (ArePathsIn is_lenient S.CannotList S.HasNames folder.now))
         W.HasTaken out.old out.new report.old) }
     ensures marks { SinkMarks W.failed W.takes_some out.old out.new (blames_sink result) }
     ensures only { IfErr result IsOutput }
 {
     match store.names(alloc, folder) {
         Ok(entries) => {
-            let names = midi_files(entries)?;
+            let names = midi_files(entries, is_lenient)?;
             check_names(
                 alloc,
                 store,

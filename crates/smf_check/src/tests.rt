@@ -14,6 +14,7 @@ use tool_text::ToolFault;
 /// Paths, what stands there, and what can be read of it.
 const ENTRIES: &[(&str, Standing, &[u8])] = &[
     ("songs", Standing::Folder, b""),
+    ("songs/A.MID", Standing::File, WHOLE),
     ("songs/a.mid", Standing::File, WHOLE),
     ("songs/b.mid", Standing::File, NO_STATUS),
     ("shut", Standing::Folder, b""),
@@ -220,7 +221,8 @@ const CHECKED: &[Checked] = &[
         is_lenient: true,
         text: "soft.mid: ok, forgiven 1 running status 31\n\
             boxed.mid: ok, forgiven 1 running status 37, forgiven 2 program change 22\n\
-            songs/a.mid: ok\nsongs/b.mid: 12 NoStatus 30\nok 3 damaged 1 unread 0\n",
+            songs/A.MID: ok\nsongs/a.mid: ok\nsongs/b.mid: 12 NoStatus 30\n\
+            ok 4 damaged 1 unread 0\n",
         answer: CheckAnswer::SomeNot,
     },
     Checked {

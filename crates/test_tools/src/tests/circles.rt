@@ -208,7 +208,7 @@ fn print(
         files: FILES,
     };
     let mut notes = Counted { lines: 0 };
-    let session = Session::of_words(alloc, EndWord::Until(until), None, words)?;
+    let session = Session::of_words(alloc, EndWord::Until(until), None, false, words)?;
     let answer = circle(alloc, &store, &session, question, out, &mut notes);
     assert!(rt; notes.lines == 0);
     answer

@@ -168,30 +168,58 @@ pub(super) fn notes(alloc: Global) -> Kept {
     Kept { alloc, text }
 }
 
-/// A folder, and what is told of it: without reasons, and with them. The run is complete where nothing is told then.
+/// A folder, and what is told of it: without reasons, and with them. The run is complete where no file is told then to
+/// be left out.
 struct Told {
     entries: &'static [Entry],
     times: u32,
+    is_lenient: bool,
     plain: &'static str,
     explained: &'static str,
+    is_complete: bool,
 }
 
 /// A file whose track begins with something else.
 const NO_TRACK: &[u8] =
     b"MThd\x00\x00\x00\x06\x00\x00\x00\x01\x01\xE0MTrk\x00\x00\x00\x04\x00\xF8\x00\x00";
 
+/// A file that keeps its running status over a meta event.
+const KEPT: &[u8] = b"MThd\x00\x00\x00\x06\x00\x00\x00\x01\x01\xE0MTrk\x00\x00\x00\x0F\
+    \x00\x90\x3C\x40\x00\xFF\x01\x00\x01\x3C\x00\x00\xFF\x2F\x00";
+
+/// The same with a program change, whose data byte has bit 7 set, before its end.
+const KEPT_AND_HIGH: &[u8] = b"MThd\x00\x00\x00\x06\x00\x00\x00\x01\x01\xE0MTrk\x00\x00\x00\x12\
+    \x00\x90\x3C\x40\x00\xFF\x01\x00\x01\x3C\x00\x00\xC0\x85\x00\xFF\x2F\x00";
+
+/// `SHORT` in a container.
+const RMID: &[u8] = b"RIFF\x26\x00\x00\x00RMIDdata\x1A\x00\x00\x00\
+    MThd\x00\x00\x00\x06\x00\x00\x00\x01\x01\xE0MTrk\x00\x00\x00\x04\x00\xFF\x2F\x00";
+
+/// `NO_TRACK` in one.
+const RMID_OF_NO_TRACK: &[u8] = b"RIFF\x26\x00\x00\x00RMIDdata\x1A\x00\x00\x00\
+    MThd\x00\x00\x00\x06\x00\x00\x00\x01\x01\xE0MTrk\x00\x00\x00\x04\x00\xF8\x00\x00";
+
+/// What is told of the first of these, in the order of their names.
+const FORGIVEN: &str = "midiseq: kept.MID: forgiven 1 running status 30\n\
+    midiseq: late.mid: forgiven 1 running status 30\n\
+    midiseq: late.mid: forgiven 1 program change 33\n";
+
 const TOLD: &[Told] = &[
     Told {
         entries: &[("b.mid", Ok(SHORT)), ("b.txt", Err(Standing::Folder))],
         times: 0,
+        is_lenient: false,
         plain: "",
         explained: "",
+        is_complete: true,
     },
     Told {
         entries: &[("c.mid", Ok(b"RIFF")), ("b.mid", Ok(NO_TRACK))],
         times: 0,
+        is_lenient: false,
         plain: "midiseq: left out b.mid\nmidiseq: left out c.mid\n",
         explained: "midiseq: left out b.mid: 13 BadStatus 22\nmidiseq: left out c.mid: 1 NotMidi\n",
+        is_complete: false,
     },
     Told {
         entries: &[
@@ -202,6 +230,7 @@ const TOLD: &[Told] = &[
             ("e.mid", Err(Standing::File)),
         ],
         times: 0,
+        is_lenient: false,
         plain: "midiseq: left out a.mid\nmidiseq: left out b\\n.mid\nmidiseq: left out c.mid\n\
             midiseq: left out d.mid\nmidiseq: left out e.mid\n",
         explained: "midiseq: left out a.mid: there is no such file\n\
@@ -209,6 +238,7 @@ const TOLD: &[Told] = &[
             midiseq: left out c.mid: it is no regular file\n\
             midiseq: left out d.mid: it cannot be read\n\
             midiseq: left out e.mid: it cannot be read\n",
+        is_complete: false,
     },
     Told {
         entries: &[
@@ -218,9 +248,11 @@ const TOLD: &[Told] = &[
             ("d.MIDI", Ok(SHORT)),
         ],
         times: 0,
+        is_lenient: false,
         plain: "",
         explained: "midiseq: left out B.Mid: its name does not end in .mid\n\
             midiseq: left out b.MID: its name does not end in .mid\n",
+        is_complete: false,
     },
     Told {
         entries: &[
@@ -230,11 +262,35 @@ const TOLD: &[Told] = &[
             ("z.mid", Err(Standing::Folder)),
         ],
         times: 255,
+        is_lenient: false,
         plain: "midiseq: left out Z.mid\nmidiseq: left out y.mid\nmidiseq: left out z.mid\n",
         explained: "midiseq: left out Z.mid: it is a folder\n\
             midiseq: left out y.mid: 256 files were taken before it\n\
             midiseq: left out z.mid: 256 files were taken before it\n\
             midiseq: left out A.MID: its name does not end in .mid\n",
+        is_complete: false,
+    },
+    Told {
+        entries: &[
+            ("kept.MID", Ok(KEPT)),
+            ("rmid.rmi", Ok(RMID)),
+            ("b.midi", Ok(SHORT)),
+            ("late.mid", Ok(KEPT_AND_HIGH)),
+        ],
+        times: 0,
+        is_lenient: true,
+        plain: FORGIVEN,
+        explained: FORGIVEN,
+        is_complete: true,
+    },
+    Told {
+        entries: &[("b.mid", Ok(NO_TRACK)), ("c.rmi", Ok(RMID_OF_NO_TRACK))],
+        times: 0,
+        is_lenient: true,
+        plain: "midiseq: left out b.mid\nmidiseq: left out c.rmi\n",
+        explained: "midiseq: left out b.mid: 13 BadStatus 22\n\
+            midiseq: left out c.rmi: 13 BadStatus 22\n",
+        is_complete: false,
     },
 ];
 
@@ -245,13 +301,14 @@ fn check_told(
     folder: &Folder,
     explains: bool,
     text: &str,
+    is_complete: bool,
 ) -> Result<(), Fail> {
     let mut notes = notes(alloc);
     let Ok(opened) = folder.open(alloc, explains, &mut notes) else {
         return Err("a folder")?;
     };
     assert!(rt; notes.text.as_str() == text);
-    assert!(rt; folder.takes_all(explains, &opened) == text.is_empty());
+    assert!(rt; folder.takes_all(explains, &opened) == is_complete);
     Ok(())
 }
 
@@ -261,11 +318,12 @@ fn check_folder(rt: &impl Abort, alloc: Global, told: &Told) -> Result<(), Fail>
         entries: told.entries,
         times: told.times,
     };
-    let Ok(folder) = Folder::read(alloc, &store, Some("tunes")) else {
+    let Ok(folder) = Folder::read(alloc, &store, Some("tunes"), told.is_lenient) else {
         return Err("a folder")?;
     };
-    check_told(rt, alloc, &folder, false, told.plain)?;
-    check_told(rt, alloc, &folder, true, told.explained)
+    let complete = told.is_complete || told.plain.is_empty();
+    check_told(rt, alloc, &folder, false, told.plain, complete)?;
+    check_told(rt, alloc, &folder, true, told.explained, told.is_complete)
 }
 
 #[test]
@@ -289,7 +347,13 @@ fn answer_of(alloc: Global, told: &Told) -> Result<RunAnswer, Fail> {
         entries: told.entries,
         times: told.times,
     };
-    let Ok(session) = Session::of_words(alloc, EndWord::Until("0"), Some("tunes"), &[]) else {
+    let Ok(session) = Session::of_words(
+        alloc,
+        EndWord::Until("0"),
+        Some("tunes"),
+        told.is_lenient,
+        &[],
+    ) else {
         return Err("a session")?;
     };
     let mut out = sink(alloc)?;
@@ -308,7 +372,7 @@ fn answer_of(alloc: Global, told: &Told) -> Result<RunAnswer, Fail> {
 fn ends_with_3_where_a_file_is_left_out(rt: HostRuntime) -> Result<(), Fail> {
     for told in TOLD {
         let answer = answer_of(rt.alloc(), told)?;
-        let wanted = if told.explained.is_empty() { 0 } else { 3 };
+        let wanted = if told.is_complete { 0 } else { 3 };
         let mut notes = notes(rt.alloc());
         assert!(rt; finish(Ok(Ended::Judged(answer)), &mut notes) == wanted);
         assert!(rt; notes.text.as_str().is_empty());

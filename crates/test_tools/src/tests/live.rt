@@ -97,6 +97,7 @@ fn check(rt: &impl Abort, alloc: Global, talk: &Talk) -> Result<(), Fail> {
         alloc,
         &store,
         Some("tunes"),
+        false,
         &mut input,
         &mut out,
         &mut told,
@@ -129,7 +130,7 @@ fn printed(
         entries: &[],
         times: 0,
     };
-    live(alloc, &store, None, input, out, &mut notes(alloc))
+    live(alloc, &store, None, false, input, out, &mut notes(alloc))
 }
 
 /// To a sink that takes a byte at a time, and fails at a write, those of the writes before are printed.

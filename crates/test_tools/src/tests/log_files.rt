@@ -48,7 +48,7 @@ fn streamed(
         files: FILES,
     };
     let mut notes = Counted { lines: 0 };
-    let session = Session::of_words(alloc, EndWord::ToEnd, None, words)?;
+    let session = Session::of_words(alloc, EndWord::ToEnd, None, false, words)?;
     let logs = LogFolder {
         path,
         append: false,

@@ -13,6 +13,7 @@ use program_tasks::{
     until_named,
 };
 use smf_files::SmfFault;
+use smf_mend::Mended;
 use std::alloc::Global;
 use std::process::Abort;
 use std::test::Fail;
@@ -186,41 +187,48 @@ fn check_names(rt: &impl Abort, names: &[String], wanted: &[&str]) {
     }
 }
 
+/// Names of a folder, as they come.
+const NAMES: [&str; 14] = [
+    "b.Mid",
+    "a.mid",
+    "x.mid.txt",
+    "a.MID",
+    "é.miD",
+    "c.midi",
+    ".mid",
+    "MID",
+    "rmi",
+    "a.MIDI",
+    "d.rmi",
+    "B.mid",
+    "",
+    "b.Rmi",
+];
+
 #[test]
 fn keeps_midi_files_in_byte_order(rt: HostRuntime) -> Result<(), Fail> {
-    let names = [
-        "b.mid",
-        "a.MID",
-        "B.mid",
-        "é.mid",
-        "x.mid.txt",
-        ".mid",
-        "mid",
-        "a.mid",
+    let files = midi_files(owned(rt.alloc(), &NAMES)?, false)?;
+    check_names(&rt, files.as_slice(), &[".mid", "B.mid", "a.mid"]);
+    Ok(())
+}
+
+#[test]
+fn takes_more_names_leniently(rt: HostRuntime) -> Result<(), Fail> {
+    let files = midi_files(owned(rt.alloc(), &NAMES)?, true)?;
+    let wanted = [
+        ".mid", "B.mid", "a.MID", "a.MIDI", "a.mid", "b.Mid", "b.Rmi", "c.midi", "d.rmi", "é.miD",
     ];
-    let files = midi_files(owned(rt.alloc(), &names)?)?;
-    let wanted = [".mid", "B.mid", "a.mid", "b.mid", "é.mid"];
     check_names(&rt, files.as_slice(), &wanted);
     Ok(())
 }
 
 #[test]
 fn keeps_endings_in_capitals_apart(rt: HostRuntime) -> Result<(), Fail> {
-    let names = [
-        "b.Mid",
-        "a.mid",
-        "a.MID",
-        "é.miD",
-        ".MID",
-        "MID",
-        "a.MIDI",
-        "a.MID.txt",
-        "",
-        "é.mid",
-    ];
-    let entries = owned(rt.alloc(), &names)?;
-    let files = capital_files(rt.alloc(), entries.as_slice())?;
-    check_names(&rt, files.as_slice(), &[".MID", "a.MID", "b.Mid", "é.miD"]);
+    let entries = owned(rt.alloc(), &NAMES)?;
+    let files = capital_files(rt.alloc(), entries.as_slice(), false)?;
+    check_names(&rt, files.as_slice(), &["a.MID", "b.Mid", "é.miD"]);
+    let leniently = capital_files(rt.alloc(), entries.as_slice(), true)?;
+    check_names(&rt, leniently.as_slice(), &[]);
     Ok(())
 }
 
@@ -230,7 +238,7 @@ fn takes_256_files(rt: HostRuntime) -> Result<(), Fail> {
     for _turn in 0..256 {
         names.push("a.mid".to_string(rt.alloc())?)?;
     }
-    let files = midi_files(names)?;
+    let files = midi_files(names, false)?;
     let (taken, left_out) = taken_files(files.as_slice());
     assert!(rt; taken.len() == 256);
     assert!(rt; left_out.len() == 1);
@@ -244,16 +252,20 @@ fn takes_256_files(rt: HostRuntime) -> Result<(), Fail> {
 pub(super) const SHORT: &[u8; 26] =
     b"MThd\x00\x00\x00\x06\x00\x00\x00\x01\x01\xE0MTrk\x00\x00\x00\x04\x00\xFF\x2F\x00";
 
-/// What a file of a folder holds, and where it could not be read what stands there.
-type Content = Result<Vec<u8>, Standing>;
+/// What is taken of a file of a folder, or why nothing is.
+type Content = Result<Mended, WhyLeftOut>;
 
-/// What each file of a folder holds.
+/// What is taken of each file of a folder.
 fn contents(alloc: Global, files: &[Result<&[u8], Standing>]) -> Result<Vec<Content>, Fail> {
     let mut contents = Vec::new(alloc);
     for file in files {
         let content = match file {
-            Ok(bytes) => Ok(Vec::from_slice(alloc, bytes)?),
-            Err(there) => Err(*there),
+            Ok(bytes) => Ok(Mended {
+                bytes: Vec::from_slice(alloc, bytes)?,
+                running_status: None,
+                high_data: None,
+            }),
+            Err(there) => Err(WhyLeftOut::Unread(*there)),
         };
         contents.push(content)?;
     }

@@ -45,7 +45,7 @@ fn answered(
     };
     let words = ["128=keys.txt", "129=synth.txt"];
     let mut notes = Counted { lines: 0 };
-    let session = Session::of_words(alloc, EndWord::Until(until), None, &words)?;
+    let session = Session::of_words(alloc, EndWord::Until(until), None, false, &words)?;
     why(alloc, &store, &session, question, out, &mut notes)
 }
 

@@ -12,8 +12,8 @@ use Rattle.folder_files.proofs.names.capital_files.Goals as goal
 pub returns : goal.returns
 returns c = record {
   kept =
-      let kept : map string_bytes c.loop-name.capitals.items ≡ filter is_in_capitals (map string_bytes c.args.names.now) =
-      c.loop-name.invariant ∙ ap (λ names. filter is_in_capitals (map string_bytes names)) (take-all c.loop-name.name-index c.args.names.now c.loop-name.auto.name-index-end c.loop-name-test.false) in
+      let kept : map string_bytes c.loop-name.capitals.items ≡ filter (is_in_capitals c.args.is_lenient) (map string_bytes c.args.names.now) =
+      c.loop-name.invariant ∙ ap (λ names. filter (is_in_capitals c.args.is_lenient) (map string_bytes names)) (take-all c.loop-name.name-index c.args.names.now c.loop-name.auto.name-index-end c.loop-name-test.false) in
       rw (← kept) (IsPermutation-map string_bytes _ _ c.in_ok-sort.ensures.permutation);
   sorted = sorted-map string_bytes (slice_cmp nat_cmp) _ c.in_ok-sort.ensures.sorted;
 }

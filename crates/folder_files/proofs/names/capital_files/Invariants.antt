@@ -5,4 +5,4 @@ use Rattle.folder_files.specs.Names.{is_in_capitals}
 use Rattle.folder_files.proofs.names.capital_files.Given as goal
 
 abbrev pub invariant-loop-name : goal.invariant-loop-name
-invariant-loop-name l = map string_bytes l.capitals.items ≡ filter is_in_capitals (map string_bytes (take l.name-index l.names))
+invariant-loop-name l = map string_bytes l.capitals.items ≡ filter (is_in_capitals l.is_lenient) (map string_bytes (take l.name-index l.names))

@@ -7,7 +7,7 @@ use Rattle.program_tasks.proofs.subcommands.live.Goals as goal
 pub returns-in-Ok-clause-answered : goal.returns-in-Ok-clause-answered
 returns-in-Ok-clause-answered g c = record {
   files = c.named.result;
-  are = are_files g.N.Notes.HasTold g.S.FileStore.IsOpened g.S.Reader.Source.HasLeft g.S.FileStore.CannotOpen g.S.Reader.Source.failed g.S.FileStore.IsStanding g.S.FileStore.HasNames false _ _ _ c.in_ok-folder.folder c.in_ok-opened.opened c.named.result
+  are = are_files g.N.Notes.HasTold g.S.FileStore.IsOpened g.S.Reader.Source.HasLeft g.S.FileStore.CannotOpen g.S.Reader.Source.failed g.S.FileStore.IsStanding g.S.FileStore.HasNames _ false _ _ _ c.in_ok-folder.folder c.in_ok-opened.opened c.named.result
       c.in_ok-folder.ensures.read c.in_ok-opened.ensures.opened c.in_ok-opened.ensures.told c.named.ensures.names c.named.ensures.files;
   answered = c.in-Ok.ensures.text;
 }
@@ -15,7 +15,7 @@ returns-in-Ok-clause-answered g c = record {
 pub returns-clause-fault : goal.returns-clause-fault
 returns-clause-fault g c = inr (record {
   files = c.named.result;
-  are = are_files g.N.Notes.HasTold g.S.FileStore.IsOpened g.S.Reader.Source.HasLeft g.S.FileStore.CannotOpen g.S.Reader.Source.failed g.S.FileStore.IsStanding g.S.FileStore.HasNames false _ _ _ c.in_ok-folder.folder c.in_ok-opened.opened c.named.result
+  are = are_files g.N.Notes.HasTold g.S.FileStore.IsOpened g.S.Reader.Source.HasLeft g.S.FileStore.CannotOpen g.S.Reader.Source.failed g.S.FileStore.IsStanding g.S.FileStore.HasNames _ false _ _ _ c.in_ok-folder.folder c.in_ok-opened.opened c.named.result
       c.in_ok-folder.ensures.read c.in_ok-opened.ensures.opened c.in_ok-opened.ensures.told c.named.ensures.names c.named.ensures.files;
   short = c.in-Err.ensures.short;
   of_stream = c.in-Err.fault;

@@ -10,7 +10,7 @@ pub returns-clause-recorded : goal.returns-clause-recorded
 returns-clause-recorded g c = record {
   between = _;
   files = c.named-files.result;
-  are = are_files g.N.Notes.HasTold g.S.FileStore.IsOpened g.S.Reader.Source.HasLeft g.S.FileStore.CannotOpen g.S.Reader.Source.failed g.S.FileStore.IsStanding g.S.FileStore.HasNames c.args.explains _ _ _ c.in_ok-folder.folder c.in_ok-opened.opened c.named-files.result
+  are = are_files g.N.Notes.HasTold g.S.FileStore.IsOpened g.S.Reader.Source.HasLeft g.S.FileStore.CannotOpen g.S.Reader.Source.failed g.S.FileStore.IsStanding g.S.FileStore.HasNames _ c.args.explains _ _ _ c.in_ok-folder.folder c.in_ok-opened.opened c.named-files.result
       c.in_ok-folder.ensures.read c.in_ok-opened.ensures.opened c.in_ok-opened.ensures.told c.named-files.ensures.names c.named-files.ensures.files;
   explanation = c.in_ok-explanation.explanation;
   recorded = c.in_ok-explanation.ensures.recorded;
@@ -24,7 +24,7 @@ returns-in_err-explanation-clause-fault g c =
     err_is _ c.from_residual-in_err-explanation.result c.in_err-explanation.field-0.0 c.from_residual-in_err-explanation.ensures.1
     (inr (record {
       files = c.named-files.result;
-      are = are_files g.N.Notes.HasTold g.S.FileStore.IsOpened g.S.Reader.Source.HasLeft g.S.FileStore.CannotOpen g.S.Reader.Source.failed g.S.FileStore.IsStanding g.S.FileStore.HasNames c.args.explains _ _ _ c.in_ok-folder.folder c.in_ok-opened.opened c.named-files.result
+      are = are_files g.N.Notes.HasTold g.S.FileStore.IsOpened g.S.Reader.Source.HasLeft g.S.FileStore.CannotOpen g.S.Reader.Source.failed g.S.FileStore.IsStanding g.S.FileStore.HasNames _ c.args.explains _ _ _ c.in_ok-folder.folder c.in_ok-opened.opened c.named-files.result
           c.in_ok-folder.ensures.read c.in_ok-opened.ensures.opened c.in_ok-opened.ensures.told c.named-files.ensures.names c.named-files.ensures.files;
       why = rw (take-map string_bytes MOST_FILES c.in_ok-folder.folder.names.items) c.in_err-explanation.ensures.fault;
     }))

@@ -12,11 +12,11 @@ returns-in_err-names-in-Ok-clause-short g c = on_err c.from_residual.result (sto
 pub returns-in_ok-names-in-Ok-clause-checked : goal.returns-in_ok-names-in-Ok-clause-checked
 returns-in_ok-names-in-Ok-clause-checked g c = on_ok_weaker c.check_names.result
     (λ k. checked-as g.W.Sink.HasTaken _ _ _ _ _ _ _
-    (in-folder g.S.FileStore.CannotList g.S.FileStore.HasNames string_bytes c.args.folder.now (map string_bytes c.in-Ok.entries.items) c.in_ok-names-in-Ok.names.items c.in-Ok.ensures.listed c.in_ok-names-in-Ok.ensures)
+    (in-folder c.args.is_lenient g.S.FileStore.CannotList g.S.FileStore.HasNames string_bytes c.args.folder.now (map string_bytes c.in-Ok.entries.items) c.in_ok-names-in-Ok.names.items c.in-Ok.ensures.listed c.in_ok-names-in-Ok.ensures)
     (rw c.as_slice.ensures.value at k)) c.check_names.ensures.checked
 
 pub returns-in_ok-names-in-Ok-clause-short : goal.returns-in_ok-names-in-Ok-clause-short
 returns-in_ok-names-in-Ok-clause-short g c = on_err_weaker c.check_names.result
     (λ k. stops-as g.W.Sink.HasTaken _ _ _ _ _ _
-    (first-as _ _ (in-folder g.S.FileStore.CannotList g.S.FileStore.HasNames string_bytes c.args.folder.now (map string_bytes c.in-Ok.entries.items) c.in_ok-names-in-Ok.names.items c.in-Ok.ensures.listed c.in_ok-names-in-Ok.ensures))
+    (first-as _ _ (in-folder c.args.is_lenient g.S.FileStore.CannotList g.S.FileStore.HasNames string_bytes c.args.folder.now (map string_bytes c.in-Ok.entries.items) c.in_ok-names-in-Ok.names.items c.in-Ok.ensures.listed c.in_ok-names-in-Ok.ensures))
     (rw c.as_slice.ensures.value at k)) c.check_names.ensures.short
