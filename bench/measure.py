@@ -1,6 +1,7 @@
 """How long a program takes, for the benches."""
 import os
 import re
+import shutil
 import subprocess
 import time
 
@@ -62,3 +63,12 @@ def instructions(program, place, *words, given=os.devnull):
                         program, *map(str, words)], stdin=text, stdout=subprocess.DEVNULL, check=True)
     with open(log) as f:
         return int(re.search(r"Collected : (\d+)", f.read()).group(1))
+
+
+def joined(logs, clients, text):
+    """Writes the logs of a folder to a text as they are printed."""
+    with open(text, "wb") as out:
+        for client in clients:
+            out.write(b"client %d\n" % client)
+            with open(os.path.join(logs, "%d.log" % client), "rb") as log:
+                shutil.copyfileobj(log, out)
